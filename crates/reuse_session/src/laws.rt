@@ -67,28 +67,39 @@ use reuse_header::{
 /// pending step is stuck, at most one standing can be opened on, and no two of these three are
 /// there.
 pub fn files_open_in_one_way()
-    ensures bad { (files : Files) (path other : List ℕ) → IsFirstBad files path → IsFirstBad files other → path ≡ other }
-    ensures moved { (files : Files) (path other : List ℕ) → IsStuckAt files path → IsStuckAt files other → path ≡ other }
-    ensures opened { (files : Files) (held other : State) → CanOpenOn files held → CanOpenOn files other → held ≡ other }
+    ensures bad { (files : Files) (path other : List ℕ) → IsFirstBad files path → IsFirstBad files other
+        → path ≡ other }
+    ensures moved { (files : Files) (path other : List ℕ) → IsStuckAt files path → IsStuckAt files other
+        → path ≡ other }
+    ensures opened { (files : Files) (held other : State) → CanOpenOn files held → CanOpenOn files other
+        → held ≡ other }
     ensures bad_or_moved { (files : Files) (path other : List ℕ) → IsFirstBad files path → ¬ (IsStuckAt files other) }
-    ensures bad_or_opened { (files : Files) (path : List ℕ) (held : State) → IsFirstBad files path → ¬ (CanOpenOn files held) }
-    ensures moved_or_opened { (files : Files) (path : List ℕ) (held : State) → IsStuckAt files path → ¬ (CanOpenOn files held) }
+    ensures bad_or_opened { (files : Files) (path : List ℕ) (held : State) → IsFirstBad files path
+        → ¬ (CanOpenOn files held) }
+    ensures moved_or_opened { (files : Files) (path : List ℕ) (held : State) → IsStuckAt files path
+        → ¬ (CanOpenOn files held) }
 {}
 
 /// An entry leads from one tree to another exactly where its changes do, one after the other, and
 /// back exactly where their inverses do, one after the other in any order.
 pub fn entries_lead_in_turn()
-    ensures forth { (changes : List Change) (before after : Files) → IsEntry changes → LeadsAll changes before after ↔ LeadsInTurn changes before after }
-    ensures back { (changes others : List Change) (before after : Files) → IsEntry changes → IsPermutation changes others → LeadsBy Backward changes before after ↔ LeadsInTurn (map inverse_of others) before after }
+    ensures forth { (changes : List Change) (before after : Files) → IsEntry changes → LeadsAll changes before after
+        ↔ LeadsInTurn changes before after }
+    ensures back { (changes others : List Change) (before after : Files) → IsEntry changes
+        → IsPermutation changes others → LeadsBy Backward changes before after
+        ↔ LeadsInTurn (map inverse_of others) before after }
 {}
 
 /// A download that isn't refused puts the text of each id at `LICENSES/ID.txt`, where no file was,
 /// and changes no other path. A run that isn't refused leaves that. It isn't refused exactly where
 /// each id's text can be put, and one entry holds them all.
 pub fn downloads_put_each_text()
-    ensures accepted { (ids : List (List ℕ)) (texts : List LicenceText) (tree : Files) → ((after : Files) × (outcome_of (Download ids texts) tree ≡ Ok after)) ↔ CanDownload ids texts tree }
-    ensures made { (ids : List (List ℕ)) (texts : List LicenceText) (tree after : Files) → outcome_of (Download ids texts) tree ≡ Ok after → PutsTexts ids texts tree after }
-    ensures left { (ids : List (List ℕ)) (texts : List LicenceText) (when : ℕ) (old new : State) (reply : Response) → Runs (Download ids texts) when old (Ok reply) new
+    ensures accepted { (ids : List (List ℕ)) (texts : List LicenceText) (tree : Files)
+        → ((after : Files) × (outcome_of (Download ids texts) tree ≡ Ok after)) ↔ CanDownload ids texts tree }
+    ensures made { (ids : List (List ℕ)) (texts : List LicenceText) (tree after : Files)
+        → outcome_of (Download ids texts) tree ≡ Ok after → PutsTexts ids texts tree after }
+    ensures left { (ids : List (List ℕ)) (texts : List LicenceText) (when : ℕ) (old new : State) (reply : Response)
+        → Runs (Download ids texts) when old (Ok reply) new
         → PutsTexts ids texts old.tree new.tree }
 {}
 
@@ -102,15 +113,19 @@ pub fn downloads_put_each_text()
 /// own styles are good, the root is given only where folders are gone through, each path that is
 /// gone through can be annotated by itself, and one entry holds them all.
 pub fn annotations_change_chosen_places_alone()
-    ensures accepted { (places : List Place) (additions : Additions) (how : How) (scope : Scope) (tree : Files) → ((after : Files) × (outcome_of (Annotate places additions how scope) tree ≡ Ok after))
+    ensures accepted { (places : List Place) (additions : Additions) (how : How) (scope : Scope) (tree : Files)
+        → ((after : Files) × (outcome_of (Annotate places additions how scope) tree ≡ Ok after))
         ↔ CanAnnotate places additions how scope tree }
-    ensures made { (places : List Place) (additions : Additions) (how : How) (scope : Scope) (tree after : Files) → outcome_of (Annotate places additions how scope) tree ≡ Ok after
+    ensures made { (places : List Place) (additions : Additions) (how : How) (scope : Scope) (tree after : Files)
+        → outcome_of (Annotate places additions how scope) tree ≡ Ok after
         → Annotates places additions how scope tree after }
-    ensures one { (places : List Place) (additions : Additions) (how : How) (scope : Scope) (before after other : Files) → Annotates places additions how scope before after
+    ensures one { (places : List Place) (additions : Additions) (how : How) (scope : Scope) (before after other : Files)
+        → Annotates places additions how scope before after
         → Annotates places additions how scope before other → after ≡ other }
     ensures left { (places : List Place) (additions : Additions) (how : How) (scope : Scope) (when : ℕ) (old new : State) (reply : Response) → Runs (Annotate places additions how scope) when old (Ok reply) new
         → Annotates places additions how scope old.tree new.tree }
-    ensures texts { (places : List Place) (additions : Additions) (how : How) (scope : Scope) (before after : Files) → Annotates places additions how scope before after
+    ensures texts { (places : List Place) (additions : Additions) (how : How) (scope : Scope) (before after : Files)
+        → Annotates places additions how scope before after
         → ArePlain additions → AreUtf8 additions → (path : List ℕ) → StaysOrIsText before after path }
 {
     annotating_keeps_other_bytes();
@@ -128,12 +143,16 @@ pub fn annotations_change_chosen_places_alone()
 /// where folders are gone through, each path that is gone through can be amended by itself, and one
 /// entry holds them all.
 pub fn amendments_change_selected_places_alone()
-    ensures accepted { (places : List Place) (amendments : Amendments) (scope : Scope) (tree : Files) → ((after : Files) × (outcome_of (Amend places amendments scope) tree ≡ Ok after))
+    ensures accepted { (places : List Place) (amendments : Amendments) (scope : Scope) (tree : Files)
+        → ((after : Files) × (outcome_of (Amend places amendments scope) tree ≡ Ok after))
         ↔ CanAmend places amendments scope tree }
-    ensures made { (places : List Place) (amendments : Amendments) (scope : Scope) (tree after : Files) → outcome_of (Amend places amendments scope) tree ≡ Ok after → Amends places amendments scope tree after }
-    ensures one { (places : List Place) (amendments : Amendments) (scope : Scope) (before after other : Files) → Amends places amendments scope before after
+    ensures made { (places : List Place) (amendments : Amendments) (scope : Scope) (tree after : Files)
+        → outcome_of (Amend places amendments scope) tree ≡ Ok after → Amends places amendments scope tree after }
+    ensures one { (places : List Place) (amendments : Amendments) (scope : Scope) (before after other : Files)
+        → Amends places amendments scope before after
         → Amends places amendments scope before other → after ≡ other }
-    ensures files { (places : List Place) (amendments : Amendments) (scope : Scope) (before after : Files) → Amends places amendments scope before after → HaveSamePaths before after }
+    ensures files { (places : List Place) (amendments : Amendments) (scope : Scope) (before after : Files)
+        → Amends places amendments scope before after → HaveSamePaths before after }
     ensures left { (places : List Place) (amendments : Amendments) (scope : Scope) (when : ℕ) (old new : State) (reply : Response) → Runs (Amend places amendments scope) when old (Ok reply) new
         → Amends places amendments scope old.tree new.tree }
 {
@@ -147,14 +166,16 @@ pub fn amendments_change_selected_places_alone()
 pub fn conversions_put_a_table()
     ensures accepted { (tree : Files) → ((after : Files) × (outcome_of ConvertDep5 tree ≡ Ok after)) ↔ CanConvert tree }
     ensures made { (tree after : Files) → outcome_of ConvertDep5 tree ≡ Ok after → PutsTable tree after }
-    ensures left { (when : ℕ) (old new : State) (reply : Response) → Runs ConvertDep5 when old (Ok reply) new → PutsTable old.tree new.tree }
+    ensures left { (when : ℕ) (old new : State) (reply : Response) → Runs ConvertDep5 when old (Ok reply) new
+        → PutsTable old.tree new.tree }
 {}
 
 /// What an edit of a command tells beside the file that it leaves, and by which an entry has its
 /// size: a file comes that is what is written, or one goes that is what is removed, or between
 /// bytes that stay what is removed gives way to what is written.
 pub fn edits_tell_what_they_take_and_write()
-    ensures told { (command : Command) (tree : Files) (edits : List Edit) → edits_of command tree ≡ Ok edits → All (TakesAndWrites tree) edits }
+    ensures told { (command : Command) (tree : Files) (edits : List Edit) → edits_of command tree ≡ Ok edits
+        → All (TakesAndWrites tree) edits }
 {}
 
 /// A tree with nothing under `.reuse/undo/` holds the state of the machine without earlier and
@@ -167,7 +188,8 @@ pub fn trees_without_a_journal_hold_no_steps()
 
 /// The changed paths of two trees are those at which they differ, in byte order and none twice.
 pub fn changed_paths_are_where_trees_differ()
-    ensures paths { (before after : Files) (path : List ℕ) → Contains (changed_paths before after) path ↔ (get before path ≢ get after path) }
+    ensures paths { (before after : Files) (path : List ℕ) → Contains (changed_paths before after) path
+        ↔ (get before path ≢ get after path) }
     ensures ascend { (before after : Files) → IsStrictlySortedBy (slice_cmp nat_cmp) (changed_paths before after) }
 {}
 
@@ -179,7 +201,8 @@ pub fn seals_tell_of_whole_files()
     ensures told { (command : Command) (when : ℕ) (first second : State) (run : IsRun command when first second) (direction : Direction) (now : Files) → All (CanBeMade direction now) run.step.changes
         → All (IsAsLeft direction (tree_for direction first second) now) run.step.changes }
     ensures exact { (command : Command) (when : ℕ) (first second : State) (run : IsRun command when first second) (direction : Direction) (now : Files) → All (IsToldApart (tree_for direction first second) now) run.step.changes
-        → All (CanBeMade direction now) run.step.changes ↔ All (IsUntouched direction (tree_for direction first second) now) run.step.changes }
+        → All (CanBeMade direction now) run.step.changes
+        ↔ All (IsUntouched direction (tree_for direction first second) now) run.step.changes }
 {}
 
 /// Where folders are gone through, a path is worked exactly where it is given and no folder, or is
@@ -190,16 +213,23 @@ pub fn seals_tell_of_whole_files()
 /// root like a covered file.
 pub fn selected_paths_are_asked_for()
     ensures asked { (scope : Scope) (places : List Place) (tree : Files) (path : List ℕ) → scope.recursive ≡ true
-        → Contains (selected_paths scope places tree) path ↔ (IsNamed places tree path ⊎ (StandsBeneath places tree path × IsAskedFor scope path)) }
+        → Contains (selected_paths scope places tree) path
+        ↔ (IsNamed places tree path ⊎ (StandsBeneath places tree path × IsAskedFor scope path)) }
     ensures given { (scope : Scope) (places : List Place) (tree : Files) (path : List ℕ) → scope.recursive ≡ false
         → Contains (selected_paths scope places tree) path ↔ Contains (paths_among places) path }
-    ensures ascend { (scope : Scope) (places : List Place) (tree : Files) → IsStrictlySortedBy (slice_cmp nat_cmp) (selected_paths scope places tree) }
-    ensures all { (scope : Scope) (path : List ℕ) → scope.listed ≡ None → scope.excluded ≡ [] → is_chosen scope path ≡ is_covered path }
-    ensures amended { (scope : Scope) (places : List Place) (tree : Files) (path : List ℕ) → AreFiles tree → scope.recursive ≡ true
-        → Contains (amended_paths scope places tree) path ↔ (IsNamed places tree path ⊎ (StandsBeneath places tree path × IsAskedToAmend scope path)) }
-    ensures amended_given { (scope : Scope) (places : List Place) (tree : Files) (path : List ℕ) → scope.recursive ≡ false
+    ensures ascend { (scope : Scope) (places : List Place) (tree : Files)
+        → IsStrictlySortedBy (slice_cmp nat_cmp) (selected_paths scope places tree) }
+    ensures all { (scope : Scope) (path : List ℕ) → scope.listed ≡ None → scope.excluded ≡ []
+        → is_chosen scope path ≡ is_covered path }
+    ensures amended { (scope : Scope) (places : List Place) (tree : Files) (path : List ℕ) → AreFiles tree
+        → scope.recursive ≡ true
+        → Contains (amended_paths scope places tree) path
+        ↔ (IsNamed places tree path ⊎ (StandsBeneath places tree path × IsAskedToAmend scope path)) }
+    ensures amended_given { (scope : Scope) (places : List Place) (tree : Files) (path : List ℕ)
+        → scope.recursive ≡ false
         → Contains (amended_paths scope places tree) path ↔ Contains (paths_among places) path }
-    ensures amended_ascend { (scope : Scope) (places : List Place) (tree : Files) → IsStrictlySortedBy (slice_cmp nat_cmp) (amended_paths scope places tree) }
+    ensures amended_ascend { (scope : Scope) (places : List Place) (tree : Files)
+        → IsStrictlySortedBy (slice_cmp nat_cmp) (amended_paths scope places tree) }
 {}
 
 /// A revert of a sealed step that is the last leads back to the tree before it, as its undo does,
@@ -211,30 +241,42 @@ pub fn selected_paths_are_asked_for()
 /// gives way to what was there before, whatever is below it, where that didn't begin with what was
 /// written. And bytes that a step took away come back once.
 pub fn reverts_take_steps_back()
-    ensures undo { (changes : List Change) (skip_moved : Bool) (before after : Files) → IsEntry changes → AreAllSealed true changes → AreFiles before → LeadsAll changes before after
+    ensures undo { (changes : List Change) (skip_moved : Bool) (before after : Files) → IsEntry changes
+        → AreAllSealed true changes → AreFiles before → LeadsAll changes before after
         → outcome_of (Revert changes [] skip_moved) after ≡ Ok before }
     ensures left { (changes : List Change) (skip_moved : Bool) (before : Files) (when : ℕ) (old new : State) (reply : Response) → IsEntry changes → AreAllSealed true changes → AreFiles before
-        → LeadsAll changes before old.tree → Runs (Revert changes [] skip_moved) when old (Ok reply) new → new.tree ≡ before }
+        → LeadsAll changes before old.tree → Runs (Revert changes [] skip_moved) when old (Ok reply) new
+        → new.tree ≡ before }
     ensures returned { (changes : List Change) (touched : List (List ℕ)) (skip_moved : Bool) (before after now reverted : Files) (path : List ℕ) → IsEntry changes → LeadsAll changes before after
-        → outcome_of (Revert changes touched skip_moved) now ≡ Ok reverted → (skip_moved ≡ false) ⊎ (¬ (Clashes now path) × (is_among touched path ≡ false))
+        → outcome_of (Revert changes touched skip_moved) now ≡ Ok reverted → (skip_moved ≡ false)
+        ⊎ (¬ (Clashes now path) × (is_among touched path ≡ false))
         → get now path ≡ get after path → get reverted path ≡ get before path }
     ensures later { (changes : List Change) (touched : List (List ℕ)) (skip_moved : Bool) (now reverted : Files) (path : List ℕ) → is_among touched path ≡ true
         → outcome_of (Revert changes touched skip_moved) now ≡ Ok reverted → get reverted path ≡ get now path }
-    ensures unskipped { (changes : List Change) (touched : List (List ℕ)) (now reverted : Files) (path : List ℕ) → touches changes path ≡ true → is_among touched path ≡ true
+    ensures unskipped { (changes : List Change) (touched : List (List ℕ)) (now reverted : Files) (path : List ℕ)
+        → touches changes path ≡ true → is_among touched path ≡ true
         → outcome_of (Revert changes touched false) now ≢ Ok reverted }
-    ensures below { (path front old new behind : List ℕ) (rest : ℕ) (seal : Option Seal) → starts_with nat_eq old new ≡ false → length (front ++ new ++ behind) ≤ LONGEST_FILE → length (front ++ old ++ behind) ≤ LONGEST_FILE
+    ensures below { (path front old new behind : List ℕ) (rest : ℕ) (seal : Option Seal)
+        → starts_with nat_eq old new ≡ false → length (front ++ new ++ behind) ≤ LONGEST_FILE
+        → length (front ++ old ++ behind) ≤ LONGEST_FILE
         → taken_back (Splice path (length front) old new rest seal) (Some (front ++ new ++ behind)) ≡ Some (record { path = path; removed = new; written = old; file = Some (front ++ old ++ behind) }) }
-    ensures once { (path old new file : List ℕ) (at rest : ℕ) (seal : Option Seal) (edit : Edit) → starts_with nat_eq old new ≡ true → old ≢ new
-        → taken_back (Splice path at old new rest seal) (Some file) ≡ Some edit → taken_back (Splice path at old new rest seal) edit.file ≡ None }
+    ensures once { (path old new file : List ℕ) (at rest : ℕ) (seal : Option Seal) (edit : Edit)
+        → starts_with nat_eq old new ≡ true → old ≢ new
+        → taken_back (Splice path at old new rest seal) (Some file) ≡ Some edit
+        → taken_back (Splice path at old new rest seal) edit.file ≡ None }
 {}
 
 /// The outcome of a command follows the outcomes of its paths: it is refused exactly by the first
 /// refusal among them, and where there is none it is a tree, which differs from the tree that was
 /// there exactly at the paths that change.
 pub fn outcome_follows_path_outcomes()
-    ensures refused { (command : Command) (tree : Files) (refusal : Refusal) → (outcome_of command tree ≡ Err refusal) ↔ (first_refusal (path_outcomes_of command tree) ≡ Some refusal) }
-    ensures accepted { (command : Command) (tree : Files) → (first_refusal (path_outcomes_of command tree) ≡ None) ↔ ((after : Files) × (outcome_of command tree ≡ Ok after)) }
-    ensures changed { (command : Command) (tree after : Files) (path : List ℕ) → HoldsEntry command → outcome_of command tree ≡ Ok after → Contains (path_outcomes_of command tree) (Changes path) ↔ (get tree path ≢ get after path) }
+    ensures refused { (command : Command) (tree : Files) (refusal : Refusal) → (outcome_of command tree ≡ Err refusal)
+        ↔ (first_refusal (path_outcomes_of command tree) ≡ Some refusal) }
+    ensures accepted { (command : Command) (tree : Files) → (first_refusal (path_outcomes_of command tree) ≡ None)
+        ↔ ((after : Files) × (outcome_of command tree ≡ Ok after)) }
+    ensures changed { (command : Command) (tree after : Files) (path : List ℕ) → HoldsEntry command
+        → outcome_of command tree ≡ Ok after → Contains (path_outcomes_of command tree) (Changes path)
+        ↔ (get tree path ≢ get after path) }
 {}
 
 /// The path outcomes of an annotation, in the words of what it makes of a tree. A path that is told
@@ -243,13 +285,16 @@ pub fn outcome_follows_path_outcomes()
 /// held then, and so does its neighbour. `own` are the kinds that the tree gives to its own names.
 pub fn annotations_follow_path_outcomes()
     ensures skipped { (places : List Place) (additions : Additions) (how : How) (scope : Scope) (own : OwnNames) (tree : Files) (path : List ℕ) → styles_in tree ≡ Ok own
-        → Contains (path_outcomes_of (Annotate places additions how scope) tree) (Skipped path) → Contains (selected_paths scope places tree) path × IsSkippedAt scope own tree path }
+        → Contains (path_outcomes_of (Annotate places additions how scope) tree) (Skipped path)
+        → Contains (selected_paths scope places tree) path × IsSkippedAt scope own tree path }
     ensures told { (places : List Place) (additions : Additions) (how : How) (scope : Scope) (own : OwnNames) (tree after : Files) (path : List ℕ) → styles_in tree ≡ Ok own
-        → outcome_of (Annotate places additions how scope) tree ≡ Ok after → Contains (selected_paths scope places tree) path → IsSkippedAt scope own tree path
+        → outcome_of (Annotate places additions how scope) tree ≡ Ok after
+        → Contains (selected_paths scope places tree) path → IsSkippedAt scope own tree path
         → Contains (path_outcomes_of (Annotate places additions how scope) tree) (Skipped path) }
     ensures stays { (places : List Place) (additions : Additions) (how : How) (scope : Scope) (own : OwnNames) (tree after : Files) (path : List ℕ) → styles_in tree ≡ Ok own
         → outcome_of (Annotate places additions how scope) tree ≡ Ok after
-        → Contains (path_outcomes_of (Annotate places additions how scope) tree) (Unchanged path) ⊎ Contains (path_outcomes_of (Annotate places additions how scope) tree) (Skipped path)
+        → Contains (path_outcomes_of (Annotate places additions how scope) tree) (Unchanged path)
+        ⊎ Contains (path_outcomes_of (Annotate places additions how scope) tree) (Skipped path)
         → pair_at after path ≡ pair_at tree path }
 {
     annotating_keeps_other_bytes();
@@ -262,10 +307,14 @@ pub fn annotations_follow_path_outcomes()
 /// among them, and goes through where there is none.
 pub fn steps_follow_path_outcomes()
     ensures refused { (direction : Direction) (tree : Files) (changes : List Change) (path_outcomes : List PathOutcome) (refusal : Refusal) → ArePathOutcomesOf direction tree changes path_outcomes
-        → (first_refusal path_outcomes ≡ Some refusal) ↔ ((path : List ℕ) × (refusal ≡ Moved path) × IsFirstStuck direction tree changes path) }
-    ensures accepted { (direction : Direction) (tree : Files) (changes : List Change) (path_outcomes : List PathOutcome) → ArePathOutcomesOf direction tree changes path_outcomes → (first_refusal path_outcomes ≡ None) ↔ All (CanBeMade direction tree) changes }
+        → (first_refusal path_outcomes ≡ Some refusal)
+        ↔ ((path : List ℕ) × (refusal ≡ Moved path) × IsFirstStuck direction tree changes path) }
+    ensures accepted { (direction : Direction) (tree : Files) (changes : List Change) (path_outcomes : List PathOutcome)
+        → ArePathOutcomesOf direction tree changes path_outcomes → (first_refusal path_outcomes ≡ None)
+        ↔ All (CanBeMade direction tree) changes }
     ensures preview_of { (direction : Direction) (steps : List Recorded) (old new : State) (path_outcomes : List PathOutcome) (result : Result Response Refusal) (refusal : Refusal) → PreviewsReplay direction steps old.tree (Ok path_outcomes)
-        → Replays direction steps old result new → (result ≡ Err refusal) ↔ (first_refusal path_outcomes ≡ Some refusal) }
+        → Replays direction steps old result new → (result ≡ Err refusal)
+        ↔ (first_refusal path_outcomes ≡ Some refusal) }
 {}
 
 /// To a request that names no step by its number the model gives one answer, and is in one state

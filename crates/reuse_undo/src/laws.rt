@@ -11,6 +11,8 @@ use reuse_tree::Store;
 /// may the rollback with which the next one begins. Then what they tell is a run of the model with
 /// stops, and the files are left where that run is.
 pub fn lines_run_as_the_model<S: Store, O: Sink>()
-    ensures stops { (lines : List (CarriedLine S O)) (first last : S) (start : Point) → AreInTurn (HoldsSame S.Store) S.Store O.contents O.failed first lines last
-        → AreLeft (S.files first) start.state start.next → (end : Point) × RunAsModel O.contents lines start end × AreLeft (S.files last) end.state end.next }
+    ensures stops { (lines : List (CarriedLine S O)) (first last : S) (start : Point)
+        → AreInTurn (HoldsSame S.Store) S.Store O.contents O.failed first lines last
+        → AreLeft (S.files first) start.state start.next → (end : Point) × RunAsModel O.contents lines start end
+        × AreLeft (S.files last) end.state end.next }
 {}

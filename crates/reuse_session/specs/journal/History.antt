@@ -25,7 +25,8 @@ head_listing memory pending = record {
 
 -- the row of an entry
 abbrev pub row_listing : Bool → ListedEntry → Row
-row_listing done entry = row_of (record { number = entry.number; when = entry.when; command = entry.command }) entry.count done
+row_listing done entry =
+    row_of (record { number = entry.number; when = entry.when; command = entry.command }) entry.count done
 
 -- the rows of a log
 abbrev pub rows_listing : Memory → List Row
@@ -46,5 +47,7 @@ entries_ahead Forward memory = memory.undone
 
 -- what is remembered after the last of them, given those before it
 abbrev pub remember_moved : Direction → List ListedEntry → ListedEntry → Memory → Memory
-remember_moved Backward front entry memory = record { done = front; undone = memory.undone ++ entry ∷ []; used = memory.used }
-remember_moved Forward front entry memory = record { done = memory.done ++ entry ∷ []; undone = front; used = memory.used }
+remember_moved Backward front entry memory =
+    record { done = front; undone = memory.undone ++ entry ∷ []; used = memory.used }
+remember_moved Forward front entry memory =
+    record { done = memory.done ++ entry ∷ []; undone = front; used = memory.used }

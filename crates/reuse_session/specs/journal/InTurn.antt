@@ -7,4 +7,5 @@ use Rattle.reuse_tree.specs.declared.change.Change.{Change}
 -- each change leads on from the tree to which the changes before it lead
 abbrev pub LeadsInTurn : List Change → Files → Files → Type 0
 LeadsInTurn [] before after = after ≡ before
-LeadsInTurn (change ∷ changes) before after = (between : Files) × Leads change before between × LeadsInTurn changes between after
+LeadsInTurn (change ∷ changes) before after =
+    (between : Files) × Leads change before between × LeadsInTurn changes between after

@@ -31,9 +31,11 @@ pub record State : Type 0 where
 
 -- Each change of the step can be made this way, and they are made. Or the first that can't be names the refusal, and
 -- nothing changes.
-abbrev pub GoesOneStep : Direction → Recorded → (List (List ℕ) → Response) → Journal → State → Result Response Refusal → State → Type 0
+abbrev pub GoesOneStep : Direction → Recorded → (List (List ℕ) → Response) → Journal → State → Result Response Refusal
+    → State → Type 0
 GoesOneStep direction step reply moved old (Ok given) new =
-    (given ≡ reply (paths_of step.changes)) × All (CanBeMade direction old.tree) step.changes × LeadsBy direction step.changes old.tree new.tree × (new.journal ≡ moved)
+    (given ≡ reply (paths_of step.changes)) × All (CanBeMade direction old.tree) step.changes
+    × LeadsBy direction step.changes old.tree new.tree × (new.journal ≡ moved)
 GoesOneStep direction step reply moved old (Err refusal) new =
     ((path : List ℕ) × (refusal ≡ Moved path) × IsFirstStuck direction old.tree step.changes path) × (new ≡ old)
 
@@ -69,7 +71,8 @@ end_of direction.Forward = NothingToRedo
 -- what a call answers and leaves that goes one step this way
 abbrev pub Replays : Direction → List Recorded → State → Result Response Refusal → State → Type 0
 Replays direction [] old result new = (result ≡ Err (end_of direction)) × (new ≡ old)
-Replays direction (step ∷ steps) old result new = GoesOneStep direction step (reply_of direction) (moved_on direction step steps old.journal) old result new
+Replays direction (step ∷ steps) old result new =
+    GoesOneStep direction step (reply_of direction) (moved_on direction step steps old.journal) old result new
 
 -- what undo answers and leaves: the last step done is taken back, and is the next to be redone
 abbrev pub Undoes : List Recorded → State → Result Response Refusal → State → Type 0

@@ -30,11 +30,13 @@ entry_path number = codes ".reuse/undo/" ++ six_digits number ++ codes ".json"
 
 -- the path of a file of the journal: the head, or an entry by a number that is given out
 abbrev pub IsJournalPath : List ℕ → Type 0
-IsJournalPath path = (path ≡ head_path) ⊎ ((number : ℕ) × (0 < number) × (number ≤ 999_999) × (path ≡ entry_path number))
+IsJournalPath path =
+    (path ≡ head_path) ⊎ ((number : ℕ) × (0 < number) × (number ≤ 999_999) × (path ≡ entry_path number))
 
 -- no path of a file of the journal is a folder
 abbrev pub IsFree : Files → Type 0
-IsFree folder = (path other : List ℕ) → IsJournalPath path → IsSome (get folder other) → ¬ (IsTrue (lies_under other path))
+IsFree folder =
+    (path other : List ℕ) → IsJournalPath path → IsSome (get folder other) → ¬ (IsTrue (lies_under other path))
 
 -- ---- what they say
 
@@ -64,7 +66,8 @@ number_of step = step.label.number
 abbrev pub IsKeptIn : Files → Recorded → Type 0
 IsKeptIn folder step = EntrySays (get folder (entry_path (number_of step))) (entry_in step)
 
--- the head that lists the steps of a journal, and tells what is pending; it lists the undone ones the next to be redone last
+-- the head that lists the steps of a journal, and tells what is pending; it lists the undone ones the next to be redone
+-- last
 abbrev pub head_of : Journal → Option Pending → Head
 head_of journal pending = record { done = map number_of (reverse journal.done); undone = map number_of (reverse journal.undone); next = journal.used + 1; pending = pending }
 

@@ -25,35 +25,41 @@ use Rattle.reuse_session.specs.session.Session.{store_of, StandsOn}
 use Rattle.reuse_session.specs.declared.session.Session.{Session}
 use Rattle.reuse_session.specs.journal.Standing.{IsStanding, IsStep, IsUnderWay, InDoubt}
 
--- What is left has the tree of the standing. It is the standing; or a step from it is pending, of which nothing is made; or the step that
--- led to it is pending, all of which is made.
+-- What is left has the tree of the standing. It is the standing; or a step from it is pending, of which nothing is
+-- made; or the step that led to it is pending, all of which is made.
 pub record IsSafeOn (earlier held : State) (left : Files) : Type 0 where
   pub tree : tree_of left ≡ held.tree
   pub opens :
       IsStanding left held
-      ⊎ ((next : State) × (direction : PendingDirection) × (step : Recorded) × IsStep direction step held next × IsUnderWay direction step held left)
-      ⊎ ((direction : PendingDirection) × (step : Recorded) × IsStep direction step earlier held × IsUnderWay direction step earlier left)
+      ⊎ ((next : State) × (direction : PendingDirection) × (step : Recorded) × IsStep direction step held next
+      × IsUnderWay direction step held left)
+      ⊎ ((direction : PendingDirection) × (step : Recorded) × IsStep direction step earlier held
+      × IsUnderWay direction step earlier left)
 
 -- all that a loss of power may leave is safe on the standing
 abbrev pub AreSafeOn : {S : Type 0} → Ghosts S → State → State → S → Type 0
 AreSafeOn store earlier held new = Leaves store new (IsSafeOn earlier held)
 
--- The files are in doubt between the standing and the next, and so is all that a loss of power may leave: each is safe on the standing
--- that the files are; or the step between the two is under way in the files, and each is safe on the first, or in doubt between the two.
+-- The files are in doubt between the standing and the next, and so is all that a loss of power may leave: each is safe
+-- on the standing that the files are; or the step between the two is under way in the files, and each is safe on the
+-- first, or in doubt between the two.
 abbrev pub AreInDoubt : {S : Type 0} → Ghosts S → (earlier held next : State) → S → Type 0
 AreInDoubt store earlier held next new =
     (IsStanding (store.files new) held × AreSafeOn store earlier held new)
     ⊎ (IsStanding (store.files new) next × AreSafeOn store held next new)
-    ⊎ ((direction : PendingDirection) × (step : Recorded) × IsStep direction step held next × IsUnderWay direction step held (store.files new)
+    ⊎ ((direction : PendingDirection) × (step : Recorded) × IsStep direction step held next
+    × IsUnderWay direction step held (store.files new)
     × Leaves store new (λ left. IsSafeOn earlier held left ⊎ InDoubt held next left))
 
--- What a loss of power may leave after a call of a session that stood on the standing: behind a step what is there; where a step was
--- stopped, the files are in doubt between the standing and such a next one, and so is all that may be left; and else it is safe on the
--- standing, as it was before.
-abbrev pub Survives : {S : Type 0} → Ghosts S → (State → Type 0) → (earlier held : State) → Result Response Refusal → S → Type 0
+-- What a loss of power may leave after a call of a session that stood on the standing: behind a step what is there;
+-- where a step was stopped, the files are in doubt between the standing and such a next one, and so is all that may be
+-- left; and else it is safe on the standing, as it was before.
+abbrev pub Survives : {S : Type 0} → Ghosts S → (State → Type 0) → (earlier held : State) → Result Response Refusal → S
+    → Type 0
 Survives store IsNext earlier held (Ok NothingChanged) new = AreSafeOn store earlier held new
 Survives store IsNext earlier held (Ok reply) new = IsSynced store new
-Survives store IsNext earlier held (Err (Failed (Interrupted cause))) new = (next : State) × IsNext next × AreInDoubt store earlier held next new
+Survives store IsNext earlier held (Err (Failed (Interrupted cause))) new =
+    (next : State) × IsNext next × AreInDoubt store earlier held next new
 Survives store IsNext earlier held (Err refusal) new = AreSafeOn store earlier held new
 
 -- the next standing is that after a step this way
@@ -61,9 +67,11 @@ abbrev pub IsNextBy : PendingDirection → State → State → Type 0
 IsNextBy direction held next = (step : Recorded) × IsStep direction step held next
 
 -- so it is after a call, from whatever standing all that might be left before was safe on
-abbrev pub SurvivesCall : {S : Type 0} → Ghosts S → (IsNext : State → State → Type 0) → Result Response Refusal → Session S → Session S → Type 0
+abbrev pub SurvivesCall : {S : Type 0} → Ghosts S → (IsNext : State → State → Type 0) → Result Response Refusal
+    → Session S → Session S → Type 0
 SurvivesCall store IsNext result old new =
-    store.honest (store_of new) → (earlier held : State) → StandsOn store.files old held → AreSafeOn store earlier held (store_of old)
+    store.honest (store_of new) → (earlier held : State) → StandsOn store.files old held
+    → AreSafeOn store earlier held (store_of old)
     → Survives store (IsNext held) earlier held result (store_of new)
 
 -- ---- recovering
@@ -102,7 +110,8 @@ IsOrRecoversTo direction step held left = IsStanding left held ⊎ RecoversTo di
 
 -- Files that await it were recovered. They are the committed state, and nothing else may be left. Or that failed: they
 -- await it still, or are the state; and if it stopped, each that may be left is the state, or recovering leads to it.
-abbrev pub SurvivesRecovery : {S : Type 0} → Ghosts S → PendingDirection → Recorded → State → Result Recovered Refusal → S
+abbrev pub SurvivesRecovery : {S : Type 0} → Ghosts S → PendingDirection → Recorded → State → Result Recovered Refusal
+    → S
     → Type 0
 SurvivesRecovery store direction step held result new =
     MatchResult result
@@ -118,17 +127,24 @@ MayHaveHead store head done new =
     ((store.files new ≡ done) ⊎ Sets head_path (Some head) done (store.files new))
     × Leaves store new (λ left. (left ≡ done) ⊎ Sets head_path (Some head) done left)
 
--- where carrying a step out stops, from files of which nothing but the journal was in doubt: at the pending head, among the changes, or
--- at the last head
-abbrev pub StopsWithDoubt : {S : Type 0} → Ghosts S → Direction → List Change → (pending settled : List ℕ) → S → S → Type 0
+-- where carrying a step out stops, from files of which nothing but the journal was in doubt: at the pending head, among
+-- the changes, or at the last head
+abbrev pub StopsWithDoubt : {S : Type 0} → Ghosts S → Direction → List Change → (pending settled : List ℕ) → S → S
+    → Type 0
 StopsWithDoubt store direction changes pending settled old new =
     (((store.files new ≡ store.files old) ⊎ Sets head_path (Some pending) (store.files old) (store.files new))
-    × Leaves store new (λ left. store.may_be old left ⊎ ((kept : Files) × store.may_be old kept × Sets head_path (Some pending) kept left)))
-    ⊎ (IsStopped direction changes pending (store.files old) (store.files new) × Leaves store new (IsStopped direction changes pending (store.files old)))
-    ⊎ ((done : Files) × LeadsBy direction changes (tree_of (store.files old)) (tree_of done) × SetsHead pending (store.files old) done × MayHaveHead store settled done new)
+    × Leaves store new (λ left. store.may_be old left
+    ⊎ ((kept : Files) × store.may_be old kept × Sets head_path (Some pending) kept left)))
+    ⊎ (IsStopped direction changes pending (store.files old) (store.files new)
+    × Leaves store new (IsStopped direction changes pending (store.files old)))
+    ⊎ ((done : Files) × LeadsBy direction changes (tree_of (store.files old)) (tree_of done)
+    × SetsHead pending (store.files old) done × MayHaveHead store settled done new)
 
 -- where rolling these files back to a tree stops: among the changes, or at the last head
-abbrev pub StopsBackWithDoubt : {S : Type 0} → Ghosts S → Direction → List Change → List ℕ → (start before : Files) → S → Type 0
+abbrev pub StopsBackWithDoubt : {S : Type 0} → Ghosts S → Direction → List Change → List ℕ → (start before : Files) → S
+    → Type 0
 StopsBackWithDoubt store direction changes settled start before new =
-    (IsMidway direction changes start (undo_folder_of before) (store.files new) × Leaves store new (IsMidway direction changes start (undo_folder_of before)))
-    ⊎ ((done : Files) × (tree_of done ≡ start) × (undo_folder_of done ≡ undo_folder_of before) × MayHaveHead store settled done new)
+    (IsMidway direction changes start (undo_folder_of before) (store.files new)
+    × Leaves store new (IsMidway direction changes start (undo_folder_of before)))
+    ⊎ ((done : Files) × (tree_of done ≡ start) × (undo_folder_of done ≡ undo_folder_of before)
+    × MayHaveHead store settled done new)

@@ -43,28 +43,30 @@ pub record IsLeastUnreadable (folder : Files) (numbers : List ℕ) (number : ℕ
 
 -- the path is that of its entry
 abbrev pub IsFirstUnreadable : Files → List ℕ → List ℕ → Type 0
-IsFirstUnreadable folder numbers path = (number : ℕ) × (path ≡ entry_path number) × IsLeastUnreadable folder numbers number
+IsFirstUnreadable folder numbers path =
+    (number : ℕ) × (path ≡ entry_path number) × IsLeastUnreadable folder numbers number
 
 -- no file stands above the journal: neither `.reuse` nor `.reuse/undo` is one
 abbrev pub NoFileAbove : Files → Type 0
 NoFileAbove files = (get files (codes ".reuse") ≡ None) × (get files journal_folder ≡ None)
 
--- the path is the first at fault in the folder of the journal: the head where it can't be read, else the entry of the least number
--- that the head names and whose entry can't be read
+-- the path is the first at fault in the folder of the journal: the head where it can't be read, else the entry of the
+-- least number that the head names and whose entry can't be read
 abbrev pub IsFirstBadIn : Files → List ℕ → Type 0
 IsFirstBadIn folder path =
     ((path ≡ head_path) × ((head : Head) → ¬ (HeadSays (get folder head_path) head)))
     ⊎ ((head : Head) × HeadSays (get folder head_path) head × IsFirstUnreadable folder (named head) path)
 
--- the path is the first at fault: `.reuse` where it is a file, else `.reuse/undo` where it is one, else the first in that folder
+-- the path is the first at fault: `.reuse` where it is a file, else `.reuse/undo` where it is one, else the first in
+-- that folder
 abbrev pub IsFirstBad : Files → List ℕ → Type 0
 IsFirstBad files path =
     ((path ≡ codes ".reuse") × IsSome (get files path))
     ⊎ ((get files (codes ".reuse") ≡ None) × (path ≡ journal_folder) × IsSome (get files path))
     ⊎ (NoFileAbove files × IsFirstBadIn (undo_folder_of files) path)
 
--- The journal is without fault and a step is pending in it; the path is that of its first change that is neither made nor not made,
--- or that can't be taken back.
+-- The journal is without fault and a step is pending in it; the path is that of its first change that is neither made
+-- nor not made, or that can't be taken back.
 pub record IsStuckAt (files : Files) (path : List ℕ) : Type 0 where
   pub above : NoFileAbove files
   pub journal : Journal
@@ -76,10 +78,11 @@ pub record IsStuckAt (files : Files) (path : List ℕ) : Type 0 where
 
 -- the files are this standing, or a step is under way from it
 abbrev pub CanOpenOn : Files → State → Type 0
-CanOpenOn files held = IsStanding files held ⊎ ((direction : PendingDirection) × (step : Recorded) × IsUnderWay direction step held files)
+CanOpenOn files held =
+    IsStanding files held ⊎ ((direction : PendingDirection) × (step : Recorded) × IsUnderWay direction step held files)
 
--- What opening these files answers, where it tells neither an I/O error nor an allocation failure: a bad journal exactly at the
--- first path at fault, else a path that moved exactly where the pending step is stuck, else a session.
+-- What opening these files answers, where it tells neither an I/O error nor an allocation failure: a bad journal
+-- exactly at the first path at fault, else a path that moved exactly where the pending step is stuck, else a session.
 pub record OpensAs {A : Type 0} (files : Files) (answer : Result A Refusal) : Type 0 where
   pub bad : (path : List ℕ) → (answer ≡ Err (BadJournal path)) ↔ IsFirstBad files path
   pub moved : (path : List ℕ) → (answer ≡ Err (Moved path)) ↔ IsStuckAt files path
@@ -98,7 +101,8 @@ opening_store (Err refused) = refused.1
 abbrev pub OpensOn : Files → State → Files → Type 0
 OpensOn before held after =
     (IsStanding before held × (after ≡ before))
-    ⊎ ((direction : PendingDirection) × (step : Recorded) × IsUnderWay direction step held before × IsStanding after held)
+    ⊎ ((direction : PendingDirection) × (step : Recorded) × IsUnderWay direction step held before
+    × IsStanding after held)
 
 -- A step was under way from a standing. It is still, or its files are rolled back.
 abbrev pub StopsOpening : Files → Files → Type 0
@@ -116,7 +120,8 @@ pub record IsPendingIn (folder : Files) (entry : Entry) : Type 0 where
 
 -- no put and no removal is asked for; or at most one for each change of such an entry, and one for the head
 abbrev pub MutationsFor : {S : Type 0} → Ghosts S → (Entry → Type 0) → S → S → Type 0
-MutationsFor store IsIt old new = (store.mutations new ≡ store.mutations old) ⊎ ((entry : Entry) × IsIt entry × (store.mutations new ≤ store.mutations old + length entry.changes + 1))
+MutationsFor store IsIt old new = (store.mutations new ≡ store.mutations old)
+    ⊎ ((entry : Entry) × IsIt entry × (store.mutations new ≤ store.mutations old + length entry.changes + 1))
 
 -- what opening asks for
 abbrev pub MutationsToOpen : {S : Type 0} → Ghosts S → S → S → Type 0
@@ -126,10 +131,12 @@ MutationsToOpen store old new = MutationsFor store (IsPendingIn (undo_folder_of 
 
 -- what the entry of a number is listed as
 abbrev pub listed_entry : ℕ → Entry → ListedEntry
-listed_entry number entry = record { number = number; when = entry.when; command = entry.command; count = length entry.changes }
+listed_entry number entry =
+    record { number = number; when = entry.when; command = entry.command; count = length entry.changes }
 
 abbrev pub IsListedIn : Files → ℕ → ListedEntry → Type 0
-IsListedIn folder number listed = (entry : Entry) × EntrySays (get folder (entry_path number)) entry × (listed ≡ listed_entry number entry)
+IsListedIn folder number listed =
+    (entry : Entry) × EntrySays (get folder (entry_path number)) entry × (listed ≡ listed_entry number entry)
 
 -- what the entry of the number is listed as, if it can be read
 abbrev pub IsFoundAt : Files → ℕ → Option ListedEntry → Type 0
@@ -146,8 +153,8 @@ abbrev pub least : Option ℕ → ℕ → ℕ
 least None other = other
 least (Some one) other = if nat_lt one other then one else other
 
--- The files have this journal and tell what is pending, and this is remembered of it. Each entry that the head names can be read, and
--- neither the journal's folder nor the one above it is a file.
+-- The files have this journal and tell what is pending, and this is remembered of it. Each entry that the head names
+-- can be read, and neither the journal's folder nor the one above it is a file.
 pub record IsRead (files : Files) (pending : Option Pending) (memory : Memory) (journal : Journal) : Type 0 where
   pub no_reuse : get files (codes ".reuse") ≡ None
   pub no_undo : get files journal_folder ≡ None

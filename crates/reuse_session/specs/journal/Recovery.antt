@@ -31,20 +31,25 @@ Picks Yes No (change ∷ changes) paths =
 
 -- the paths at which the changes are made this way, and can be rolled back
 abbrev pub AreMade : Direction → Files → List Change → List (List ℕ) → Type 0
-AreMade direction tree changes paths = Picks (CanBeMade (opposite direction) tree) (λ change. ¬ (CanBeMade (opposite direction) tree change)) changes paths
+AreMade direction tree changes paths =
+    Picks (CanBeMade (opposite direction) tree) (λ change. ¬ (CanBeMade (opposite direction) tree change)) changes paths
 
--- the paths at which they can't be rolled back: the file is neither as before the change nor as after it, or a file that would be made again clashes
+-- the paths at which they can't be rolled back: the file is neither as before the change nor as after it, or a file
+-- that would be made again clashes
 abbrev pub AreStuck : Direction → Files → List Change → List (List ℕ) → Type 0
-AreStuck direction tree changes paths = Picks (λ change. ¬ (CanBeRolledBack direction tree change)) (CanBeRolledBack direction tree) changes paths
+AreStuck direction tree changes paths =
+    Picks (λ change. ¬ (CanBeRolledBack direction tree change)) (CanBeRolledBack direction tree) changes paths
 
 -- ---- the tree
 
--- What recovering makes of the path of a change. As before the change it stays; where the change is made and can be rolled back, it is; and where
--- it can't be, the path stays.
+-- What recovering makes of the path of a change. As before the change it stays; where the change is made and can be
+-- rolled back, it is; and where it can't be, the path stays.
 abbrev pub RecoversAt : Direction → (before after : Files) → Change → Type 0
 RecoversAt direction before after change =
-    (IsReady direction change (get before (path_of change)) × (get after (path_of change) ≡ get before (path_of change)))
-    ⊎ (CanBeMade (opposite direction) before change × AppliesBy (opposite direction) change (get before (path_of change)) (get after (path_of change)))
+    (IsReady direction change (get before (path_of change))
+    × (get after (path_of change) ≡ get before (path_of change)))
+    ⊎ (CanBeMade (opposite direction) before change
+    × AppliesBy (opposite direction) change (get before (path_of change)) (get after (path_of change)))
     ⊎ (¬ (CanBeRolledBack direction before change) × (get after (path_of change) ≡ get before (path_of change)))
 
 -- so it is at each path of the changes, and no other path differs
@@ -93,12 +98,14 @@ abbrev pub RecoversFiles : Bool → (before after : Files) → Recovered → Typ
 RecoversFiles skip_moved before after told =
     ((journal : Journal) × HasNonePending journal before × (told ≡ nothing_recovered) × (after ≡ before))
     ⊎ ((direction : PendingDirection) × (step : Recorded) × (journal : Journal)
-    × HasPending direction step journal before × TellsRecovery skip_moved direction step before told × IsRecovered direction step journal before after)
+    × HasPending direction step journal before × TellsRecovery skip_moved direction step before told
+    × IsRecovered direction step journal before after)
 
 -- some of the paths that can be rolled back are, and no other path differs
 pub record SomeRecovered (direction : Direction) (changes : List Change) (before after : Files) : Type 0 where
   pub each : All (λ change. (get after (path_of change) ≡ get before (path_of change))
-      ⊎ (CanBeMade (opposite direction) before change × AppliesBy (opposite direction) change (get before (path_of change)) (get after (path_of change)))) changes
+      ⊎ (CanBeMade (opposite direction) before change
+      × AppliesBy (opposite direction) change (get before (path_of change)) (get after (path_of change)))) changes
   pub others : (path : List ℕ) → touches changes path ≡ false → get after path ≡ get before path
 
 -- the step is pending still, and each of its paths is as it was or is rolled back
@@ -112,8 +119,8 @@ StopsRecovering before after =
     (direction : PendingDirection) × (step : Recorded) × (journal : Journal) × HasPending direction step journal before
     × (IsRecovered direction step journal before after ⊎ IsHalfway direction step journal before after)
 
--- Unless an I/O error or an allocation failure is told, recovering is refused as a bad journal exactly at the first path at fault, and as moved
--- exactly at the first path that is stuck, where none is to be skipped.
+-- Unless an I/O error or an allocation failure is told, recovering is refused as a bad journal exactly at the first
+-- path at fault, and as moved exactly at the first path that is stuck, where none is to be skipped.
 pub record RefusesRecovery (skip_moved : Bool) (files : Files) (answer : Result Recovered Refusal) : Type 0 where
   pub bad : (path : List ℕ) → (answer ≡ Err (BadJournal path)) ↔ IsFirstBad files path
   pub moved : (path : List ℕ) → (answer ≡ Err (Moved path)) ↔ ((skip_moved ≡ false) × IsStuckAt files path)
@@ -133,7 +140,8 @@ IsLonger old change new = new ≡ old ++ path_of change ∷ []
 abbrev pub FindsNext : Direction → Files → Change → (made more_made stuck more_stuck : List (List ℕ)) → Type 0
 FindsNext direction tree change made more_made stuck more_stuck =
     (IsReady direction change (get tree (path_of change)) × (more_made ≡ made) × (more_stuck ≡ stuck))
-    ⊎ (¬ (IsReady direction change (get tree (path_of change))) × CanBeMade (opposite direction) tree change × IsLonger made change more_made × (more_stuck ≡ stuck))
+    ⊎ (¬ (IsReady direction change (get tree (path_of change))) × CanBeMade (opposite direction) tree change
+    × IsLonger made change more_made × (more_stuck ≡ stuck))
     ⊎ (¬ (CanBeRolledBack direction tree change) × (more_made ≡ made) × IsLonger stuck change more_stuck)
 
 -- the changes of which none is of these paths

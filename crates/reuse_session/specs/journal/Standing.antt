@@ -23,12 +23,15 @@ pub record IsStanding (files : Files) (held : State) : Type 0 where
   pub good : IsTree held.tree
   pub journal : KeepsJournal (undo_folder_of files) held.journal None
 
--- what a step makes of the journal. A new one is the last done, and none can be redone then; an undone one is the next to be redone;
--- a redone one is the last done again.
+-- what a step makes of the journal. A new one is the last done, and none can be redone then; an undone one is the next
+-- to be redone; a redone one is the last done again.
 abbrev pub Mutations : PendingDirection → Recorded → Journal → Journal → Type 0
-Mutations Do step old new = (number_of step ≡ old.used + 1) × (new ≡ record { done = step ∷ old.done; undone = []; used = old.used + 1 })
-Mutations Undo step old new = (steps : List Recorded) × (old.done ≡ step ∷ steps) × (new ≡ record { done = steps; undone = step ∷ old.undone; used = old.used })
-Mutations Redo step old new = (steps : List Recorded) × (old.undone ≡ step ∷ steps) × (new ≡ record { done = step ∷ old.done; undone = steps; used = old.used })
+Mutations Do step old new =
+    (number_of step ≡ old.used + 1) × (new ≡ record { done = step ∷ old.done; undone = []; used = old.used + 1 })
+Mutations Undo step old new = (steps : List Recorded) × (old.done ≡ step ∷ steps)
+    × (new ≡ record { done = steps; undone = step ∷ old.undone; used = old.used })
+Mutations Redo step old new = (steps : List Recorded) × (old.undone ≡ step ∷ steps)
+    × (new ≡ record { done = step ∷ old.done; undone = steps; used = old.used })
 
 -- the second standing is that after the step
 pub record IsStep (direction : PendingDirection) (step : Recorded) (first second : State) : Type 0 where
@@ -47,4 +50,5 @@ abbrev pub InDoubt : State → State → Files → Type 0
 InDoubt first second files =
     IsStanding files first
     ⊎ IsStanding files second
-    ⊎ ((direction : PendingDirection) × (step : Recorded) × IsStep direction step first second × IsUnderWay direction step first files)
+    ⊎ ((direction : PendingDirection) × (step : Recorded) × IsStep direction step first second
+    × IsUnderWay direction step first files)

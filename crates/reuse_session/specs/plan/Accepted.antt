@@ -33,7 +33,8 @@ use Rattle.reuse_session.specs.declared.plan.licence.LicenceText.{LicenceText}
 
 -- one entry holds what the command changes: at most 100,000 files, and 256 MiB by what they count for
 abbrev pub FitsEntry : Command → Files → Type 0
-FitsEntry command tree = (edit_count (edits_of command tree) ≤ 100_000) × (recorded_size (edits_of command tree) ≤ 268_435_456)
+FitsEntry command tree =
+    (edit_count (edits_of command tree) ≤ 100_000) × (recorded_size (edits_of command tree) ≤ 268_435_456)
 
 -- ---- downloads
 
@@ -53,7 +54,8 @@ pub record CanDownload (ids : List (List ℕ)) (texts : List LicenceText) (tree 
 
 -- ---- conversions
 
--- there is a `.reuse/dep5` that isn't too long and is converted, `REUSE.toml` isn't there and doesn't clash, and one entry holds both
+-- there is a `.reuse/dep5` that isn't too long and is converted, `REUSE.toml` isn't there and doesn't clash, and one
+-- entry holds both
 pub record CanConvert (tree : Files) : Type 0 where
   pub dep5 : List ℕ
   pub there : get tree dep5_path ≡ Some dep5
@@ -67,7 +69,8 @@ pub record CanConvert (tree : Files) : Type 0 where
 
 -- the file needn't be read: a neighbour is there or asked for, or the file's name takes no comment
 abbrev pub IsUnread : Scope → OwnNames → List ℕ → Pair → Type 0
-IsUnread scope own path pair = IsSome pair.neighbour ⊎ (scope.force_dot_license ≡ true) ⊎ HasKind scope own path kind.Uncommentable
+IsUnread scope own path pair =
+    IsSome pair.neighbour ⊎ (scope.force_dot_license ≡ true) ⊎ HasKind scope own path kind.Uncommentable
 
 -- the neighbour's path isn't too long, nor is the neighbour; where it isn't there its path doesn't clash
 pub record HasRoomBeside (tree : Files) (path : List ℕ) : Type 0 where
@@ -80,10 +83,11 @@ abbrev pub RulesAccept : Additions → How → Scope → OwnNames → List ℕ �
 RulesAccept additions how scope own path bytes pair =
     IsSkipped scope own path bytes pair
     ⊎ ((style : Style) × TakesComment scope own path bytes pair style × IsOk (annotated style how additions bytes))
-    ⊎ (TakesNeighbour scope own path bytes pair × IsOk (neighbour_annotated how additions (unwrap_or pair.neighbour [])))
+    ⊎ (TakesNeighbour scope own path bytes pair
+    × IsOk (neighbour_annotated how additions (unwrap_or pair.neighbour [])))
 
--- the path has a covered file, which isn't too long where it is read, room beside it where its neighbour takes the information, and what
--- the rules accept
+-- the path has a covered file, which isn't too long where it is read, room beside it where its neighbour takes the
+-- information, and what the rules accept
 pub record CanBeAnnotated (additions : Additions) (how : How) (scope : Scope) (own : OwnNames) (tree : Files) (path : List ℕ) : Type 0 where
   pub bytes : List ℕ
   pub there : get tree path ≡ Some bytes
@@ -92,13 +96,14 @@ pub record CanBeAnnotated (additions : Additions) (how : How) (scope : Scope) (o
   pub room : TakesNeighbour scope own path bytes (pair_at tree path) → HasRoomBeside tree path
   pub accepted : RulesAccept additions how scope own path bytes (pair_at tree path)
 
--- the tree's own styles are good, the root is given only where folders are gone through, each path that is gone through can be annotated,
--- and one entry holds them all
+-- the tree's own styles are good, the root is given only where folders are gone through, each path that is gone through
+-- can be annotated, and one entry holds them all
 pub record CanAnnotate (places : List Place) (additions : Additions) (how : How) (scope : Scope) (tree : Files) : Type 0 where
   pub own : OwnNames
   pub styles : styles_in tree ≡ Ok own
   pub root : has_root places ≡ true → scope.recursive ≡ true
-  pub each : (path : List ℕ) → Contains (selected_paths scope places tree) path → CanBeAnnotated additions how scope own tree path
+  pub each : (path : List ℕ) → Contains (selected_paths scope places tree) path
+      → CanBeAnnotated additions how scope own tree path
   pub fits : FitsEntry (Annotate places additions how scope) tree
 
 -- ---- amendments
@@ -114,13 +119,16 @@ pub record CanFileBeAmended (amendments : Amendments) (style : Style) (bytes : L
   pub short : length bytes ≤ LONGEST_FILE
   pub accepted : is_text bytes ≡ true → IsOk (amended_file bytes (amendment_of style amendments bytes))
 
--- the path has a covered file; its neighbour can be amended where that is there, else the file itself where it has a style
+-- the path has a covered file; its neighbour can be amended where that is there, else the file itself where it has a
+-- style
 pub record CanCoveredBeAmended (amendments : Amendments) (scope : Scope) (own : OwnNames) (tree : Files) (path : List ℕ) : Type 0 where
   pub bytes : List ℕ
   pub there : get tree path ≡ Some bytes
   pub covered : is_covered path ≡ true
-  pub by_neighbour : (beside : List ℕ) → get tree (neighbour_of path) ≡ Some beside → CanNeighbourBeAmended amendments path beside
-  pub by_file : get tree (neighbour_of path) ≡ None → (style : Style) → IsStyleOf scope own path style → CanFileBeAmended amendments style bytes
+  pub by_neighbour : (beside : List ℕ) → get tree (neighbour_of path) ≡ Some beside
+      → CanNeighbourBeAmended amendments path beside
+  pub by_file : get tree (neighbour_of path) ≡ None → (style : Style) → IsStyleOf scope own path style
+      → CanFileBeAmended amendments style bytes
 
 -- the `REUSE.toml` is there and isn't too long, and the rules accept its bytes
 pub record CanTableBeAmended (amendments : Amendments) (tree : Files) : Type 0 where
@@ -131,13 +139,15 @@ pub record CanTableBeAmended (amendments : Amendments) (tree : Files) : Type 0 w
 
 -- the path is that of the `REUSE.toml` at the root, which can be amended; or it has a covered file that can be
 abbrev pub CanBeAmended : Amendments → Scope → OwnNames → Files → List ℕ → Type 0
-CanBeAmended amendments scope own tree path = ((path ≡ toml_path) × CanTableBeAmended amendments tree) ⊎ CanCoveredBeAmended amendments scope own tree path
+CanBeAmended amendments scope own tree path =
+    ((path ≡ toml_path) × CanTableBeAmended amendments tree) ⊎ CanCoveredBeAmended amendments scope own tree path
 
--- the tree's own styles are good, the root is given only where folders are gone through, each path that is gone through can be amended,
--- and one entry holds them all
+-- the tree's own styles are good, the root is given only where folders are gone through, each path that is gone through
+-- can be amended, and one entry holds them all
 pub record CanAmend (places : List Place) (amendments : Amendments) (scope : Scope) (tree : Files) : Type 0 where
   pub own : OwnNames
   pub styles : styles_in tree ≡ Ok own
   pub root : has_root places ≡ true → scope.recursive ≡ true
-  pub each : (path : List ℕ) → Contains (amended_paths scope places tree) path → CanBeAmended amendments scope own tree path
+  pub each : (path : List ℕ) → Contains (amended_paths scope places tree) path
+      → CanBeAmended amendments scope own tree path
   pub fits : FitsEntry (Amend places amendments scope) tree

@@ -1,6 +1,6 @@
--- What amend does at each path of a tree: the information is amended where it stands, in the neighbour that is there or else in the
--- file's own header block, and in the `REUSE.toml` at the root in its values. Nothing is made, and no file is refused for want of a style
--- (docs/RULES.md, "What amend writes").
+-- What amend does at each path of a tree: the information is amended where it stands, in the neighbour that is there or
+-- else in the file's own header block, and in the `REUSE.toml` at the root in its values. Nothing is made, and no file
+-- is refused for want of a style (docs/RULES.md, "What amend writes").
 use Rattle.std.specs.Prelude.{ℕ, not, List, length, take, drop, nat_lt, Option, Some, None, Result, Ok, Err, if◌then◌else◌}
 use Rattle.std.specs.Str.{bytes_eq}
 use Rattle.std.specs.FinMap.{get}
@@ -60,7 +60,8 @@ amend_refused_by path header_refusals.NothingLeft = Amend path NothingLeft
 amend_refused_by path (header_refusals.Header refusal) = refused_by path refusal
 
 -- what amending makes of the bytes at a place; a refusal names the file
-abbrev pub amendment_edit : List ℕ → List ℕ → List ℕ → Result (Option header.Edit) AmendHeaderRefusal → Result (Option Edit) Refusal
+abbrev pub amendment_edit : List ℕ → List ℕ → List ℕ → Result (Option header.Edit) AmendHeaderRefusal
+    → Result (Option Edit) Refusal
 amendment_edit path at bytes (Ok None) = Ok None
 amendment_edit path at bytes (Ok (Some edit)) = edit_by path at bytes (Ok edit)
 amendment_edit path at bytes (Err refusal) = Err (amend_refused_by path refusal)
@@ -81,7 +82,8 @@ amend_inside amendments path bytes (Some style) =
     else amendment_edit path path bytes (amendment_of style amendments bytes)
 
 -- the neighbour where it is there, else the file
-abbrev pub amend_covered : Amendments → Scope → OwnNames → List ℕ → List ℕ → Option (List ℕ) → Result (Option Edit) Refusal
+abbrev pub amend_covered : Amendments → Scope → OwnNames → List ℕ → List ℕ → Option (List ℕ)
+    → Result (Option Edit) Refusal
 amend_covered amendments scope own path bytes (Some beside) = amend_neighbour amendments path beside
 amend_covered amendments scope own path bytes None = amend_inside amendments path bytes (style_for scope own path)
 
@@ -104,7 +106,8 @@ table_edit path bytes change = record {
 }
 
 -- what amending makes of its bytes; a refusal names the file
-abbrev pub table_amendment : List ℕ → List ℕ → Result (Option TomlSplice) AmendTomlRefusal → Result (Option Edit) Refusal
+abbrev pub table_amendment : List ℕ → List ℕ → Result (Option TomlSplice) AmendTomlRefusal
+    → Result (Option Edit) Refusal
 table_amendment path bytes (Ok None) = Ok None
 table_amendment path bytes (Ok (Some change)) = Ok (Some (table_edit path bytes change))
 table_amendment path bytes (Err refusal) = Err (table_refused_by path refusal)
@@ -122,8 +125,10 @@ amend_table amendments path bytes =
 -- ---- a path
 
 -- what amend does at a path, where the tree has this
-abbrev pub amended_where : Amendments → Scope → OwnNames → Files → List ℕ → Option (List ℕ) → Result (Option Edit) Refusal
-amended_where amendments scope own tree path None = if is_folder tree path then Err (IsFolder (place.Path path)) else Err (NoSuchPath path)
+abbrev pub amended_where : Amendments → Scope → OwnNames → Files → List ℕ → Option (List ℕ)
+    → Result (Option Edit) Refusal
+amended_where amendments scope own tree path None =
+    if is_folder tree path then Err (IsFolder (place.Path path)) else Err (NoSuchPath path)
 amended_where amendments scope own tree path (Some bytes) =
     if bytes_eq path toml_path then amend_table amendments path bytes
     else if not (is_covered path) then Err (NotCovered path)

@@ -1,5 +1,5 @@
--- What amend makes of a tree, in other words: each file that is gone through, or its neighbour where that is there, becomes what the rules
--- say of these bytes alone, the `REUSE.toml` what they say of its values, and all else stays.
+-- What amend makes of a tree, in other words: each file that is gone through, or its neighbour where that is there,
+-- becomes what the rules say of these bytes alone, the `REUSE.toml` what they say of its values, and all else stays.
 use Rattle.std.specs.Prelude.{◌≡◌, ◌≢◌, ◌⊎◌, ℕ, true, false, List, Some, None, is_some, Ok}
 use Rattle.std.specs.List.{Contains}
 use Rattle.std.specs.Option.{option_map}
@@ -29,10 +29,11 @@ use Rattle.reuse_session.specs.declared.command.Scope.{Scope}
 -- there is a header block, and each byte outside it stays
 abbrev pub KeepsOutsideBlock : Style → List ℕ → List ℕ → Type 0
 KeepsOutsideBlock style old new =
-    (block : HeaderSpan) × (option_map (span_in old) (header_of style old) ≡ Some block) × IsSameAround block.start block.end old new
+    (block : HeaderSpan) × (option_map (span_in old) (header_of style old) ≡ Some block)
+    × IsSameAround block.start block.end old new
 
--- The neighbour is there. It holds what the rules make of its own bytes, and the file stays. It is as it was, or each byte outside its
--- block stays.
+-- The neighbour is there. It holds what the rules make of its own bytes, and the file stays. It is as it was, or each
+-- byte outside its block stays.
 pub record IsNeighbourAmended (amendments : Amendments) (old new : Pair) : Type 0 where
   pub beside : List ℕ
   pub there : old.neighbour ≡ Some beside
@@ -41,8 +42,8 @@ pub record IsNeighbourAmended (amendments : Amendments) (old new : Pair) : Type 
   pub holds : new ≡ record { file = old.file; neighbour = Some made }
   pub keeps : (made ≡ beside) ⊎ IsSameAround (mark_len_of beside) (neighbour_end beside) beside made
 
--- The file has no neighbour, is text and has a style. It holds what the rules make of its own bytes, and no neighbour is made. It is as it
--- was, or has a header block and each byte outside it stays.
+-- The file has no neighbour, is text and has a style. It holds what the rules make of its own bytes, and no neighbour
+-- is made. It is as it was, or has a header block and each byte outside it stays.
 pub record IsFileAmended (amendments : Amendments) (scope : Scope) (own : OwnNames) (path bytes : List ℕ) (old new : Pair) : Type 0 where
   pub alone : old.neighbour ≡ None
   pub text : is_text bytes ≡ true
@@ -56,19 +57,23 @@ pub record IsFileAmended (amendments : Amendments) (scope : Scope) (own : OwnNam
 -- it has no neighbour, and isn't text or has no style, so that nothing in it is amended
 abbrev pub HasNoPlace : Scope → OwnNames → List ℕ → List ℕ → Pair → Type 0
 HasNoPlace scope own path bytes pair =
-    (pair.neighbour ≡ None) × ((is_text bytes ≡ false) ⊎ HasKind scope own path kind.Uncommentable ⊎ HasKind scope own path kind.Unknown)
+    (pair.neighbour ≡ None)
+    × ((is_text bytes ≡ false) ⊎ HasKind scope own path kind.Uncommentable ⊎ HasKind scope own path kind.Unknown)
 
--- the path has a covered file, which has no place that is amended, and then both stay; or it is amended, or its neighbour is
+-- the path has a covered file, which has no place that is amended, and then both stay; or it is amended, or its
+-- neighbour is
 pub record IsCoveredAmended (amendments : Amendments) (scope : Scope) (own : OwnNames) (path : List ℕ) (old new : Pair) : Type 0 where
   pub bytes : List ℕ
   pub there : old.file ≡ Some bytes
   pub covered : is_covered path ≡ true
-  pub becomes : (HasNoPlace scope own path bytes old × (new ≡ old)) ⊎ IsFileAmended amendments scope own path bytes old new ⊎ IsNeighbourAmended amendments old new
+  pub becomes : (HasNoPlace scope own path bytes old × (new ≡ old))
+      ⊎ IsFileAmended amendments scope own path bytes old new ⊎ IsNeighbourAmended amendments old new
 
 -- ---- the `REUSE.toml`
 
--- It is there, and holds what the rules make of its own bytes. That is read as the old table with the values of the two keys amended. It is
--- as it was, or differs in strings and commas alone, so that each comment stays. A neighbour of it stays.
+-- It is there, and holds what the rules make of its own bytes. That is read as the old table with the values of the two
+-- keys amended. It is as it was, or differs in strings and commas alone, so that each comment stays. A neighbour of it
+-- stays.
 pub record IsTableAmended (amendments : Amendments) (old new : Pair) : Type 0 where
   pub bytes : List ℕ
   pub there : old.file ≡ Some bytes
@@ -80,17 +85,21 @@ pub record IsTableAmended (amendments : Amendments) (old new : Pair) : Type 0 wh
 
 -- the path is that of the `REUSE.toml` at the root, which is amended; or it has a covered file, which is
 abbrev pub IsAmended : Amendments → Scope → OwnNames → List ℕ → Pair → Pair → Type 0
-IsAmended amendments scope own path old new = ((path ≡ toml_path) × IsTableAmended amendments old new) ⊎ IsCoveredAmended amendments scope own path old new
+IsAmended amendments scope own path old new =
+    ((path ≡ toml_path) × IsTableAmended amendments old new) ⊎ IsCoveredAmended amendments scope own path old new
 
 -- ---- the tree
 
--- by the tree's own names each file that is gone through is amended, and each path holds what it held that is none of these nor a
--- neighbour of one
+-- by the tree's own names each file that is gone through is amended, and each path holds what it held that is none of
+-- these nor a neighbour of one
 pub record Amends (places : List Place) (amendments : Amendments) (scope : Scope) (before after : Files) : Type 0 where
   pub own : OwnNames
   pub styles : styles_in before ≡ Ok own
-  pub selected : (path : List ℕ) → Contains (amended_paths scope places before) path → IsAmended amendments scope own path (pair_at before path) (pair_at after path)
-  pub others : (other : List ℕ) → ((path : List ℕ) → Contains (amended_paths scope places before) path → (other ≢ path) × (other ≢ neighbour_of path))
+  pub selected : (path : List ℕ) → Contains (amended_paths scope places before) path
+      → IsAmended amendments scope own path (pair_at before path) (pair_at after path)
+  pub others : (other : List ℕ)
+      → ((path : List ℕ) → Contains (amended_paths scope places before) path → (other ≢ path)
+      × (other ≢ neighbour_of path))
       → get after other ≡ get before other
 
 -- no file is made, and none is removed

@@ -20,7 +20,8 @@ Due = Result (Option header.Edit) AmendHeaderRefusal
 
 -- an edit is within its file, and makes none that is too long
 abbrev pub Fits : List ℕ → Due → Type 0
-Fits bytes (Ok (Some edit)) = (edit.start + edit.old_len ≤ length bytes) × (length (header.edited bytes edit) ≤ LONGEST_FILE)
+Fits bytes (Ok (Some edit)) =
+    (edit.start + edit.old_len ≤ length bytes) × (length (header.edited bytes edit) ≤ LONGEST_FILE)
 Fits bytes (Ok None) = Unit {0}
 Fits bytes (Err refusal) = Unit {0}
 

@@ -1,5 +1,5 @@
--- What annotate does at each path of a tree: which place is written, and with what. The options are those of the reuse tool's manual page
--- of `annotate`; what that page leaves open is decided here.
+-- What annotate does at each path of a tree: which place is written, and with what. The options are those of the reuse
+-- tool's manual page of `annotate`; what that page leaves open is decided here.
 use Rattle.std.specs.Prelude.{ℕ, Bool, true, false, not, ◌&&◌, ◌||◌, List, [], ◌++◌, length, take, drop, codes, nat_lt, Option, Some, None, is_some, is_none, Result, Ok, Err, if◌then◌else◌}
 use Rattle.std.specs.List.{list_any}
 use Rattle.std.specs.Str.{bytes_eq}
@@ -68,16 +68,19 @@ is_uncommentable (kind.Style style) = false
 is_uncommentable kind.Uncommentable = true
 is_uncommentable kind.Unknown = false
 
--- the target is the neighbour, whether that is there or not: it is asked for, or the name takes no comment and no style is asked for
+-- the target is the neighbour, whether that is there or not: it is asked for, or the name takes no comment and no style
+-- is asked for
 abbrev pub goes_beside_unread : Scope → OwnNames → List ℕ → Bool
-goes_beside_unread scope own path = scope.force_dot_license || (is_none scope.style && is_uncommentable (kind_in own path))
+goes_beside_unread scope own path =
+    scope.force_dot_license || (is_none scope.style && is_uncommentable (kind_in own path))
 
 -- the target is the neighbour, whatever the file holds: so, or since it is there
 abbrev pub goes_beside : Scope → OwnNames → Files → List ℕ → Bool
 goes_beside scope own tree path = is_some (get tree (neighbour_of path)) || goes_beside_unread scope own path
 
 abbrev pub target_of : Scope → OwnNames → Files → List ℕ → List ℕ → Result Target Refusal
-target_of scope own tree path bytes = if goes_beside scope own tree path then Ok Beside else target_by_bytes scope own path bytes
+target_of scope own tree path bytes =
+    if goes_beside scope own tree path then Ok Beside else target_by_bytes scope own path bytes
 
 -- ---- what is done there
 
@@ -118,15 +121,18 @@ edit_beside how scope additions tree path =
     if nat_lt 4096 (length (neighbour_of path)) then Err (TooLong path)
     else edit_neighbour how scope additions tree path (get tree (neighbour_of path))
 
-abbrev pub edit_target : How → Scope → Additions → Files → List ℕ → List ℕ → Result Target Refusal → Result (Option Edit) Refusal
+abbrev pub edit_target : How → Scope → Additions → Files → List ℕ → List ℕ → Result Target Refusal
+    → Result (Option Edit) Refusal
 edit_target how scope additions tree path bytes (Err refusal) = Err refusal
 edit_target how scope additions tree path bytes (Ok Nowhere) = Ok None
 edit_target how scope additions tree path bytes (Ok Beside) = edit_beside how scope additions tree path
 edit_target how scope additions tree path bytes (Ok (Inside style)) = edit_inside how scope additions path bytes style
 
 -- what annotate does at a path, where the tree has this
-abbrev pub annotated_where : How → Scope → Additions → OwnNames → Files → List ℕ → Option (List ℕ) → Result (Option Edit) Refusal
-annotated_where how scope additions own tree path None = if is_folder tree path then Err (IsFolder (place.Path path)) else Err (NoSuchPath path)
+abbrev pub annotated_where : How → Scope → Additions → OwnNames → Files → List ℕ → Option (List ℕ)
+    → Result (Option Edit) Refusal
+annotated_where how scope additions own tree path None =
+    if is_folder tree path then Err (IsFolder (place.Path path)) else Err (NoSuchPath path)
 annotated_where how scope additions own tree path (Some bytes) =
     if not (is_covered path) then Err (NotCovered path)
     else edit_target how scope additions tree path bytes (target_of scope own tree path bytes)

@@ -1,5 +1,5 @@
--- What annotate makes of a tree, in other words: each file that is gone through and its neighbour become what the rules say of these two
--- alone, and all else stays.
+-- What annotate makes of a tree, in other words: each file that is gone through and its neighbour become what the rules
+-- say of these two alone, and all else stays.
 use Rattle.std.specs.Prelude.{◌≡◌, ◌≢◌, ◌⊎◌, ℕ, true, false, List, [], ◌++◌, take, drop, Option, Some, None, IsSome, Ok, unwrap_or, if◌then◌else◌}
 use Rattle.std.specs.List.{Contains}
 use Rattle.std.specs.Option.{option_map}
@@ -52,9 +52,11 @@ pub record Pair : Type 0 where
 abbrev pub pair_at : Files → List ℕ → Pair
 pair_at files path = record { file = get files path; neighbour = get files (neighbour_of path) }
 
--- the style of the comments of a file: the one that is asked for, or else that of its name; the tree's own names stand first
+-- the style of the comments of a file: the one that is asked for, or else that of its name; the tree's own names stand
+-- first
 abbrev pub IsStyleOf : Scope → OwnNames → List ℕ → Style → Type 0
-IsStyleOf scope own path style = (scope.style ≡ Some style) ⊎ ((scope.style ≡ None) × (kind_in own path ≡ kind.Style style))
+IsStyleOf scope own path style =
+    (scope.style ≡ Some style) ⊎ ((scope.style ≡ None) × (kind_in own path ≡ kind.Style style))
 
 -- no style is asked for, and the name has this kind
 abbrev pub HasKind : Scope → OwnNames → List ℕ → Kind → Type 0
@@ -67,15 +69,16 @@ pub record TakesComment (scope : Scope) (own : OwnNames) (path bytes : List ℕ)
   pub unforced : scope.force_dot_license ≡ false
   pub of_style : IsStyleOf scope own path style
 
--- its neighbour takes the information: it is there or asked for, or the file isn't text, or its name takes no comment, or has no style and
--- such files have neighbours
+-- its neighbour takes the information: it is there or asked for, or the file isn't text, or its name takes no comment,
+-- or has no style and such files have neighbours
 abbrev pub TakesNeighbour : Scope → OwnNames → List ℕ → List ℕ → Pair → Type 0
 TakesNeighbour scope own path bytes pair =
-    IsSome pair.neighbour ⊎ (scope.force_dot_license ≡ true) ⊎ (is_text bytes ≡ false) ⊎ HasKind scope own path kind.Uncommentable
+    IsSome pair.neighbour ⊎ (scope.force_dot_license ≡ true) ⊎ (is_text bytes ≡ false)
+    ⊎ HasKind scope own path kind.Uncommentable
     ⊎ (HasKind scope own path kind.Unknown × (scope.unknown ≡ unknown.Neighbour))
 
--- The file is commented: it holds what the header rules make of its own bytes. Each byte outside the old header block stays, and there
--- is no neighbour.
+-- The file is commented: it holds what the header rules make of its own bytes. Each byte outside the old header block
+-- stays, and there is no neighbour.
 pub record IsCommented (additions : Additions) (how : How) (scope : Scope) (own : OwnNames) (path bytes : List ℕ) (old new : Pair) : Type 0 where
   pub style : Style
   pub takes : TakesComment scope own path bytes old style
@@ -89,8 +92,8 @@ abbrev pub file_written : Option (List ℕ) → List ℕ → Option (List ℕ)
 file_written None [] = None
 file_written old made = Some made
 
--- The file stays, and its neighbour holds what the rules make of the neighbour's own bytes, or of none where it isn't there. Each byte
--- outside its old block stays.
+-- The file stays, and its neighbour holds what the rules make of the neighbour's own bytes, or of none where it isn't
+-- there. Each byte outside its old block stays.
 pub record IsAccompanied (additions : Additions) (how : How) (scope : Scope) (own : OwnNames) (path bytes : List ℕ) (old new : Pair) : Type 0 where
   pub takes : TakesNeighbour scope own path bytes old
   pub made : List ℕ
@@ -104,16 +107,18 @@ HasInformation scope own path bytes pair =
     ((style : Style) × TakesComment scope own path bytes pair style × IsSome (header_of style bytes))
     ⊎ ((beside : List ℕ) × (pair.neighbour ≡ Some beside) × (neighbour_is_tagged beside ≡ true))
 
--- it is asked for that such a file is skipped: its name has no style, and nothing else calls for its neighbour; or there is licensing
--- information
+-- it is asked for that such a file is skipped: its name has no style, and nothing else calls for its neighbour; or
+-- there is licensing information
 abbrev pub IsSkipped : Scope → OwnNames → List ℕ → List ℕ → Pair → Type 0
 IsSkipped scope own path bytes pair =
-    (HasKind scope own path kind.Unknown × (scope.unknown ≡ unknown.Skip) × ¬ (TakesNeighbour scope own path bytes pair))
+    (HasKind scope own path kind.Unknown × (scope.unknown ≡ unknown.Skip)
+    × ¬ (TakesNeighbour scope own path bytes pair))
     ⊎ ((scope.skip_existing ≡ true) × HasInformation scope own path bytes pair)
 
 -- the path has a file, which is skipped
 abbrev pub IsSkippedAt : Scope → OwnNames → Files → List ℕ → Type 0
-IsSkippedAt scope own tree path = (bytes : List ℕ) × (get tree path ≡ Some bytes) × IsSkipped scope own path bytes (pair_at tree path)
+IsSkippedAt scope own tree path =
+    (bytes : List ℕ) × (get tree path ≡ Some bytes) × IsSkipped scope own path bytes (pair_at tree path)
 
 -- the path has a covered file, which is skipped, and then both stay; or is commented; or accompanied
 pub record IsAnnotated (additions : Additions) (how : How) (scope : Scope) (own : OwnNames) (path : List ℕ) (old new : Pair) : Type 0 where
@@ -121,19 +126,25 @@ pub record IsAnnotated (additions : Additions) (how : How) (scope : Scope) (own 
   pub there : old.file ≡ Some bytes
   pub covered : is_covered path ≡ true
   pub becomes : (IsSkipped scope own path bytes old × (new ≡ old))
-      ⊎ (¬ (IsSkipped scope own path bytes old) × (IsCommented additions how scope own path bytes old new ⊎ IsAccompanied additions how scope own path bytes old new))
+      ⊎ (¬ (IsSkipped scope own path bytes old)
+      × (IsCommented additions how scope own path bytes old new
+      ⊎ IsAccompanied additions how scope own path bytes old new))
 
 -- ---- the tree
 
--- by the tree's own names each file that is gone through is annotated, and each path holds what it held that is none of these nor a
--- neighbour of one
+-- by the tree's own names each file that is gone through is annotated, and each path holds what it held that is none of
+-- these nor a neighbour of one
 pub record Annotates (places : List Place) (additions : Additions) (how : How) (scope : Scope) (before after : Files) : Type 0 where
   pub own : OwnNames
   pub styles : styles_in before ≡ Ok own
-  pub selected : (path : List ℕ) → Contains (selected_paths scope places before) path → IsAnnotated additions how scope own path (pair_at before path) (pair_at after path)
-  pub others : (other : List ℕ) → ((path : List ℕ) → Contains (selected_paths scope places before) path → (other ≢ path) × (other ≢ neighbour_of path))
+  pub selected : (path : List ℕ) → Contains (selected_paths scope places before) path
+      → IsAnnotated additions how scope own path (pair_at before path) (pair_at after path)
+  pub others : (other : List ℕ)
+      → ((path : List ℕ) → Contains (selected_paths scope places before) path → (other ≢ path)
+      × (other ≢ neighbour_of path))
       → get after other ≡ get before other
 
 -- what is at a path stays, or it is a file of text then
 abbrev pub StaysOrIsText : Files → Files → List ℕ → Type 0
-StaysOrIsText before after path = (get after path ≡ get before path) ⊎ ((bytes : List ℕ) × (get after path ≡ Some bytes) × (is_text bytes ≡ true))
+StaysOrIsText before after path =
+    (get after path ≡ get before path) ⊎ ((bytes : List ℕ) × (get after path ≡ Some bytes) × (is_text bytes ≡ true))

@@ -40,7 +40,8 @@ place_by asked path bytes = target_by_bytes asked.scope.now (own_of asked) path 
 
 -- where this is the place
 abbrev pub edit_by_place : Annotation → Files → List ℕ → List ℕ → Result Target Refusal → Result (Option Edit) Refusal
-edit_by_place asked tree path bytes place = edit_target asked.how.now asked.scope.now asked.additions.now tree path bytes place
+edit_by_place asked tree path bytes place =
+    edit_target asked.how.now asked.scope.now asked.additions.now tree path bytes place
 
 -- ---- path by path
 

@@ -20,7 +20,8 @@ toml_path = codes "REUSE.toml"
 -- the dep5 is removed and the text made, unless the dep5 is refused or the text's file clashes
 abbrev pub replaced_by : Files → List ℕ → Result (List ℕ) Dep5Refusal → Result (List Edit) Refusal
 replaced_by tree bytes (Err refusal) = Err (Dep5 refusal)
-replaced_by tree bytes (Ok text) = if is_clash tree toml_path then Err (Clash toml_path) else Ok (dropped dep5_path bytes ∷ made toml_path text ∷ [])
+replaced_by tree bytes (Ok text) =
+    if is_clash tree toml_path then Err (Clash toml_path) else Ok (dropped dep5_path bytes ∷ made toml_path text ∷ [])
 
 -- what is done where the tree has this at `.reuse/dep5`
 abbrev pub conversion_where : Files → Option (List ℕ) → Result (List Edit) Refusal

@@ -9,7 +9,8 @@ last_part path = after_last (λ byte. byte == 47) path
 
 -- the path is the folder's, or goes on by a slash
 abbrev pub is_in : List ℕ → List ℕ → Bool
-is_in folder path = starts_with nat_eq path folder && (length path == length folder || slice_index path (length folder) == 47)
+is_in folder path =
+    starts_with nat_eq path folder && (length path == length folder || slice_index path (length folder) == 47)
 
 -- the first part of the path is one whose files are not covered
 abbrev pub is_outside : List ℕ → Bool

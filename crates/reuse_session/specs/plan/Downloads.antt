@@ -48,7 +48,8 @@ unless_refused None edits = Ok edits
 
 -- the first refusal of some ids, or else the files of all, in byte order
 abbrev pub download_of : List (List ℕ) → List LicenceText → Files → Result (List Edit) Refusal
-download_of ids texts tree = unless_refused (ids_refusal tree texts ids) (map (licence_edit texts) (set_of (map licence_path ids)))
+download_of ids texts tree =
+    unless_refused (ids_refusal tree texts ids) (map (licence_edit texts) (set_of (map licence_path ids)))
 
 -- the ids are gone through in byte order, without repeats
 abbrev pub download_edits : List (List ℕ) → List LicenceText → Files → Result (List Edit) Refusal
@@ -67,4 +68,5 @@ or_else (first ∷ rest) others = first ∷ rest
 
 -- all refusals, one for each id, or what is done at each path
 abbrev pub downloads_at : List (List ℕ) → List LicenceText → Files → List PathEdit
-downloads_at ids texts tree = or_else (id_refusals tree texts (set_of ids)) (all_or_none (download_edits ids texts tree))
+downloads_at ids texts tree =
+    or_else (id_refusals tree texts (set_of ids)) (all_or_none (download_edits ids texts tree))

@@ -57,8 +57,8 @@ edit_count (Ok edits) = length edits
 
 -- ---- commands, path by path
 
--- one for each path that is gone through, in byte order, without repeats; the root stands alone where folders aren't gone through, since it
--- is one
+-- one for each path that is gone through, in byte order, without repeats; the root stands alone where folders aren't
+-- gone through, since it is one
 abbrev pub at_places : (List ℕ → PathEdit) → Scope → List Place → Files → List PathEdit
 at_places at scope places tree =
     if not scope.recursive && has_root places then refused_alone (IsFolder place.Root) else map at (selected_paths scope places tree)
@@ -71,20 +71,25 @@ annotation_at how scope additions own tree path =
 -- at these places; the refusal of the tree's styles stands alone
 abbrev pub annotations_by : List Place → Additions → How → Scope → Files → Result OwnNames Refusal → List PathEdit
 annotations_by places additions how scope tree (Err refusal) = refused_alone refusal
-annotations_by places additions how scope tree (Ok own) = at_places (annotation_at how scope additions own tree) scope places tree
+annotations_by places additions how scope tree (Ok own) =
+    at_places (annotation_at how scope additions own tree) scope places tree
 
 -- what amend does at a path: it skips none
 abbrev pub amendment_at : Amendments → Scope → OwnNames → Files → List ℕ → PathEdit
-amendment_at amendments scope own tree path = record { path = path; skipped = false; edit = amended_at amendments scope own tree path }
+amendment_at amendments scope own tree path =
+    record { path = path; skipped = false; edit = amended_at amendments scope own tree path }
 
 abbrev pub amendments_by : List Place → Amendments → Scope → Files → Result OwnNames Refusal → List PathEdit
 amendments_by places amendments scope tree (Err refusal) = refused_alone refusal
-amendments_by places amendments scope tree (Ok own) = at_places (amendment_at amendments scope own tree) scope places tree
+amendments_by places amendments scope tree (Ok own) =
+    at_places (amendment_at amendments scope own tree) scope places tree
 
 -- what a command does, path by path
 abbrev pub path_edits_of : Command → Files → List PathEdit
-path_edits_of (Annotate places additions how scope) tree = annotations_by places additions how scope tree (styles_in tree)
-path_edits_of (Amend places amendments scope) tree = amendments_by (with_table scope places tree) amendments scope tree (styles_in tree)
+path_edits_of (Annotate places additions how scope) tree =
+    annotations_by places additions how scope tree (styles_in tree)
+path_edits_of (Amend places amendments scope) tree =
+    amendments_by (with_table scope places tree) amendments scope tree (styles_in tree)
 path_edits_of ConvertDep5 tree = all_or_none (conversion_edits tree)
 path_edits_of (Download ids texts) tree = downloads_at ids texts tree
 path_edits_of (Revert changes touched skip_moved) tree = map (reverted_at touched skip_moved tree) changes

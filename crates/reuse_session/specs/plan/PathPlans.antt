@@ -23,7 +23,8 @@ use Rattle.reuse_session.specs.declared.reply.Refusal.TheVariants.{TooMany}
 
 -- the plan is of what is done at the path; a walk that ends at the first refusal has no plan of one
 abbrev pub IsPlanOf : Policy → Files → PathEdit → PathPlan → Type 0
-IsPlanOf policy tree here (plan.Change change) = (edit : Edit) × (here.edit ≡ Ok (Some edit)) × CarriesOutEdit tree change edit
+IsPlanOf policy tree here (plan.Change change) =
+    (edit : Edit) × (here.edit ≡ Ok (Some edit)) × CarriesOutEdit tree change edit
 IsPlanOf policy tree here (plan.Unchanged path) = (path ≡ here.path) × (here.edit ≡ Ok None) × (here.skipped ≡ false)
 IsPlanOf policy tree here (plan.Skipped path) = (path ≡ here.path) × (here.edit ≡ Ok None) × (here.skipped ≡ true)
 IsPlanOf policy tree here (plan.Refused refusal) = (here.edit ≡ Err refusal) × IsTold refusal × (policy ≡ Collect)
@@ -75,4 +76,5 @@ are_too_many changes = nat_lt 100_000 (length changes) || nat_lt 268_435_456 (en
 
 -- where nothing is refused, that the changes are too many together
 abbrev pub limit_planned : Bool → List Change → List PathOutcome
-limit_planned is_refused changes = if not is_refused && are_too_many changes then path_outcome.Refused TooMany ∷ [] else []
+limit_planned is_refused changes =
+    if not is_refused && are_too_many changes then path_outcome.Refused TooMany ∷ [] else []

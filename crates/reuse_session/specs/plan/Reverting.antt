@@ -33,10 +33,11 @@ has_digest file (Some seal) = bytes_eq (sha256 file) seal.after
 abbrev pub is_as_left : List ℕ → ℕ → List ℕ → ℕ → Option Seal → Bool
 is_as_left file at new rest seal = nat_eq (length file - at - length new) rest && has_digest file seal
 
--- Whether new bytes that stand at the place are those that a step wrote. Where the old bytes begin with them, as where bytes were only taken away, the
--- place alone doesn't tell: then the file must be as the step left it.
+-- Whether new bytes that stand at the place are those that a step wrote. Where the old bytes begin with them, as where
+-- bytes were only taken away, the place alone doesn't tell: then the file must be as the step left it.
 abbrev pub stands_as_written : List ℕ → ℕ → (old new : List ℕ) → ℕ → Option Seal → Bool
-stands_as_written file at old new rest seal = stands_at file new at && (not (starts_with nat_eq old new) || is_as_left file at new rest seal)
+stands_as_written file at old new rest seal =
+    stands_at file new at && (not (starts_with nat_eq old new) || is_as_left file at new rest seal)
 
 -- no file of a step is longer
 abbrev pub is_short : List ℕ → Bool
@@ -44,10 +45,12 @@ is_short file = nat_le (length file) LONGEST_FILE
 
 -- of a file that was edited, the new bytes give way to the old ones
 abbrev pub put_back : List ℕ → List ℕ → ℕ → (old new : List ℕ) → Edit
-put_back path file at old new = record { path = path; removed = new; written = old; file = Some (spliced file at (length new) old) }
+put_back path file at old new =
+    record { path = path; removed = new; written = old; file = Some (spliced file at (length new) old) }
 
--- What takes a change back where its path holds this, if it can be taken back: the file that was made goes, if it is as it was made; one that was
--- removed is made again where nothing is; and new bytes that stand at their place as they were written give way to the old ones, whatever follows them.
+-- What takes a change back where its path holds this, if it can be taken back: the file that was made goes, if it is as
+-- it was made; one that was removed is made again where nothing is; and new bytes that stand at their place as they
+-- were written give way to the old ones, whatever follows them.
 abbrev pub taken_back : Change → Option (List ℕ) → Option Edit
 taken_back (Make path new after) None = None
 taken_back (Make path new after) (Some file) = if bytes_eq file new then Some (dropped path new) else None
@@ -61,7 +64,8 @@ taken_back (Splice path at old new rest seal) (Some file) =
 abbrev pub taken_back_on : Files → Change → Option Edit
 taken_back_on tree change = if makes Backward change && is_clash tree (path_of change) then None else taken_back change (get tree (path_of change))
 
--- the same where later steps touched these paths: what they hold is those steps', and nothing takes a change of them back
+-- the same where later steps touched these paths: what they hold is those steps', and nothing takes a change of them
+-- back
 abbrev pub taken_back_unless : List (List ℕ) → Files → Change → Option Edit
 taken_back_unless touched tree change = if is_among touched (path_of change) then None else taken_back_on tree change
 

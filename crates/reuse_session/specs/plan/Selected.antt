@@ -20,18 +20,21 @@ expanded scope tree (Path path) = if is_folder tree path then filter (is_chosen 
 
 -- in byte order, without repeats; folders are gone through where that is asked for
 abbrev pub selected_paths : Scope → List Place → Files → List (List ℕ)
-selected_paths scope places tree = set_of (if scope.recursive then flat_map (expanded scope tree) places else paths_among places)
+selected_paths scope places tree =
+    set_of (if scope.recursive then flat_map (expanded scope tree) places else paths_among places)
 
 -- ---- amend alone
 
--- the `REUSE.toml` is asked for where it is there: the root is gone through, it is listed, where there is a list, and no glob that is
--- excluded matches it
+-- the `REUSE.toml` is asked for where it is there: the root is gone through, it is listed, where there is a list, and
+-- no glob that is excluded matches it
 abbrev pub asks_for_table : Scope → List Place → Bool
-asks_for_table scope places = scope.recursive && has_root places && is_listed scope.listed toml_path && not (matches_one scope.excluded toml_path)
+asks_for_table scope places =
+    scope.recursive && has_root places && is_listed scope.listed toml_path && not (matches_one scope.excluded toml_path)
 
 -- the places of an amendment: the `REUSE.toml` is one of them where it is there and asked for
 abbrev pub with_table : Scope → List Place → Files → List Place
-with_table scope places tree = if asks_for_table scope places && is_some (get tree toml_path) then Path toml_path ∷ places else places
+with_table scope places tree =
+    if asks_for_table scope places && is_some (get tree toml_path) then Path toml_path ∷ places else places
 
 -- the paths that amend goes through
 abbrev pub amended_paths : Scope → List Place → Files → List (List ℕ)

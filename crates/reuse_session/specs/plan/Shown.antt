@@ -16,7 +16,8 @@ use Rattle.reuse_session.specs.declared.command.Scope.{Scope}
 use Rattle.reuse_session.specs.declared.plan.select.Listing.{Listing}
 use Rattle.reuse_session.specs.declared.plan.select.Listing.TheVariants.{Listed, Alone}
 
--- these paths, which are in byte order, have the path exactly if the tree has it, and it clashes with them exactly if it does with the tree
+-- these paths, which are in byte order, have the path exactly if the tree has it, and it clashes with them exactly if
+-- it does with the tree
 pub record Shows (paths : List (List ℕ)) (tree : Files) (path : List ℕ) : Type 0 where
   pub ordered : ArePaths paths
   pub there : is_among paths path ≡ is_among (keys tree) path
@@ -26,8 +27,8 @@ pub record Shows (paths : List (List ℕ)) (tree : Files) (path : List ℕ) : Ty
 pub record ShowsLicences (paths : List (List ℕ)) (tree : Files) : Type 0 where
   pub each : (id : List ℕ) → Shows paths tree (licence_path id)
 
--- these paths, which are in byte order, have the path and its neighbour exactly if the tree has them; where it lacks the path, that is a
--- folder of these exactly if it is one of the tree
+-- these paths, which are in byte order, have the path and its neighbour exactly if the tree has them; where it lacks
+-- the path, that is a folder of these exactly if it is one of the tree
 pub record ShowsPair (paths : List (List ℕ)) (tree : Files) (path : List ℕ) : Type 0 where
   pub ordered : ArePaths paths
   pub there : is_among paths path ≡ is_among (keys tree) path
@@ -51,7 +52,8 @@ neighbours_of path = if nat_lt 4096 (length (neighbour_of path)) then [] else ne
 abbrev pub with_neighbours : List (List ℕ) → List (List ℕ)
 with_neighbours paths = flat_map (λ path. path ∷ neighbours_of path) paths
 
--- the folders that are listed for these places, among which these paths are given: the whole tree where the root is one of the places
+-- the folders that are listed for these places, among which these paths are given: the whole tree where the root is one
+-- of the places
 abbrev pub folders_for : List Place → List (List ℕ) → List (List ℕ)
 folders_for places given = if has_root places then [] else with_neighbours given
 

@@ -15,8 +15,8 @@ abbrev pub has_tagged : Option (List ℕ) → Bool
 has_tagged None = false
 has_tagged (Some bytes) = neighbour_is_tagged bytes
 
--- whether a file of these bytes is skipped, whose licensing information goes there: its name has no style and such files are skipped,
--- or the place has licensing information and such files are skipped
+-- whether a file of these bytes is skipped, whose licensing information goes there: its name has no style and such
+-- files are skipped, or the place has licensing information and such files are skipped
 abbrev pub is_skipped_at : Scope → Files → List ℕ → List ℕ → Result Target Refusal → Bool
 is_skipped_at scope tree path bytes (Err refusal) = false
 is_skipped_at scope tree path bytes (Ok Nowhere) = true
@@ -25,7 +25,8 @@ is_skipped_at scope tree path bytes (Ok (Inside style)) = scope.skip_existing &&
 
 abbrev pub is_skipped_where : Scope → OwnNames → Files → List ℕ → Option (List ℕ) → Bool
 is_skipped_where scope own tree path None = false
-is_skipped_where scope own tree path (Some bytes) = is_skipped_at scope tree path bytes (target_of scope own tree path bytes)
+is_skipped_where scope own tree path (Some bytes) =
+    is_skipped_at scope tree path bytes (target_of scope own tree path bytes)
 
 abbrev pub is_skipped : Scope → OwnNames → Files → List ℕ → Bool
 is_skipped scope own tree path = is_skipped_where scope own tree path (get tree path)

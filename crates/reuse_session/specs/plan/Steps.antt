@@ -20,9 +20,11 @@ short_file path bytes = if nat_lt LONGEST_FILE (length bytes) then Err (TooLong 
 
 -- what is done at the path, a refusal, or that the neighbour is the place
 abbrev pub StepsTo : Annotation → Files → List ℕ → List ℕ → Result Step Refusal → Type 0
-StepsTo asked tree path bytes (Ok (Done plan)) = IsPlanOf Stop tree (path_by_place asked tree path bytes (place_by asked path bytes)) plan
+StepsTo asked tree path bytes (Ok (Done plan)) =
+    IsPlanOf Stop tree (path_by_place asked tree path bytes (place_by asked path bytes)) plan
 StepsTo asked tree path bytes (Ok Beside) = place_by asked path bytes ≡ Ok target.Beside
-StepsTo asked tree path bytes (Err refusal) = IsRefusalOf (edit_by_place asked tree path bytes (place_by asked path bytes)) refusal
+StepsTo asked tree path bytes (Err refusal) =
+    IsRefusalOf (edit_by_place asked tree path bytes (place_by asked path bytes)) refusal
 
 -- what is done there, or a refusal
 abbrev pub StepsBy : Files → PathEdit → Result Step Refusal → Type 0

@@ -5,7 +5,8 @@ use Rattle.reuse_dep5.specs.Conversion.{converted}
 use Rattle.reuse_tree.specs.Files.{Files}
 use Rattle.reuse_session.specs.plan.Conversion.{dep5_path, toml_path}
 
--- `.reuse/dep5` was there and is gone, `REUSE.toml` wasn't and holds the text that the dep5 is converted to, and no other path differs
+-- `.reuse/dep5` was there and is gone, `REUSE.toml` wasn't and holds the text that the dep5 is converted to, and no
+-- other path differs
 pub record PutsTable (before after : Files) : Type 0 where
   pub dep5 : List ℕ
   pub was : get before dep5_path ≡ Some dep5

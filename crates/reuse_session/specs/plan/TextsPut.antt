@@ -12,4 +12,5 @@ pub record PutsTexts (ids : List (List ℕ)) (texts : List LicenceText) (before 
   pub found : (id : List ℕ) → Contains ids id → IsSome (text_for texts id)
   pub absent : (id : List ℕ) → Contains ids id → get before (licence_path id) ≡ None
   pub put : (id : List ℕ) → Contains ids id → get after (licence_path id) ≡ text_for texts id
-  pub others : (path : List ℕ) → ((id : List ℕ) → Contains ids id → path ≢ licence_path id) → get after path ≡ get before path
+  pub others : (path : List ℕ) → ((id : List ℕ) → Contains ids id → path ≢ licence_path id)
+      → get after path ≡ get before path

@@ -31,7 +31,8 @@ styles_read (Err refusal) = Err (styles_refusal refusal)
 -- by the file, where there is one
 abbrev pub styles_where : Option (List ℕ) → Result OwnNames Refusal
 styles_where None = styles_read (styles_of None)
-styles_where (Some bytes) = if nat_lt LONGEST_FILE (length bytes) then Err (TooLong styles_path) else styles_read (styles_of (Some bytes))
+styles_where (Some bytes) =
+    if nat_lt LONGEST_FILE (length bytes) then Err (TooLong styles_path) else styles_read (styles_of (Some bytes))
 
 abbrev pub styles_in : Files → Result OwnNames Refusal
 styles_in tree = styles_where (get tree styles_path)

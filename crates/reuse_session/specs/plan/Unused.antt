@@ -1,5 +1,5 @@
--- What of a command's choice of the files beneath folders came to nothing: globs that left nothing out, and listed paths that are no
--- covered file beneath a place.
+-- What of a command's choice of the files beneath folders came to nothing: globs that left nothing out, and listed
+-- paths that are no covered file beneath a place.
 use Rattle.std.specs.Prelude.{◌≡◌, ℕ, Bool, true, false, not, ◌&&◌, ◌||◌, List, [], filter, length, map, Option, Some, None, Result, Ok, Err}
 use Rattle.std.specs.List.{list_any}
 use Rattle.reuse_dep5.specs.declared.glob.GlobPiece.{GlobPiece}
@@ -23,7 +23,8 @@ use Rattle.reuse_session.specs.declared.plan.unused.Unused.{Unused}
 
 -- the glob left the file out: it matches a file that is covered and listed, and isn't selected
 abbrev pub is_left_out_by : Scope → List (List ℕ) → List GlobPiece → List ℕ → Bool
-is_left_out_by scope selected glob path = leaves_out glob path && is_covered path && is_listed scope.listed path && not (is_among selected path)
+is_left_out_by scope selected glob path =
+    leaves_out glob path && is_covered path && is_listed scope.listed path && not (is_among selected path)
 
 -- it left none of the files out that were found
 abbrev pub leaves_none_out : Scope → List (List ℕ) → List (List ℕ) → List GlobPiece → Bool
@@ -50,7 +51,8 @@ found_paths scope places tree = listed_paths tree (folders_for places (set_of (p
 
 -- where folders are gone through
 abbrev pub AreUnusedWhere : Bool → Scope → List Place → Files → Unused → Type 0
-AreUnusedWhere true scope places tree unused = AreUnused scope (selected_paths scope places tree) (found_paths scope places tree) unused
+AreUnusedWhere true scope places tree unused =
+    AreUnused scope (selected_paths scope places tree) (found_paths scope places tree) unused
 AreUnusedWhere false scope places tree unused = (unused.names ≡ 0) × (unused.globs.items ≡ [])
 
 abbrev pub AreUnusedAt : Scope → List Place → Files → Unused → Type 0
@@ -64,5 +66,6 @@ AreUnusedIf (Err refusal) scope places tree unused = Unit {0}
 -- by a command that chooses files
 abbrev pub AreUnusedBy : Command → Files → Unused → Type 0
 AreUnusedBy (Annotate places additions how scope) tree unused = AreUnusedIf (styles_in tree) scope places tree unused
-AreUnusedBy (Amend places amendments scope) tree unused = AreUnusedIf (styles_in tree) scope (with_table scope places tree) tree unused
+AreUnusedBy (Amend places amendments scope) tree unused =
+    AreUnusedIf (styles_in tree) scope (with_table scope places tree) tree unused
 AreUnusedBy command tree unused = Unit {0}

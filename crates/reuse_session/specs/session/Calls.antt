@@ -44,7 +44,8 @@ pub record IsCall {A S : Type 0} (store : Ghosts S) (result : Result A Refusal) 
 pub record LeavesReplay {S : Type 0} (store : Ghosts S) (direction : Direction) (result : Result Response Refusal) (old new : Session S) : Type 0 where
   -- a refusal before the step is pending has only read
   pub early : IfErr result (λ refusal. IsEarly refusal → OnlyReads store (store_of old) (store_of new))
-  -- where it stops later something was put, and the files are in doubt between the standing before the call and that after it
+  -- where it stops later something was put, and the files are in doubt between the standing before the call and that
+  -- after it
   pub doubt : store.honest (store_of new) → (held : State) → StandsOn store.files old held
       → IfErr result (λ refusal. IsStop refusal → StopsAfter (listed_direction direction) held (files_of store new))
   pub late : IfErr result (λ refusal. IsStop refusal → store.written (store_of old) < store.written (store_of new))
@@ -57,42 +58,51 @@ pub record LeavesReplay {S : Type 0} (store : Ghosts S) (direction : Direction) 
   -- and at most one put or removal is asked for beside them for each change of the step
   pub mutations : store.honest (store_of new) → (held : State) → StandsOn store.files old held
       → store.mutations (store_of new) ≤ store.mutations (store_of old) + next_count (ahead direction held.journal) + 2
-  -- a clash is told only where the head's path clashes, and as a stop, since nothing is put before the head; and nothing stops since
-  -- a file has moved; where no path of a file of the journal is a folder, none becomes one
+  -- a clash is told only where the head's path clashes, and as a stop, since nothing is put before the head; and
+  -- nothing stops since a file has moved; where no path of a file of the journal is a folder, none becomes one
   pub clash : store.honest (store_of new) → IfErr result (HasClash ⊥ (Clashes (files_of store old) head_path))
   pub free : store.honest (store_of new) → IsFree (folder_of store old) → IsFree (folder_of store new)
 
 -- What a run leaves. It puts nothing in the journal but the next entry and heads.
 pub record LeavesRun {S : Type 0} (store : Ghosts S) (command : Command) (when : ℕ) (result : Result Response Refusal) (old new : Session S) : Type 0 where
   -- a refusal before the step is pending changes nothing but the file of the next entry, which no head lists
-  pub unchanged : store.honest (store_of new) → IfErr result (λ refusal. IsEarly refusal → IsSameBut (next_path old) (files_of store old) (files_of store new))
-  pub stands : store.honest (store_of new) → (held : State) → StandsOn store.files old held → IfErr result (λ refusal. IsEarly refusal → StandsOn store.files new held)
+  pub unchanged : store.honest (store_of new)
+      → IfErr result (λ refusal. IsEarly refusal → IsSameBut (next_path old) (files_of store old) (files_of store new))
+  pub stands : store.honest (store_of new) → (held : State) → StandsOn store.files old held
+      → IfErr result (λ refusal. IsEarly refusal → StandsOn store.files new held)
   pub early : store.honest (store_of new) → (held : State) → StandsOn store.files old held
-      → IfErr result (λ refusal. IsEarly refusal → store.written (store_of new) ≤ store.written (store_of old) + recorded_size (edits_of command held.tree))
-  -- where it stops later more than the entry's text was put, and the files are in doubt between the standing before the run and that
-  -- after it
+      → IfErr result (λ refusal. IsEarly refusal
+      → store.written (store_of new) ≤ store.written (store_of old) + recorded_size (edits_of command held.tree))
+  -- where it stops later more than the entry's text was put, and the files are in doubt between the standing before the
+  -- run and that after it
   pub doubt : store.honest (store_of new) → (held : State) → StandsOn store.files old held
       → IfErr result (λ refusal. IsStop refusal → StopsAfterRun command when held (files_of store new))
   pub late : store.honest (store_of new) → IfErr result (λ refusal. IsStop refusal
       → (entry : Entry) × IsRecordOf command when (tree_of (files_of store old)) entry
       × (store.written (store_of old) + length (entry_text entry) < store.written (store_of new)))
-  -- of the journal's files none but the next entry's and the head's holds something else; after a step they are the very texts of the
-  -- entry, which records what the command changed and takes no more than that counts for, and of the head
-  pub folder : store.honest (store_of new) → IsSameButTwo (next_path old) head_path (folder_of store old) (folder_of store new)
+  -- of the journal's files none but the next entry's and the head's holds something else; after a step they are the
+  -- very texts of the entry, which records what the command changed and takes no more than that counts for, and of the
+  -- head
+  pub folder : store.honest (store_of new)
+      → IsSameButTwo (next_path old) head_path (folder_of store old) (folder_of store new)
   pub texts : store.honest (store_of new) → (paths : List (List ℕ)) → result ≡ Ok (Changed paths)
       → HasHeadText (memory_of new) (files_of store new)
-      × ((entry : Entry) × IsRecordOf command when (tree_of (files_of store old)) entry × HasEntryText ((memory_of old).used + 1) entry (files_of store new)
+      × ((entry : Entry) × IsRecordOf command when (tree_of (files_of store old)) entry
+      × HasEntryText ((memory_of old).used + 1) entry (files_of store new)
       × (length (entry_text entry) ≤ recorded_size (edits_of command (tree_of (files_of store old)))))
-  -- they take at most the entry, which holds what the command removes and writes, and two heads: one of the entries that are listed
-  -- before, and one of those done and the new one
+  -- they take at most the entry, which holds what the command removes and writes, and two heads: one of the entries
+  -- that are listed before, and one of those done and the new one
   pub written : store.honest (store_of new) → (held : State) → StandsOn store.files old held
       → store.written (store_of new) ≤ store.written (store_of old) + recorded_size (edits_of command held.tree)
       + head_room (listed_count (memory_of old)) + head_room (length (memory_of old).done + 1)
-  -- and at most one put or removal is asked for beside these three for each file that the command changes; before the step is pending
-  -- at most the entry's
+  -- and at most one put or removal is asked for beside these three for each file that the command changes; before the
+  -- step is pending at most the entry's
   pub mutations : store.honest (store_of new) → store.mutations (store_of new) ≤ store.mutations (store_of old) + edit_count (edits_of command (tree_of (files_of store old))) + 3
-  pub begins : IfErr result (λ refusal. IsEarly refusal → store.mutations (store_of new) ≤ store.mutations (store_of old) + 1)
-  -- a clash is told only where the path that is put clashes: the next entry's before the step is pending, and the head's from then
-  -- on; and nothing stops since a file has moved; where no path of a file of the journal is a folder, none becomes one
-  pub clash : store.honest (store_of new) → IfErr result (HasClash (Clashes (files_of store old) (next_path old)) (Clashes (files_of store old) head_path))
+  pub begins : IfErr result (λ refusal. IsEarly refusal
+      → store.mutations (store_of new) ≤ store.mutations (store_of old) + 1)
+  -- a clash is told only where the path that is put clashes: the next entry's before the step is pending, and the
+  -- head's from then on; and nothing stops since a file has moved; where no path of a file of the journal is a folder,
+  -- none becomes one
+  pub clash : store.honest (store_of new)
+      → IfErr result (HasClash (Clashes (files_of store old) (next_path old)) (Clashes (files_of store old) head_path))
   pub free : store.honest (store_of new) → IsFree (folder_of store old) → IsFree (folder_of store new)

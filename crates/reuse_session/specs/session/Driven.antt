@@ -38,10 +38,12 @@ abbrev pub IsSafelyAt : {S : Type 0} → Ghosts S → Driven S → Point → Typ
 IsSafelyAt store (Open session) point = (point ≡ open_at point.state) × StandsSafely store session point.state
 IsSafelyAt store (Closed new) point = (point.is_open ≡ false) × MayBeFound store new point.state point.next
 
--- What a request leaves of an open session that stood safely at the state. It stands safely there still, or at the model's next, or was stopped on
--- the way.
+-- What a request leaves of an open session that stood safely at the state. It stands safely there still, or at the
+-- model's next, or was stopped on the way.
 abbrev pub GoesSafely : {S : Type 0} → Ghosts S → Request → Result Response Refusal → Snapshots → Session S → Type 0
 GoesSafely store request (Err (Failed (Interrupted cause))) state new =
-    (given : Result Response Refusal) × (next : Snapshots) × Gives state request given next × MayBeFound store (store_of new) state (Some next)
+    (given : Result Response Refusal) × (next : Snapshots) × Gives state request given next
+    × MayBeFound store (store_of new) state (Some next)
 GoesSafely store request (Err (Failed failure)) state new = StandsSafely store new state
-GoesSafely store request answer state new = (next : Snapshots) × Gives state request answer next × StandsSafely store new next
+GoesSafely store request answer state new =
+    (next : Snapshots) × Gives state request answer next × StandsSafely store new next

@@ -61,10 +61,13 @@ journal_besides numbers journal = record { done = steps_besides numbers journal.
 abbrev pub state_besides : List ℕ → State → State
 state_besides numbers state = record { tree = state.tree; journal = journal_besides numbers state.journal }
 
--- what forgetting answers and leaves: each number is that of a step, and they are gone then; or the first that isn't is refused, and all stays
+-- what forgetting answers and leaves: each number is that of a step, and they are gone then; or the first that isn't is
+-- refused, and all stays
 abbrev pub Forgets : List ℕ → State → Result (List ℕ) Refusal → State → Type 0
-Forgets numbers old (Ok forgotten) new = (first_absent old.journal numbers ≡ None) × AreInOrder numbers forgotten × (new ≡ state_besides numbers old)
-Forgets numbers old (Err (refusals.NoSuchStep number)) new = (first_absent old.journal numbers ≡ Some number) × (new ≡ old)
+Forgets numbers old (Ok forgotten) new =
+    (first_absent old.journal numbers ≡ None) × AreInOrder numbers forgotten × (new ≡ state_besides numbers old)
+Forgets numbers old (Err (refusals.NoSuchStep number)) new =
+    (first_absent old.journal numbers ≡ Some number) × (new ≡ old)
 Forgets numbers old (Err refusal) new = ⊥
 
 -- ---- the machine
@@ -73,7 +76,8 @@ Forgets numbers old (Err refusal) new = ⊥
 pub record IsWithoutOldest (numbers : List ℕ) (state next : Snapshots) : Type 0 where
   pub oldest : List Kept
   pub past : state.past ≡ next.past ++ oldest
-  pub theirs : (number : ℕ) → Contains numbers number ↔ Contains (map (λ (kept : Kept). kept.label.number) oldest) number
+  pub theirs : (number : ℕ) → Contains numbers number
+      ↔ Contains (map (λ (kept : Kept). kept.label.number) oldest) number
   pub tree : next.tree ≡ state.tree
   pub future : next.future ≡ state.future
   pub used : next.used ≡ state.used
@@ -101,7 +105,8 @@ memory_besides numbers memory = record { done = entries_besides numbers memory.d
 
 -- the numbers of all entries
 abbrev pub all_numbers : Memory → List ℕ
-all_numbers memory = map (λ (entry : ListedEntry). entry.number) memory.done ++ map (λ (entry : ListedEntry). entry.number) memory.undone
+all_numbers memory =
+    map (λ (entry : ListedEntry). entry.number) memory.done ++ map (λ (entry : ListedEntry). entry.number) memory.undone
 
 -- ---- the files
 
@@ -115,11 +120,13 @@ AreGoneFromTheTop numbers before after =
     (low : List ℕ) × (high : List ℕ) × AreInOrder numbers (low ++ high)
     × AreGone high after × All (λ number. get after (entry_path number) ≡ get before (entry_path number)) low
 
--- of the journal's files none but the head holds something else, and those of the entries of these numbers hold what they did or are gone
+-- of the journal's files none but the head holds something else, and those of the entries of these numbers hold what
+-- they did or are gone
 abbrev pub IsSameButGone : List ℕ → (before after : Files) → Type 0
 IsSameButGone numbers before after =
     (path : List ℕ) → path ≢ head_path
-    → (get after path ≡ get before path) ⊎ ((number : ℕ) × Contains numbers number × (path ≡ entry_path number) × (get after path ≡ None))
+    → (get after path ≡ get before path)
+    ⊎ ((number : ℕ) × Contains numbers number × (path ≡ entry_path number) × (get after path ≡ None))
 
 -- ---- what a call leaves
 
@@ -137,35 +144,46 @@ pub record LeavesForgetting {S : Type 0} (store : Ghosts S) (numbers : List ℕ)
   pub tree : store.honest (store_of new) → tree_of (files_of store new) ≡ tree_of (files_of store old)
   pub folder : store.honest (store_of new) → IsSameButGone numbers (folder_of store old) (folder_of store new)
   -- behind it the head is the very text of what is remembered then, and the entries are gone
-  pub texts : store.honest (store_of new) → numbers ≢ [] → IfOk result (λ forgotten. HasHeadText (memory_of new) (files_of store new) × AreGone numbers (files_of store new))
-  -- Where it stops all files are as they were; or the head is put, and then the entries are gone from the highest number on. So the files are the
-  -- standing before the call or that after it.
+  pub texts : store.honest (store_of new) → numbers ≢ []
+      → IfOk result (λ forgotten. HasHeadText (memory_of new) (files_of store new)
+      × AreGone numbers (files_of store new))
+  -- Where it stops all files are as they were; or the head is put, and then the entries are gone from the highest
+  -- number on. So the files are the standing before the call or that after it.
   pub stops : store.honest (store_of new) → (held : State) → StandsOn store.files old held
       → IfErr result (λ refusal. IsStop refusal → (files_of store new ≡ files_of store old)
-      ⊎ (HasHeadText (memory_besides numbers (memory_of old)) (files_of store new) × AreGoneFromTheTop numbers (files_of store old) (files_of store new)))
+      ⊎ (HasHeadText (memory_besides numbers (memory_of old)) (files_of store new)
+      × AreGoneFromTheTop numbers (files_of store old) (files_of store new)))
   pub doubt : store.honest (store_of new) → (held : State) → StandsOn store.files old held
-      → IfErr result (λ refusal. IsStop refusal → IsStanding (files_of store new) held ⊎ IsStanding (files_of store new) (state_besides numbers held))
+      → IfErr result (λ refusal. IsStop refusal → IsStanding (files_of store new) held
+      ⊎ IsStanding (files_of store new) (state_besides numbers held))
   pub late : IfErr result (λ refusal. IsStop refusal → store.mutations (store_of old) < store.mutations (store_of new))
-  -- it takes at most a head of the entries that are left, and asks for one put, and for at most one removal for each number
+  -- it takes at most a head of the entries that are left, and asks for one put, and for at most one removal for each
+  -- number
   pub written : store.honest (store_of new) → (held : State) → StandsOn store.files old held
       → store.written (store_of new) ≤ store.written (store_of old) + head_room (listed_count (memory_besides numbers (memory_of old)))
   pub mutations : store.mutations (store_of new) ≤ store.mutations (store_of old) + 1 + length numbers
-  -- a clash is told only where the head's path clashes; where no path of a file of the journal is a folder, none becomes one
+  -- a clash is told only where the head's path clashes; where no path of a file of the journal is a folder, none
+  -- becomes one
   pub clash : store.honest (store_of new) → IfErr result (HasClash ⊥ (Clashes (files_of store old) head_path))
   pub free : store.honest (store_of new) → IsFree (folder_of store old) → IsFree (folder_of store new)
 
--- What a loss of power may leave after forgetting, of what was safe on the standing: behind it each is the standing without the steps; where it stops
--- each is that, or safe on the standing before it; and else all is as it was.
-abbrev pub SurvivesForgetting : {S : Type 0} → Ghosts S → List ℕ → (earlier held : State) → Result (List ℕ) Refusal → S → Type 0
+-- What a loss of power may leave after forgetting, of what was safe on the standing: behind it each is the standing
+-- without the steps; where it stops each is that, or safe on the standing before it; and else all is as it was.
+abbrev pub SurvivesForgetting : {S : Type 0} → Ghosts S → List ℕ → (earlier held : State) → Result (List ℕ) Refusal → S
+    → Type 0
 SurvivesForgetting store numbers earlier held (Ok []) new = AreSafeOn store earlier held new
-SurvivesForgetting store numbers earlier held (Ok (number ∷ more)) new = Leaves store new (λ left. IsStanding left (state_besides numbers held))
-SurvivesForgetting store numbers earlier held (Err (refusals.Failed (failures.Interrupted cause))) new = Leaves store new (λ left. IsSafeOn earlier held left ⊎ IsStanding left (state_besides numbers held))
+SurvivesForgetting store numbers earlier held (Ok (number ∷ more)) new =
+    Leaves store new (λ left. IsStanding left (state_besides numbers held))
+SurvivesForgetting store numbers earlier held (Err (refusals.Failed (failures.Interrupted cause))) new =
+    Leaves store new (λ left. IsSafeOn earlier held left ⊎ IsStanding left (state_besides numbers held))
 SurvivesForgetting store numbers earlier held (Err refusal) new = AreSafeOn store earlier held new
 
 -- so it is from whatever standing all that might be left before was safe on
-abbrev pub SurvivesToForget : {S : Type 0} → Ghosts S → List ℕ → Result (List ℕ) Refusal → Session S → Session S → Type 0
+abbrev pub SurvivesToForget : {S : Type 0} → Ghosts S → List ℕ → Result (List ℕ) Refusal → Session S → Session S
+    → Type 0
 SurvivesToForget store numbers result old new =
-    store.honest (store_of new) → (earlier held : State) → StandsOn store.files old held → AreSafeOn store earlier held (store_of old)
+    store.honest (store_of new) → (earlier held : State) → StandsOn store.files old held
+    → AreSafeOn store earlier held (store_of old)
     → SurvivesForgetting store numbers earlier held result (store_of new)
 
 -- ---- for private clauses
@@ -177,7 +195,8 @@ pub record Removes (paths : List (List ℕ)) (before after : Files) : Type 0 whe
 
 -- some of the paths hold nothing then, and each other path what it held
 abbrev pub RemovesSome : List (List ℕ) → (before after : Files) → Type 0
-RemovesSome paths before after = (some : List (List ℕ)) × ((path : List ℕ) → Contains some path → Contains paths path) × Removes some before after
+RemovesSome paths before after =
+    (some : List (List ℕ)) × ((path : List ℕ) → Contains some path → Contains paths path) × Removes some before after
 
 -- the path of the head has this text then, and after that these paths hold nothing; each other path holds what it held
 abbrev pub PutsAndRemoves : List ℕ → List (List ℕ) → (before after : Files) → Type 0
@@ -185,4 +204,5 @@ PutsAndRemoves text paths before after = (mid : Files) × Sets head_path (Some t
 
 -- or some of the paths
 abbrev pub PutsAndRemovesSome : List ℕ → List (List ℕ) → (before after : Files) → Type 0
-PutsAndRemovesSome text paths before after = (mid : Files) × Sets head_path (Some text) before mid × RemovesSome paths mid after
+PutsAndRemovesSome text paths before after =
+    (mid : Files) × Sets head_path (Some text) before mid × RemovesSome paths mid after

@@ -28,7 +28,8 @@ pub record Kept : Type 0 where
   pub label : Label
   pub tree : Files
 
--- the tree now, those before it (the newest first), those undone (the next to be redone first), and how many numbers are used
+-- the tree now, those before it (the newest first), those undone (the next to be redone first), and how many numbers
+-- are used
 pub record Snapshots : Type 0 where
   pub tree : Files
   pub past : List Kept
@@ -91,24 +92,29 @@ redone s (kept ∷ future) = (
 
 -- a row of the log
 abbrev pub row_of : Label → ℕ → Bool → Row
-row_of label count done = record { number = label.number; when = label.when; command = label.command; count = count; done = done }
+row_of label count done =
+    record { number = label.number; when = label.when; command = label.command; count = count; done = done }
 
--- the rows of the steps that led to the tree, the oldest first, each with the number of paths at which its two trees differ
+-- the rows of the steps that led to the tree, the oldest first, each with the number of paths at which its two trees
+-- differ
 abbrev pub rows_before : Files → List Kept → List Row
 rows_before tree [] = []
-rows_before tree (kept ∷ past) = rows_before kept.tree past ++ row_of kept.label (length (changed_paths kept.tree tree)) true ∷ []
+rows_before tree (kept ∷ past) =
+    rows_before kept.tree past ++ row_of kept.label (length (changed_paths kept.tree tree)) true ∷ []
 
 -- the rows of the steps that lead on from the tree, the next to be redone first
 abbrev pub rows_behind : Files → List Kept → List Row
 rows_behind tree [] = []
-rows_behind tree (kept ∷ future) = row_of kept.label (length (changed_paths tree kept.tree)) false ∷ rows_behind kept.tree future
+rows_behind tree (kept ∷ future) =
+    row_of kept.label (length (changed_paths tree kept.tree)) false ∷ rows_behind kept.tree future
 
 abbrev pub rows_of : Snapshots → List Row
 rows_of s = rows_before s.tree s.past ++ rows_behind s.tree s.future
 
 -- what a run of the command would do
 abbrev pub run_path_outcomes : Snapshots → Command → Result (List PathOutcome) Refusal
-run_path_outcomes s command = if is_full (length s.past) s.used then Err JournalFull else Ok (path_outcomes_of command s.tree)
+run_path_outcomes s command =
+    if is_full (length s.past) s.used then Err JournalFull else Ok (path_outcomes_of command s.tree)
 
 -- what an undo would do: each path at which the tree before differs would change
 abbrev pub undo_path_outcomes : Files → List Kept → Result (List PathOutcome) Refusal

@@ -1,5 +1,6 @@
--- What the model answers to a request, and the state in which it is then. What a step changed it tells by the trees before it and after it, so
--- that a show and a revert of a step go by some changes that lead from the one to the other; all else is one answer.
+-- What the model answers to a request, and the state in which it is then. What a step changed it tells by the trees
+-- before it and after it, so that a show and a revert of a step go by some changes that lead from the one to the other;
+-- all else is one answer.
 use Rattle.std.specs.Prelude.{◌≡◌, ◌⊎◌, ℕ, Bool, List, [], ◌∷◌, Result, Ok, Err}
 use Rattle.std.specs.List.{All}
 use Rattle.reuse_tree.specs.Entry.{paths_of}
@@ -36,16 +37,20 @@ IsUnkept number steps = All (λ (kept : Kept). ¬ (kept.label.number ≡ number)
 -- what is shown is a step of the model, or no step has the number
 abbrev pub ShowsBy : Snapshots → ℕ → Result Shown Refusal → Type 0
 ShowsBy state number (Ok shown) = ShowsAt state number shown
-ShowsBy state number (Err refusal) = (refusal ≡ NoSuchStep number) × IsUnkept number state.past × IsUnkept number state.future
+ShowsBy state number (Err refusal) =
+    (refusal ≡ NoSuchStep number) × IsUnkept number state.past × IsUnkept number state.future
 
 -- the command that takes these changes of the step of the number back, but where a later step changed the path
 abbrev pub command_back : Snapshots → ℕ → Bool → List Change → Command
-command_back state number skip_moved changes = Revert changes (changed_later number state.tree state.past changes) skip_moved
+command_back state number skip_moved changes =
+    Revert changes (changed_later number state.tree state.past changes) skip_moved
 
 -- how that run is answered: by the paths that changed, and the others of the step
 abbrev pub as_reverted : List Change → Result Response Refusal → Result Response Refusal
-as_reverted changes (Ok (replies.Changed paths)) = Ok (replies.Reverted (record { changed = paths; skipped = left_of (paths_of changes) paths }))
-as_reverted changes (Ok reply) = Ok (replies.Reverted (record { changed = []; skipped = left_of (paths_of changes) [] }))
+as_reverted changes (Ok (replies.Changed paths)) =
+    Ok (replies.Reverted (record { changed = paths; skipped = left_of (paths_of changes) paths }))
+as_reverted changes (Ok reply) =
+    Ok (replies.Reverted (record { changed = []; skipped = left_of (paths_of changes) [] }))
 as_reverted changes (Err refusal) = Err refusal
 
 -- a revert is the run that takes back what the step of the number changed, or no step that is done has the number
@@ -59,7 +64,8 @@ RevertsTo state number skip_moved when answer next =
 abbrev pub PreviewsBack : Snapshots → ℕ → Bool → Result (List PathOutcome) Refusal → Type 0
 PreviewsBack state number skip_moved answer =
     ((answer ≡ Err (NoSuchStep number)) × IsUnkept number state.past)
-    ⊎ ((changes : List Change) × LedTo number changes state.tree state.past × (answer ≡ run_path_outcomes state (command_back state number skip_moved changes)))
+    ⊎ ((changes : List Change) × LedTo number changes state.tree state.past
+    × (answer ≡ run_path_outcomes state (command_back state number skip_moved changes)))
 
 -- ---- requests
 
@@ -80,9 +86,11 @@ PreviewsTo state (calls.Revert number skip_moved) answer = PreviewsBack state nu
 -- asked this in the state, the model gives the answer and is in the next state then
 abbrev pub Gives : Snapshots → Request → Result Response Refusal → Snapshots → Type 0
 Gives state (requests.Make call when) answer next = MakesTo state call when answer next
-Gives state (requests.Preview call) answer next = (path_outcomes : Result (List PathOutcome) Refusal) × (answer ≡ replied replies.Preview path_outcomes) × PreviewsTo state call path_outcomes × (next ≡ state)
+Gives state (requests.Preview call) answer next = (path_outcomes : Result (List PathOutcome) Refusal)
+    × (answer ≡ replied replies.Preview path_outcomes) × PreviewsTo state call path_outcomes × (next ≡ state)
 Gives state requests.Log answer next = (answer ≡ Ok (replies.Log (rows_of state))) × (next ≡ state)
-Gives state (requests.Show number) answer next = (shown : Result Shown Refusal) × (answer ≡ replied replies.Shown shown) × ShowsBy state number shown × (next ≡ state)
+Gives state (requests.Show number) answer next = (shown : Result Shown Refusal) × (answer ≡ replied replies.Shown shown)
+    × ShowsBy state number shown × (next ≡ state)
 
 -- a request that the model answers by its trees alone: no step is named by its number
 abbrev pub IsByTrees : Request → Type 0
@@ -101,6 +109,7 @@ GivesEvent state events.Reopen answer next = (answer ≡ Ok replies.Opened) × (
 -- the model gives the answers to the events, one after the other, from the one state to the other
 abbrev pub AnswersAll : List Event → List (Result Response Refusal) → (state end : Snapshots) → Type 0
 AnswersAll [] [] state end = end ≡ state
-AnswersAll (event ∷ events) (answer ∷ answers) state end = (next : Snapshots) × GivesEvent state event answer next × AnswersAll events answers next end
+AnswersAll (event ∷ events) (answer ∷ answers) state end =
+    (next : Snapshots) × GivesEvent state event answer next × AnswersAll events answers next end
 AnswersAll [] (answer ∷ answers) state end = ⊥
 AnswersAll (event ∷ events) [] state end = ⊥

@@ -16,7 +16,8 @@ use Rattle.reuse_session.specs.declared.reply.Refusal.TheVariants.{Moved, TooMan
 
 -- ---- one path
 
--- by what is done at the path: the place that is written changes; where nothing is, the file is skipped or needs no change
+-- by what is done at the path: the place that is written changes; where nothing is, the file is skipped or needs no
+-- change
 abbrev pub path_outcome_by : List ℕ → Bool → Result (Option Edit) Refusal → PathOutcome
 path_outcome_by path skipped (Err refusal) = Refused refusal
 path_outcome_by path skipped (Ok (Some edit)) = Changes edit.path
@@ -34,7 +35,8 @@ limit_path_outcomes (Ok edits) = if is_too_many edits then Refused TooMany ∷ [
 
 -- what a run of a command would do, path by path
 unfoldable pub path_outcomes_of : Command → Files → List PathOutcome
-path_outcomes_of command tree = map path_outcome_of (path_edits_of command tree) ++ limit_path_outcomes (edits_of command tree)
+path_outcomes_of command tree =
+    map path_outcome_of (path_edits_of command tree) ++ limit_path_outcomes (edits_of command tree)
 
 -- the first refusal among path outcomes
 abbrev pub first_refusal : List PathOutcome → Option Refusal
@@ -47,12 +49,14 @@ first_refusal (path_outcome ∷ path_outcomes) = first_refusal path_outcomes
 -- gone through this way, the change can be made on the tree and its path changes, or it can't and is refused
 abbrev pub IsPathOutcomeOf : Direction → Files → Change → PathOutcome → Type 0
 IsPathOutcomeOf direction tree change (Changes path) = (path ≡ path_of change) × CanBeMade direction tree change
-IsPathOutcomeOf direction tree change (Refused (Moved path)) = (path ≡ path_of change) × ¬ (CanBeMade direction tree change)
+IsPathOutcomeOf direction tree change (Refused (Moved path)) =
+    (path ≡ path_of change) × ¬ (CanBeMade direction tree change)
 IsPathOutcomeOf direction tree change path_outcome = ⊥
 
 -- one path outcome for each change, in their order
 abbrev pub ArePathOutcomesOf : Direction → Files → List Change → List PathOutcome → Type 0
 ArePathOutcomesOf direction tree [] [] = Unit {0}
-ArePathOutcomesOf direction tree (change ∷ changes) (path_outcome ∷ path_outcomes) = IsPathOutcomeOf direction tree change path_outcome × ArePathOutcomesOf direction tree changes path_outcomes
+ArePathOutcomesOf direction tree (change ∷ changes) (path_outcome ∷ path_outcomes) =
+    IsPathOutcomeOf direction tree change path_outcome × ArePathOutcomesOf direction tree changes path_outcomes
 ArePathOutcomesOf direction tree [] (path_outcome ∷ path_outcomes) = ⊥
 ArePathOutcomesOf direction tree (change ∷ changes) [] = ⊥

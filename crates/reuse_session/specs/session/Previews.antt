@@ -19,7 +19,8 @@ use Rattle.reuse_session.specs.declared.session.Session.{Session}
 -- a preview of an undo or a redo: the path outcomes of the next step's changes, or that there is no step
 abbrev pub PreviewsReplay : Direction → List Recorded → Files → Result (List PathOutcome) Refusal → Type 0
 PreviewsReplay direction [] tree answer = answer ≡ Err (end_of direction)
-PreviewsReplay direction (step ∷ steps) tree (Ok path_outcomes) = ArePathOutcomesOf direction tree step.changes path_outcomes
+PreviewsReplay direction (step ∷ steps) tree (Ok path_outcomes) =
+    ArePathOutcomesOf direction tree step.changes path_outcomes
 PreviewsReplay direction (step ∷ steps) tree (Err refusal) = ⊥
 
 -- the path outcomes of what is previewed with its changes, as an answer

@@ -9,7 +9,8 @@ pub use Rattle.reuse_tree.specs.Store.{reading_of}
 pub use Rattle.reuse_session.specs.session.Answer.{IsOfPlan, RefusedAsRead}
 
 -- the store is read alone, and a refusal is one of these and tells of a fault as a reading does
-pub record ReadsAlone {S A : Type 0} (store : Ghosts S) (MayBe : Refusal → Type 0) (old new : S) (answer : Result A Refusal) : Type 0 where
+pub record ReadsAlone {S A : Type 0} (store : Ghosts S) (MayBe : Refusal
+    → Type 0) (old new : S) (answer : Result A Refusal) : Type 0 where
   pub reads : OnlyReads store old new
   pub fails : RefusedAsRead store old new answer
   pub kinds : IfErr answer MayBe

@@ -59,7 +59,8 @@ replied reply (Err refusal) = Err refusal
 
 -- ---- what is answered, and which committed state is left
 
--- a preview of a revert answers what a run would do that takes the changes of the step back, or that no such step is done
+-- a preview of a revert answers what a run would do that takes the changes of the step back, or that no such step is
+-- done
 abbrev pub PreviewsRevert : ℕ → Bool → State → Result (List PathOutcome) Refusal → Type 0
 PreviewsRevert number skip_moved old answer =
     ((answer ≡ Err (NoSuchStep number)) × IsUnused number old.journal.done)
@@ -78,14 +79,17 @@ Makes (calls.Run command) when old answer new = Runs command when old answer new
 Makes calls.Undo when old answer new = Undoes old.journal.done old answer new
 Makes calls.Redo when old answer new = Redoes old.journal.undone old answer new
 Makes (calls.Revert number skip_moved) when old answer new =
-    (reverted : Result Reverted Refusal) × (answer ≡ replied replies.Reverted reverted) × Reverts number skip_moved when old reverted new
+    (reverted : Result Reverted Refusal) × (answer ≡ replied replies.Reverted reverted)
+    × Reverts number skip_moved when old reverted new
 
 -- the same of a request; what only reads leaves the state
 abbrev pub LeadsTo : Request → State → Result Response Refusal → State → Type 0
 LeadsTo (requests.Make call when) old answer new = Makes call when old answer new
-LeadsTo (requests.Preview call) old answer new = (path_outcomes : Result (List PathOutcome) Refusal) × (answer ≡ replied replies.Preview path_outcomes) × Previews call old path_outcomes × (new ≡ old)
+LeadsTo (requests.Preview call) old answer new = (path_outcomes : Result (List PathOutcome) Refusal)
+    × (answer ≡ replied replies.Preview path_outcomes) × Previews call old path_outcomes × (new ≡ old)
 LeadsTo requests.Log old answer new = (answer ≡ Ok (replies.Log (rows_in old.journal))) × (new ≡ old)
-LeadsTo (requests.Show number) old answer new = (shown : Result Shown Refusal) × (answer ≡ replied replies.Shown shown) × ShowsIn old.journal number shown × (new ≡ old)
+LeadsTo (requests.Show number) old answer new = (shown : Result Shown Refusal) × (answer ≡ replied replies.Shown shown)
+    × ShowsIn old.journal number shown × (new ≡ old)
 
 -- ---- where it stops
 
@@ -107,28 +111,35 @@ IsStopped request old files = (new : State) × IsAfter request old new × InDoub
 
 -- What a request is answered and leaves. One that failed early leaves the state.
 abbrev pub Meets : Request → State → Result Response Refusal → Files → Type 0
-Meets request old (Err (Failed (Interrupted cause))) files = MayFail request (Interrupted cause) × IsStopped request old files
+Meets request old (Err (Failed (Interrupted cause))) files =
+    MayFail request (Interrupted cause) × IsStopped request old files
 Meets request old (Err (Failed failure)) files = MayFail request failure × IsStanding files old
 Meets request old answer files = (new : State) × LeadsTo request old answer new × IsStanding files new
 
 -- ---- what it leaves, whatever it answers
 
--- A clash that is told is that of the path that is put: of the next entry, which a run and a revert alone put, or of the head. What only reads
--- tells none.
+-- A clash that is told is that of the path that is put: of the next entry, which a run and a revert alone put, or of
+-- the head. What only reads tells none.
 abbrev pub HasCallClash : Request → State → Files → Refusal → Type 0
-HasCallClash (requests.Make (calls.Run command) when) old files = HasClash (Clashes files (entry_path (old.journal.used + 1))) (Clashes files head_path)
-HasCallClash (requests.Make (calls.Revert number skip_moved) when) old files = HasClash (Clashes files (entry_path (old.journal.used + 1))) (Clashes files head_path)
+HasCallClash (requests.Make (calls.Run command) when) old files =
+    HasClash (Clashes files (entry_path (old.journal.used + 1))) (Clashes files head_path)
+HasCallClash (requests.Make (calls.Revert number skip_moved) when) old files =
+    HasClash (Clashes files (entry_path (old.journal.used + 1))) (Clashes files head_path)
 HasCallClash (requests.Make calls.Undo when) old files = HasClash ⊥ (Clashes files head_path)
 HasCallClash (requests.Make calls.Redo when) old files = HasClash ⊥ (Clashes files head_path)
 HasCallClash request old files = IsNoClash
 
--- Of the journal's files none but these holds something else: a run and a revert put the next entry and the head, an undo and a redo the head.
--- What only reads leaves every file.
+-- Of the journal's files none but these holds something else: a run and a revert put the next entry and the head, an
+-- undo and a redo the head. What only reads leaves every file.
 abbrev pub KeepsFolder : Request → State → Files → Files → Type 0
-KeepsFolder (requests.Make (calls.Run command) when) old before after = IsSameButTwo (entry_path (old.journal.used + 1)) head_path (undo_folder_of before) (undo_folder_of after)
-KeepsFolder (requests.Make (calls.Revert number skip_moved) when) old before after = IsSameButTwo (entry_path (old.journal.used + 1)) head_path (undo_folder_of before) (undo_folder_of after)
-KeepsFolder (requests.Make calls.Undo when) old before after = IsSameBut head_path (undo_folder_of before) (undo_folder_of after)
-KeepsFolder (requests.Make calls.Redo when) old before after = IsSameBut head_path (undo_folder_of before) (undo_folder_of after)
+KeepsFolder (requests.Make (calls.Run command) when) old before after =
+    IsSameButTwo (entry_path (old.journal.used + 1)) head_path (undo_folder_of before) (undo_folder_of after)
+KeepsFolder (requests.Make (calls.Revert number skip_moved) when) old before after =
+    IsSameButTwo (entry_path (old.journal.used + 1)) head_path (undo_folder_of before) (undo_folder_of after)
+KeepsFolder (requests.Make calls.Undo when) old before after =
+    IsSameBut head_path (undo_folder_of before) (undo_folder_of after)
+KeepsFolder (requests.Make calls.Redo when) old before after =
+    IsSameBut head_path (undo_folder_of before) (undo_folder_of after)
 KeepsFolder request old before after = after ≡ before
 
 -- the answer as that of a run, by which paths changed
@@ -136,9 +147,12 @@ abbrev pub as_step : Result Response Refusal → Result Response Refusal
 as_step (Ok (replies.Reverted reverted)) = Ok (changed_or_none reverted.changed)
 as_step answer = answer
 
--- After a loss of power, at any moment of a call, what is left is the state before it or that after it. What only reads leaves what was safe.
-abbrev pub SurvivesRequest : {S : Type 0} → Ghosts S → Request → (earlier held : State) → Result Response Refusal → S → Type 0
-SurvivesRequest store (requests.Make call when) earlier held answer new = Survives store (IsAfterCall call when held) earlier held (as_step answer) new
+-- After a loss of power, at any moment of a call, what is left is the state before it or that after it. What only reads
+-- leaves what was safe.
+abbrev pub SurvivesRequest : {S : Type 0} → Ghosts S → Request → (earlier held : State) → Result Response Refusal → S
+    → Type 0
+SurvivesRequest store (requests.Make call when) earlier held answer new =
+    Survives store (IsAfterCall call when held) earlier held (as_step answer) new
 SurvivesRequest store request earlier held answer new = AreSafeOn store earlier held new
 
 -- how a session answers a request
@@ -149,23 +163,29 @@ pub record IsAnswered {S : Type 0} (store : Ghosts S) (request : Request) (answe
   pub exact : store.honest (store_of new) → (held : State) → StandsOn store.files old held
       → TellsNoFault answer → (left : State) × StandsOn store.files new left × LeadsTo request held answer left
   -- one that failed early, or was refused, leaves the state, and one that stopped files in doubt
-  pub stands : store.honest (store_of new) → (held : State) → StandsOn store.files old held → IfErr answer (λ refusal. IsEarly refusal → StandsOn store.files new held)
-  pub doubt : store.honest (store_of new) → (held : State) → StandsOn store.files old held → IfErr answer (λ refusal. IsStop refusal → IsStopped request held (files_of store new))
+  pub stands : store.honest (store_of new) → (held : State) → StandsOn store.files old held
+      → IfErr answer (λ refusal. IsEarly refusal → StandsOn store.files new held)
+  pub doubt : store.honest (store_of new) → (held : State) → StandsOn store.files old held
+      → IfErr answer (λ refusal. IsStop refusal → IsStopped request held (files_of store new))
   pub fails : IfErr answer (IfFailed (MayFail request))
   pub survives : store.honest (store_of new) → (earlier held : State) → StandsOn store.files old held
       → AreSafeOn store earlier held (store_of old) → SurvivesRequest store request earlier held answer (store_of new)
   -- what only reads reads alone
   pub reads_only : IsReading request → OnlyReads store (store_of old) (store_of new)
   pub kept : IsReading request → IsKept old new
-  pub clash : store.honest (store_of new) → (held : State) → StandsOn store.files old held → IfErr answer (HasCallClash request held (files_of store old))
+  pub clash : store.honest (store_of new) → (held : State) → StandsOn store.files old held
+      → IfErr answer (HasCallClash request held (files_of store old))
   -- where no path of a file of the journal is a folder, no clash is told, and none becomes one
-  pub unclashed : store.honest (store_of new) → (held : State) → StandsOn store.files old held → IsFree (folder_of store old) → IfErr answer IsNoClash
+  pub unclashed : store.honest (store_of new) → (held : State) → StandsOn store.files old held
+      → IsFree (folder_of store old) → IfErr answer IsNoClash
   pub free : store.honest (store_of new) → IsFree (folder_of store old) → IsFree (folder_of store new)
-  pub folder : store.honest (store_of new) → (held : State) → StandsOn store.files old held → KeepsFolder request held (files_of store old) (files_of store new)
+  pub folder : store.honest (store_of new) → (held : State) → StandsOn store.files old held
+      → KeepsFolder request held (files_of store old) (files_of store new)
   -- what any call leaves
   pub call : IsCall store answer old new
 
--- how a session is looked at: the store is read alone, what is remembered stays, and the call doesn't stop; a fault has its cause
+-- how a session is looked at: the store is read alone, what is remembered stays, and the call doesn't stop; a fault has
+-- its cause
 pub record ReadsOnlyWithCause {S A : Type 0} (store : Ghosts S) (answer : Result A Refusal) (old new : Session S) : Type 0 where
   pub reads : OnlyReads store (store_of old) (store_of new)
   pub kept : IsKept old new

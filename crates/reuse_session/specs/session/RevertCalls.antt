@@ -49,7 +49,8 @@ touched_by steps path = list_any (λ (step : Recorded). touches step.changes pat
 abbrev pub touched_later : ℕ → List Recorded → List Change → List (List ℕ)
 touched_later number done changes = filter (touched_by (done_after number done)) (paths_of changes)
 
--- the same by the machine: whether the trees before and after such a step differ at the path, of those that led to the tree
+-- the same by the machine: whether the trees before and after such a step differ at the path, of those that led to the
+-- tree
 abbrev pub differed_later : ℕ → Files → List Kept → List ℕ → Bool
 differed_later number tree [] path = false
 differed_later number tree (kept ∷ past) path =
@@ -58,7 +59,8 @@ differed_later number tree (kept ∷ past) path =
 abbrev pub changed_later : ℕ → Files → List Kept → List Change → List (List ℕ)
 changed_later number tree past changes = filter (differed_later number tree past) (paths_of changes)
 
--- what is taken is the changes of a step of the number that is done, and the late paths are those of it that later steps touched
+-- what is taken is the changes of a step of the number that is done, and the late paths are those of it that later
+-- steps touched
 pub record IsBackOf (number : ℕ) (journal : Journal) (taken : List Change) (late : List (List ℕ)) : Type 0 where
   pub step : Recorded
   pub is_done : Contains journal.done step
@@ -68,7 +70,8 @@ pub record IsBackOf (number : ℕ) (journal : Journal) (taken : List Change) (la
 
 -- ---- what a revert does
 
--- the state is that after a run which takes the changes of a step of the number back, but where a later step touched the path
+-- the state is that after a run which takes the changes of a step of the number back, but where a later step touched
+-- the path
 abbrev pub IsAfterRevert : ℕ → Bool → ℕ → State → State → Type 0
 IsAfterRevert number skip_moved when held next =
     (step : Recorded) × Contains held.journal.done step × (number_of step ≡ number)
@@ -78,8 +81,8 @@ IsAfterRevert number skip_moved when held next =
 abbrev pub left_of : List (List ℕ) → List (List ℕ) → List (List ℕ)
 left_of paths changed = filter (λ path. not (is_among changed path)) paths
 
--- A step of the number is done, its changes are taken back as by a run, and the step's other paths are told. What a later step touched counts
--- as moved.
+-- A step of the number is done, its changes are taken back as by a run, and the step's other paths are told. What a
+-- later step touched counts as moved.
 pub record TakesBack (number : ℕ) (skip_moved : Bool) (when : ℕ) (old : State) (result : Result Reverted Refusal) (new : State) : Type 0 where
   pub step : Recorded
   pub is_done : Contains old.journal.done step
@@ -89,19 +92,22 @@ pub record TakesBack (number : ℕ) (skip_moved : Bool) (when : ℕ) (old : Stat
 
 -- what a revert answers and leaves: where no step that is done has the number it is refused
 abbrev pub Reverts : ℕ → Bool → ℕ → State → Result Reverted Refusal → State → Type 0
-Reverts number skip_moved when old (Err (NoSuchStep other)) new = (other ≡ number) × IsUnused number old.journal.done × (new ≡ old)
+Reverts number skip_moved when old (Err (NoSuchStep other)) new =
+    (other ≡ number) × IsUnused number old.journal.done × (new ≡ old)
 Reverts number skip_moved when old result new = TakesBack number skip_moved when old result new
 
--- the same by the machine: no kept tree has the number; or the machine runs the command that takes back what the step of the number changed,
--- where no later step changed it
-abbrev pub RevertFollows : {S : Type 0} → (S → Files) → ℕ → Bool → ℕ → Snapshots → Result Reverted Refusal → Session S → Type 0
+-- the same by the machine: no kept tree has the number; or the machine runs the command that takes back what the step
+-- of the number changed, where no later step changed it
+abbrev pub RevertFollows : {S : Type 0} → (S → Files) → ℕ → Bool → ℕ → Snapshots → Result Reverted Refusal → Session S
+    → Type 0
 RevertFollows files number skip_moved when state result new =
-    ((result ≡ Err (NoSuchStep number)) × All (λ (kept : Kept). ¬ (kept.label.number ≡ number)) state.past × StandsAt files new state)
+    ((result ≡ Err (NoSuchStep number)) × All (λ (kept : Kept). ¬ (kept.label.number ≡ number)) state.past
+    × StandsAt files new state)
     ⊎ ((changes : List Change) × LedTo number changes state.tree state.past
     × Follows files (as_run result) new (ran_by state (Revert changes (changed_later number state.tree state.past changes) skip_moved) when))
 
--- what is answered where the command of a revert is asked for: that which takes back the changes of a step of the number that is done, or
--- that there is none
+-- what is answered where the command of a revert is asked for: that which takes back the changes of a step of the
+-- number that is done, or that there is none
 abbrev pub GivesRevert : ℕ → Bool → State → Result Command Refusal → Type 0
 GivesRevert number skip_moved held (Ok command) =
     (step : Recorded) × Contains held.journal.done step × (number_of step ≡ number)
@@ -113,14 +119,18 @@ abbrev pub GivesRevertAt : ℕ → Bool → Snapshots → Result Command Refusal
 GivesRevertAt number skip_moved state (Ok command) =
     (changes : List Change) × LedTo number changes state.tree state.past
     × (command ≡ Revert changes (changed_later number state.tree state.past changes) skip_moved)
-GivesRevertAt number skip_moved state (Err refusal) = (refusal ≡ NoSuchStep number) × All (λ (kept : Kept). ¬ (kept.label.number ≡ number)) state.past
+GivesRevertAt number skip_moved state (Err refusal) =
+    (refusal ≡ NoSuchStep number) × All (λ (kept : Kept). ¬ (kept.label.number ≡ number)) state.past
 
--- what a revert leaves: a refusal that has only read, or what a run of the command leaves that takes back what the entry of the number says,
--- where no later step of the journal touched it
-abbrev pub LeavesRevert : {S : Type 0} → Ghosts S → ℕ → Bool → ℕ → Result Reverted Refusal → Session S → Session S → Type 0
+-- what a revert leaves: a refusal that has only read, or what a run of the command leaves that takes back what the
+-- entry of the number says, where no later step of the journal touched it
+abbrev pub LeavesRevert : {S : Type 0} → Ghosts S → ℕ → Bool → ℕ → Result Reverted Refusal → Session S → Session S
+    → Type 0
 LeavesRevert store number skip_moved when result old new =
-    ((refusal : Refusal) × (result ≡ Err refusal) × IsEarly refusal × OnlyReads store (store_of old) (store_of new) × RefusedAsRead store (store_of old) (store_of new) result)
+    ((refusal : Refusal) × (result ≡ Err refusal) × IsEarly refusal × OnlyReads store (store_of old) (store_of new)
+    × RefusedAsRead store (store_of old) (store_of new) result)
     ⊎ ((entry : Entry) × (store.honest (store_of new) → EntrySays (get (folder_of store old) (entry_path number)) entry)
     × (touched : List (List ℕ))
-    × (store.honest (store_of new) → (held : State) → StandsOn store.files old held → touched ≡ touched_later number held.journal.done entry.changes)
+    × (store.honest (store_of new) → (held : State) → StandsOn store.files old held
+    → touched ≡ touched_later number held.journal.done entry.changes)
     × LeavesRun store (Revert entry.changes touched skip_moved) when (as_run result) old new)

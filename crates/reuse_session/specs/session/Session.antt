@@ -84,14 +84,16 @@ pub record Connects (step : Recorded) (before after : Files) : Type 0 where
 -- the steps, the newest first, lead to the tree through these earlier ones
 abbrev pub LeadUpTo : Files → List Recorded → List Kept → Type 0
 LeadUpTo tree [] [] = Unit {0}
-LeadUpTo tree (step ∷ steps) (kept ∷ past) = (kept.label ≡ step.label) × Connects step kept.tree tree × LeadUpTo kept.tree steps past
+LeadUpTo tree (step ∷ steps) (kept ∷ past) =
+    (kept.label ≡ step.label) × Connects step kept.tree tree × LeadUpTo kept.tree steps past
 LeadUpTo tree [] (kept ∷ past) = ⊥
 LeadUpTo tree (step ∷ steps) [] = ⊥
 
 -- the undone steps, the next to be redone first, lead on from the tree through these
 abbrev pub LeadOn : Files → List Recorded → List Kept → Type 0
 LeadOn tree [] [] = Unit {0}
-LeadOn tree (step ∷ steps) (kept ∷ future) = (kept.label ≡ step.label) × Connects step tree kept.tree × LeadOn kept.tree steps future
+LeadOn tree (step ∷ steps) (kept ∷ future) =
+    (kept.label ≡ step.label) × Connects step tree kept.tree × LeadOn kept.tree steps future
 LeadOn tree [] (kept ∷ future) = ⊥
 LeadOn tree (step ∷ steps) [] = ⊥
 
@@ -123,25 +125,29 @@ pub record IsRun (command : Command) (when : ℕ) (first second : State) : Type 
   pub are_files : AreFiles second.tree
   pub is_step : IsStep directions.Do step first second
 
--- what a run answers and leaves: a command that gives another tree is one step, and its paths are answered; one that gives the same
--- tree leaves all, and so does a refusal, which is that of a full journal or the command's own
+-- what a run answers and leaves: a command that gives another tree is one step, and its paths are answered; one that
+-- gives the same tree leaves all, and so does a refusal, which is that of a full journal or the command's own
 abbrev pub Runs : Command → ℕ → State → Result Response Refusal → State → Type 0
 Runs command when old (Ok (Changed paths)) new = (paths ≡ changed_paths old.tree new.tree) × IsRun command when old new
-Runs command when old (Ok NothingChanged) new = (is_full (length old.journal.done) old.journal.used ≡ false) × (outcome_of command old.tree ≡ Ok old.tree) × (new ≡ old)
+Runs command when old (Ok NothingChanged) new = (is_full (length old.journal.done) old.journal.used ≡ false)
+    × (outcome_of command old.tree ≡ Ok old.tree) × (new ≡ old)
 Runs command when old (Err JournalFull) new = (is_full (length old.journal.done) old.journal.used ≡ true) × (new ≡ old)
-Runs command when old (Err refusal) new = (is_full (length old.journal.done) old.journal.used ≡ false) × (outcome_of command old.tree ≡ Err refusal) × (new ≡ old)
+Runs command when old (Err refusal) new = (is_full (length old.journal.done) old.journal.used ≡ false)
+    × (outcome_of command old.tree ≡ Err refusal) × (new ≡ old)
 Runs command when old (Ok reply) new = ⊥
 
 -- an entry of a run of the command, which records what it changes on the tree
 abbrev pub IsRecordOf : Command → ℕ → Files → Entry → Type 0
-IsRecordOf command when tree entry = (entry.command ≡ name_of command) × (entry.when ≡ when) × Records tree (edits_of command tree) entry.changes
+IsRecordOf command when tree entry =
+    (entry.command ≡ name_of command) × (entry.when ≡ when) × Records tree (edits_of command tree) entry.changes
 
 -- a call that stopped on the way to the next standing: the files are in doubt between the two
 abbrev pub StopsAfterRun : Command → ℕ → State → Files → Type 0
 StopsAfterRun command when first files = (second : State) × IsRun command when first second × InDoubt first second files
 
 abbrev pub StopsAfter : PendingDirection → State → Files → Type 0
-StopsAfter direction first files = (second : State) × (step : Recorded) × IsStep direction step first second × InDoubt first second files
+StopsAfter direction first files =
+    (second : State) × (step : Recorded) × IsStep direction step first second × InDoubt first second files
 
 -- the bytes that a head of so many entries takes at most
 abbrev pub head_room : ℕ → ℕ
@@ -159,8 +165,8 @@ pub record IsPlanned (command : Command) (tree : Files) (changes : List Change) 
   pub plan : IsPlan (outcome_of command tree) tree changes
   pub recorded : Records tree (edits_of command tree) changes
 
--- the changes are those of a step from the first standing, whose journal is in the folder, to the second; the step is pending so, and
--- what is remembered after it is this
+-- the changes are those of a step from the first standing, whose journal is in the folder, to the second; the step is
+-- pending so, and what is remembered after it is this
 pub record IsStepOf (folder : Files) (made : List Change) (pending : Pending) (moved : Memory) (first second : State) : Type 0 where
   pub step : Recorded
   pub changes : step.changes ≡ made

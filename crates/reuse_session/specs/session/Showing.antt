@@ -36,19 +36,22 @@ pub record Shows (journal : Journal) (number : ℕ) (shown : Shown) : Type 0 whe
 -- what showing a number answers: a step of it, or that there is none
 abbrev pub ShowsIn : Journal → ℕ → Result Shown Refusal → Type 0
 ShowsIn journal number (Ok shown) = Shows journal number shown
-ShowsIn journal number (Err refusal) = (refusal ≡ NoSuchStep number) × IsUnused number journal.done × IsUnused number journal.undone
+ShowsIn journal number (Err refusal) =
+    (refusal ≡ NoSuchStep number) × IsUnused number journal.done × IsUnused number journal.undone
 
 -- ---- the machine
 
 -- the changes lead from the tree before a step of the number to that after it, of the steps that led to the tree
 abbrev pub LedTo : ℕ → List Change → Files → List Kept → Type 0
 LedTo number changes tree [] = ⊥
-LedTo number changes tree (kept ∷ past) = ((kept.label.number ≡ number) × IsEntry changes × LeadsAll changes kept.tree tree) ⊎ LedTo number changes kept.tree past
+LedTo number changes tree (kept ∷ past) = ((kept.label.number ≡ number) × IsEntry changes
+    × LeadsAll changes kept.tree tree) ⊎ LedTo number changes kept.tree past
 
 -- the same, of the steps that lead on from the tree
 abbrev pub LedOn : ℕ → List Change → Files → List Kept → Type 0
 LedOn number changes tree [] = ⊥
-LedOn number changes tree (kept ∷ future) = ((kept.label.number ≡ number) × IsEntry changes × LeadsAll changes tree kept.tree) ⊎ LedOn number changes kept.tree future
+LedOn number changes tree (kept ∷ future) = ((kept.label.number ≡ number) × IsEntry changes
+    × LeadsAll changes tree kept.tree) ⊎ LedOn number changes kept.tree future
 
 -- what is shown is a row of the machine's log, and how its tree before the step differs from that after it
 pub record ShowsAt (state : Snapshots) (number : ℕ) (shown : Shown) : Type 0 where

@@ -101,7 +101,8 @@ fn digit(number: u32, place: u32) -> char
 pub fn read_head<S: Store>(alloc: Global, store: &mut S) -> Result<Head, Refusal>
     ensures ok { S.honest store.new → IfOk result (HeadSays (map.get (undo_folder_of (S.files store.old)) head_path)) }
     ensures bad { S.honest store.new → (path : List ℕ) → result ≡ Err (Refusal.BadJournal path)
-        → (path ≡ head_path) × ((head : Head) → ¬ (HeadSays (map.get (undo_folder_of (S.files store.old)) head_path) head)) }
+        → (path ≡ head_path)
+        × ((head : Head) → ¬ (HeadSays (map.get (undo_folder_of (S.files store.old)) head_path) head)) }
     ensures sound { IfOk result IsSoundHead }
     ensures refusal { IfErr result IsReadRefusal }
     ensures fails { RefusedAsRead S.Store store.old store.new result }
@@ -115,7 +116,8 @@ pub fn read_head<S: Store>(alloc: Global, store: &mut S) -> Result<Head, Refusal
 // The head that was read at the path.
 fn head_in(alloc: Global, path: PathText, reading: Reading) -> Result<Head, Refusal>
     ensures ok { (file : Option (List ℕ)) → reading ≡ reading_of file LONGEST_FILE → IfOk result (HeadSays file) }
-    ensures bad { (file : Option (List ℕ)) → reading ≡ reading_of file LONGEST_FILE → (place : List ℕ) → result ≡ Err (Refusal.BadJournal place)
+    ensures bad { (file : Option (List ℕ)) → reading ≡ reading_of file LONGEST_FILE → (place : List ℕ)
+        → result ≡ Err (Refusal.BadJournal place)
         → (place ≡ path) × ((head : Head) → ¬ (HeadSays file head)) }
     ensures sound { IfOk result IsSoundHead }
     ensures refusal { IfErr result IsReadRefusal }
@@ -138,11 +140,13 @@ fn head_in(alloc: Global, path: PathText, reading: Reading) -> Result<Head, Refu
 
 /// The entry of this number.
 pub fn read_entry<S: Store>(alloc: Global, store: &mut S, number: u32) -> Result<Entry, Refusal>
-    ensures ok { S.honest store.new → IfOk result (EntrySays (map.get (undo_folder_of (S.files store.old)) (entry_path number))) }
+    ensures ok { S.honest store.new
+        → IfOk result (EntrySays (map.get (undo_folder_of (S.files store.old)) (entry_path number))) }
     ensures good { IfOk result (λ entry. IsEntry entry.changes) }
     ensures paths { IfOk result (λ entry. HavePaths entry.changes) }
     ensures bad { S.honest store.new → (path : List ℕ) → result ≡ Err (Refusal.BadJournal path)
-        → (path ≡ entry_path number) × ((entry : Entry) → ¬ (EntrySays (map.get (undo_folder_of (S.files store.old)) (entry_path number)) entry)) }
+        → (path ≡ entry_path number)
+        × ((entry : Entry) → ¬ (EntrySays (map.get (undo_folder_of (S.files store.old)) (entry_path number)) entry)) }
     ensures refusal { IfErr result IsReadRefusal }
     ensures fails { RefusedAsRead S.Store store.old store.new result }
     ensures reads { OnlyReads S.Store store.old store.new }
@@ -157,7 +161,8 @@ fn entry_in(alloc: Global, path: PathText, reading: Reading) -> Result<Entry, Re
     ensures ok { (file : Option (List ℕ)) → reading ≡ reading_of file 268_435_456 → IfOk result (EntrySays file) }
     ensures good { IfOk result (λ entry. IsEntry entry.changes) }
     ensures paths { IfOk result (λ entry. HavePaths entry.changes) }
-    ensures bad { (file : Option (List ℕ)) → reading ≡ reading_of file 268_435_456 → (place : List ℕ) → result ≡ Err (Refusal.BadJournal place)
+    ensures bad { (file : Option (List ℕ)) → reading ≡ reading_of file 268_435_456 → (place : List ℕ)
+        → result ≡ Err (Refusal.BadJournal place)
         → (place ≡ path) × ((entry : Entry) → ¬ (EntrySays file entry)) }
     ensures refusal { IfErr result IsReadRefusal }
     ensures no_fault { (fault : Fault) → result ≢ Err (Refusal.Failed (failures.Fault fault)) }
@@ -188,7 +193,8 @@ pub fn put_entry<S: Store>(
     number: u32,
     entry: &Entry,
 ) -> Result<(), Refusal>
-    ensures ok { S.honest store.new → IsEntry entry.now.changes → knows (is_any_sealed entry.now.changes) entry.now.command ≡ true
+    ensures ok { S.honest store.new → IsEntry entry.now.changes
+        → knows (is_any_sealed entry.now.changes) entry.now.command ≡ true
         → OnOk result (EntrySays (map.get (S.files store.new) (entry_path number)) entry.now) }
     ensures text { S.honest store.new → OnOk result (HasEntryText number entry.now (S.files store.new)) }
     ensures counted { OnOk result (S.written store.new ≡ S.written store.old + length (entry_text entry.now)) }
@@ -198,11 +204,15 @@ pub fn put_entry<S: Store>(
     // barrier what is there, if the tree was certain.
     ensures left { IsEntry entry.now.changes → knows (is_any_sealed entry.now.changes) entry.now.command ≡ true
         → MaySet S.Store (entry_path number) (λ file. EntrySays file entry.now) store.old store.new }
-    ensures lasting { S.honest store.new → HaveTree S.Store store.old (tree_of (S.files store.old)) → OnOk result (IsSynced S.Store store.new) }
+    ensures lasting { S.honest store.new → HaveTree S.Store store.old (tree_of (S.files store.old))
+        → OnOk result (IsSynced S.Store store.new) }
     ensures refusal { IfErr result IsEarlyFailure }
-    ensures clash { S.honest store.new → result ≡ Err (Refusal.Failed (failures.Fault faults.Clash)) → Clashes (S.files store.old) (entry_path number) }
-    ensures device { result ≡ Err (Refusal.Failed (failures.Fault faults.Device)) → S.failures store.old < S.failures store.new }
-    ensures written { IsEntry entry.now.changes → S.written store.new ≤ S.written store.old + entry_size entry.now.changes }
+    ensures clash { S.honest store.new → result ≡ Err (Refusal.Failed (failures.Fault faults.Clash))
+        → Clashes (S.files store.old) (entry_path number) }
+    ensures device { result ≡ Err (Refusal.Failed (failures.Fault faults.Device))
+        → S.failures store.old < S.failures store.new }
+    ensures written { IsEntry entry.now.changes
+        → S.written store.new ≤ S.written store.old + entry_size entry.now.changes }
     ensures mutations { S.mutations store.new ≤ S.mutations store.old + 1 }
     ensures later { IsLater S.Store store.old store.new }
 {
@@ -220,7 +230,8 @@ pub fn put_head<S: Store>(
     head: &HeadPath,
     text: &[u8],
 ) -> Result<(), Cause>
-    ensures ok { S.honest store.new → OnOk result (Sets head_path (Some text.now) (S.files store.old) (S.files store.new)) }
+    ensures ok { S.honest store.new
+        → OnOk result (Sets head_path (Some text.now) (S.files store.old) (S.files store.new)) }
     ensures err { S.honest store.new → OnErr result ((S.files store.new ≡ S.files store.old)
         ⊎ Sets head_path (Some text.now) (S.files store.old) (S.files store.new)) }
     ensures clash { S.honest store.new → result ≡ Err Cause.Clash → Clashes (S.files store.old) head_path }
@@ -228,7 +239,8 @@ pub fn put_head<S: Store>(
     // A loss of power may leave what it might before, with this head or without; and behind the
     // barrier what is there, if the tree was certain.
     ensures left { MaySet S.Store head_path (λ file. file ≡ Some text.now) store.old store.new }
-    ensures lasting { S.honest store.new → HaveTree S.Store store.old (tree_of (S.files store.old)) → OnOk result (IsSynced S.Store store.new) }
+    ensures lasting { S.honest store.new → HaveTree S.Store store.old (tree_of (S.files store.old))
+        → OnOk result (IsSynced S.Store store.new) }
     ensures device { IsErrOf result Cause.Device → S.failures store.old < S.failures store.new }
     ensures written { S.written store.new ≤ S.written store.old + length text.now }
     ensures counted { S.written store.old + length text.now ≤ S.written store.new }

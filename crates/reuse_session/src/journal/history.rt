@@ -80,7 +80,8 @@ impl History {
     /// The entry that this way goes on with: an undo takes it back, or a redo makes it again.
     pub fn next(&self, direction: Direction) -> Option<ListedEntry>
         ensures none { result ≡ None → entries_ahead direction self.now ≡ [] }
-        ensures some { (entry : ListedEntry) → result ≡ Some entry → (front : List ListedEntry) × (entries_ahead direction self.now ≡ front ++ entry ∷ []) }
+        ensures some { (entry : ListedEntry) → result ≡ Some entry → (front : List ListedEntry)
+            × (entries_ahead direction self.now ≡ front ++ entry ∷ []) }
     {
         match direction {
             Direction::Forward => self.undone.last().copied(),
@@ -127,7 +128,8 @@ impl History {
     /// The text of the head that lists the entries.
     pub fn head_text(&self, alloc: Global, pending: Option<Pending>) -> Result<Vec<u8>, AllocError>
         ensures text { IfOk result (λ text. text.items ≡ head_text (head_listing self.now pending)) }
-        ensures good { IsSoundHead (head_listing self.now pending) → IfOk result (λ text. IsGoodHead text.items (head_listing self.now pending)) }
+        ensures good { IsSoundHead (head_listing self.now pending)
+            → IfOk result (λ text. IsGoodHead text.items (head_listing self.now pending)) }
         ensures bound { IsSoundHead (head_listing self.now pending)
             → IfOk result (λ text. length text.items ≤ 128 + 7 * (length self.now.done + length self.now.undone)) }
     {
@@ -276,7 +278,8 @@ fn with_entry(
 
 // The entries without the last.
 fn without_last(alloc: Global, entries: &[ListedEntry]) -> Result<Vec<ListedEntry>, AllocError>
-    ensures { (front : List ListedEntry) → (entry : ListedEntry) → entries.now ≡ front ++ entry ∷ [] → IfOk result (λ list. list.items ≡ front) }
+    ensures { (front : List ListedEntry) → (entry : ListedEntry) → entries.now ≡ front ++ entry ∷ []
+        → IfOk result (λ list. list.items ≡ front) }
 {
     let mut list = Vec::from_slice(alloc, entries)?;
     list.pop();

@@ -30,33 +30,46 @@ use std::alloc::{AllocError, Global};
 /// Reads the journal of a store, and rolls back what is pending. It answers what the head lists
 /// then.
 pub fn open_journal<S: Store>(alloc: Global, store: &mut S) -> Result<History, Refusal>
-    ensures opened { S.honest store.new → IfOk result (λ memory. (held : State) × Remembers memory held.journal × OpensOn (S.files store.old) held (S.files store.new)) }
-    ensures bad { S.honest store.new → (path : List ℕ) → result ≡ Err (Refusal.BadJournal path) → IsFirstBad (S.files store.old) path }
-    ensures moved { S.honest store.new → (path : List ℕ) → result ≡ Err (Refusal.Moved path) → IsStuckAt (S.files store.old) path }
+    ensures opened { S.honest store.new
+        → IfOk result (λ memory. (held : State) × Remembers memory held.journal
+        × OpensOn (S.files store.old) held (S.files store.new)) }
+    ensures bad { S.honest store.new → (path : List ℕ) → result ≡ Err (Refusal.BadJournal path)
+        → IsFirstBad (S.files store.old) path }
+    ensures moved { S.honest store.new → (path : List ℕ) → result ≡ Err (Refusal.Moved path)
+        → IsStuckAt (S.files store.old) path }
     // It stops only where a step was under way, which is still, or is rolled back.
-    ensures interrupted { S.honest store.new → (cause : Cause) → result ≡ Err (Refusal.Failed (failures.Interrupted cause)) → StopsOpening (S.files store.old) (S.files store.new) }
+    ensures interrupted { S.honest store.new → (cause : Cause)
+        → result ≡ Err (Refusal.Failed (failures.Interrupted cause))
+        → StopsOpening (S.files store.old) (S.files store.new) }
     // Of files in doubt it makes one of the two standings, or leaves them in doubt where it fails.
     ensures recovers { S.honest store.new → (first second : State) → InDoubt first second (S.files store.old)
-        → MatchResult result (λ memory. (IsStanding (S.files store.new) first × Remembers memory first.journal) ⊎ (IsStanding (S.files store.new) second × Remembers memory second.journal))
+        → MatchResult result (λ memory. (IsStanding (S.files store.new) first × Remembers memory first.journal)
+        ⊎ (IsStanding (S.files store.new) second × Remembers memory second.journal))
         (λ refusal. IsFailure refusal × InDoubt first second (S.files store.new)) }
     // Where all that a loss of power may leave is in doubt too, it is safe on that standing then,
     // or still in doubt.
     ensures survives { S.honest store.new → (earlier held next : State) → AreInDoubt S.Store earlier held next store.old
-        → MatchResult result (λ memory. (IsStanding (S.files store.new) held × Remembers memory held.journal × AreSafeOn S.Store earlier held store.new)
+        → MatchResult result (λ memory. (IsStanding (S.files store.new) held × Remembers memory held.journal
+        × AreSafeOn S.Store earlier held store.new)
         ⊎ (IsStanding (S.files store.new) next × Remembers memory next.journal × AreSafeOn S.Store held next store.new))
         (λ refusal. AreInDoubt S.Store earlier held next store.new) }
     // Where a step was rolled back the head is the very text of what is remembered.
-    ensures texts { S.honest store.new → IfOk result (λ memory. (S.files store.new ≡ S.files store.old) ⊎ HasHeadText memory (S.files store.new)) }
+    ensures texts { S.honest store.new
+        → IfOk result (λ memory. (S.files store.new ≡ S.files store.old) ⊎ HasHeadText memory (S.files store.new)) }
     // At most one head is put.
-    ensures written { S.honest store.new → (head : Head) → HeadSays (map.get (undo_folder_of (S.files store.old)) head_path) head
+    ensures written { S.honest store.new → (head : Head)
+        → HeadSays (map.get (undo_folder_of (S.files store.old)) head_path) head
         → S.written store.new ≤ S.written store.old + head_room (length (listed head)) }
     ensures mutations { S.honest store.new → MutationsToOpen S.Store store.old store.new }
     // Nothing is moved before a refusal, nor where nothing is pending; and of the journal's folder
     // nothing but the head changes.
     ensures early { IfErr result (λ refusal. IsEarly refusal → OnlyReads S.Store store.old store.new) }
-    ensures late { (cause : Cause) → result ≡ Err (Refusal.Failed (failures.Interrupted cause)) → cause ≢ causes.Moved → S.mutations store.old < S.mutations store.new }
-    ensures quiet { S.honest store.new → (held : State) → IsStanding (S.files store.old) held → OnlyReads S.Store store.old store.new }
-    ensures folder { S.honest store.new → IsSameBut head_path (undo_folder_of (S.files store.old)) (undo_folder_of (S.files store.new)) }
+    ensures late { (cause : Cause) → result ≡ Err (Refusal.Failed (failures.Interrupted cause)) → cause ≢ causes.Moved
+        → S.mutations store.old < S.mutations store.new }
+    ensures quiet { S.honest store.new → (held : State) → IsStanding (S.files store.old) held
+        → OnlyReads S.Store store.old store.new }
+    ensures folder { S.honest store.new
+        → IsSameBut head_path (undo_folder_of (S.files store.old)) (undo_folder_of (S.files store.new)) }
     ensures refusal { IfErr result IsOpenRefusal }
     ensures clash { S.honest store.new → IfErr result IsNoClash }
     ensures fault { IfErr result (HasCause (S.failures store.old < S.failures store.new)) }
@@ -78,8 +91,10 @@ pub fn read_journal<S: Store>(
     alloc: Global,
     store: &mut S,
 ) -> Result<(Option<Pending>, History), Refusal>
-    ensures ok { S.honest store.new → IfOk result (λ read. (journal : Journal) × IsRead (S.files store.old) read.0 read.1 journal) }
-    ensures bad { S.honest store.new → (path : List ℕ) → result ≡ Err (Refusal.BadJournal path) → IsFirstBad (S.files store.old) path }
+    ensures ok { S.honest store.new
+        → IfOk result (λ read. (journal : Journal) × IsRead (S.files store.old) read.0 read.1 journal) }
+    ensures bad { S.honest store.new → (path : List ℕ) → result ≡ Err (Refusal.BadJournal path)
+        → IsFirstBad (S.files store.old) path }
     ensures refusal { IfErr result IsReadRefusal }
     ensures fails { RefusedAsRead S.Store store.old store.new result }
     ensures reads { OnlyReads S.Store store.old store.new }
@@ -97,32 +112,47 @@ fn recover_pending<S: Store>(
     pending: Pending,
     history: &History,
 ) -> Result<(), Refusal>
-    ensures done { S.honest store.new → (journal : Journal) → IsRead (S.files store.old) (Some pending) history.now journal
+    ensures done { S.honest store.new → (journal : Journal)
+        → IsRead (S.files store.old) (Some pending) history.now journal
         → OnOk result (IsSettled pending journal (S.files store.old) (S.files store.new)) }
-    ensures moved { S.honest store.new → (journal : Journal) → IsRead (S.files store.old) (Some pending) history.now journal
+    ensures moved { S.honest store.new → (journal : Journal)
+        → IsRead (S.files store.old) (Some pending) history.now journal
         → (path : List ℕ) → result ≡ Err (Refusal.Moved path) → IsStuckAt (S.files store.old) path }
-    ensures recovers { S.honest store.new → (journal : Journal) → IsRead (S.files store.old) (Some pending) history.now journal
-        → (step : Recorded) → (first : State) → number_of step ≡ pending.entry → IsUnderWay pending.direction step first (S.files store.old)
+    ensures recovers { S.honest store.new → (journal : Journal)
+        → IsRead (S.files store.old) (Some pending) history.now journal
+        → (step : Recorded) → (first : State) → number_of step ≡ pending.entry
+        → IsUnderWay pending.direction step first (S.files store.old)
         → MatchResult result (λ done. IsStanding (S.files store.new) first)
-        (λ refusal. IsFailure refusal × (IsStanding (S.files store.new) first ⊎ IsUnderWay pending.direction step first (S.files store.new))) }
-    ensures survives { S.honest store.new → (journal : Journal) → IsRead (S.files store.old) (Some pending) history.now journal
+        (λ refusal. IsFailure refusal
+        × (IsStanding (S.files store.new) first ⊎ IsUnderWay pending.direction step first (S.files store.new))) }
+    ensures survives { S.honest store.new → (journal : Journal)
+        → IsRead (S.files store.old) (Some pending) history.now journal
         → (earlier held next : State) → AreInDoubt S.Store earlier held next store.old
-        → MatchResult result (λ done. IsStanding (S.files store.new) held × AreSafeOn S.Store earlier held store.new) (λ refusal. AreInDoubt S.Store earlier held next store.new) }
-    ensures interrupted { S.honest store.new → (journal : Journal) → IsRead (S.files store.old) (Some pending) history.now journal
-        → (cause : Cause) → result ≡ Err (Refusal.Failed (failures.Interrupted cause)) → StopsOpening (S.files store.old) (S.files store.new) }
+        → MatchResult result (λ done. IsStanding (S.files store.new) held
+        × AreSafeOn S.Store earlier held store.new) (λ refusal. AreInDoubt S.Store earlier held next store.new) }
+    ensures interrupted { S.honest store.new → (journal : Journal)
+        → IsRead (S.files store.old) (Some pending) history.now journal
+        → (cause : Cause) → result ≡ Err (Refusal.Failed (failures.Interrupted cause))
+        → StopsOpening (S.files store.old) (S.files store.new) }
     ensures early { IfErr result (λ refusal. IsEarly refusal → OnlyReads S.Store store.old store.new) }
-    ensures late { (cause : Cause) → result ≡ Err (Refusal.Failed (failures.Interrupted cause)) → cause ≢ causes.Moved → S.mutations store.old < S.mutations store.new }
-    ensures folder { S.honest store.new → (journal : Journal) → IsRead (S.files store.old) (Some pending) history.now journal
+    ensures late { (cause : Cause) → result ≡ Err (Refusal.Failed (failures.Interrupted cause)) → cause ≢ causes.Moved
+        → S.mutations store.old < S.mutations store.new }
+    ensures folder { S.honest store.new → (journal : Journal)
+        → IsRead (S.files store.old) (Some pending) history.now journal
         → IsSameBut head_path (undo_folder_of (S.files store.old)) (undo_folder_of (S.files store.new)) }
-    ensures texts { S.honest store.new → (journal : Journal) → IsRead (S.files store.old) (Some pending) history.now journal
+    ensures texts { S.honest store.new → (journal : Journal)
+        → IsRead (S.files store.old) (Some pending) history.now journal
         → OnOk result (HasHeadText history.now (S.files store.new)) }
-    ensures no_bad { S.honest store.new → (journal : Journal) → IsRead (S.files store.old) (Some pending) history.now journal
+    ensures no_bad { S.honest store.new → (journal : Journal)
+        → IsRead (S.files store.old) (Some pending) history.now journal
         → (path : List ℕ) → result ≢ Err (Refusal.BadJournal path) }
-    ensures written { S.honest store.new → (journal : Journal) → IsRead (S.files store.old) (Some pending) history.now journal
+    ensures written { S.honest store.new → (journal : Journal)
+        → IsRead (S.files store.old) (Some pending) history.now journal
         → S.written store.new ≤ S.written store.old + head_room (listed_count history.now) }
     ensures mutations { S.honest store.new → MutationsFor S.Store (EntrySays (map.get (undo_folder_of (S.files store.old)) (entry_path pending.entry))) store.old store.new }
     ensures refusal { IfErr result IsOpenRefusal }
-    ensures clash { S.honest store.new → (journal : Journal) → IsRead (S.files store.old) (Some pending) history.now journal → IfErr result IsNoClash }
+    ensures clash { S.honest store.new → (journal : Journal)
+        → IsRead (S.files store.old) (Some pending) history.now journal → IfErr result IsNoClash }
     ensures fault { IfErr result (HasCause (S.failures store.old < S.failures store.new)) }
     ensures later { IsLater S.Store store.old store.new }
 {
@@ -142,7 +172,8 @@ fn test_folders<S: Store>(alloc: Global, store: &mut S) -> Result<(), Refusal>
     ensures ok { S.honest store.new → OnOk result (NoFileAbove (S.files store.old)) }
     ensures bad { S.honest store.new → (path : List ℕ) → result ≡ Err (Refusal.BadJournal path)
         → ((path ≡ codes ".reuse") × IsSome (map.get (S.files store.old) path))
-        ⊎ ((map.get (S.files store.old) (codes ".reuse") ≡ None) × (path ≡ journal_folder) × IsSome (map.get (S.files store.old) path)) }
+        ⊎ ((map.get (S.files store.old) (codes ".reuse") ≡ None) × (path ≡ journal_folder)
+        × IsSome (map.get (S.files store.old) path)) }
     ensures refusal { IfErr result IsReadRefusal }
     ensures fails { RefusedAsRead S.Store store.old store.new result }
     ensures reads { OnlyReads S.Store store.old store.new }
@@ -215,9 +246,12 @@ fn read_all<S: Store>(
     store: &mut S,
     numbers: &[u32],
 ) -> Result<(Vec<ListedEntry>, Option<u32>), Refusal>
-    ensures listed { S.honest store.new → IfOk result (λ read. read.1 ≡ None → AllZip (IsListedIn (undo_folder_of (S.files store.old))) numbers.now read.0.items) }
+    ensures listed { S.honest store.new
+        → IfOk result (λ read. read.1 ≡ None
+        → AllZip (IsListedIn (undo_folder_of (S.files store.old))) numbers.now read.0.items) }
     ensures all { IfOk result (λ read. read.1 ≡ None → length read.0.items ≡ length numbers.now) }
-    ensures found { S.honest store.new → IfOk result (λ read. IsLeastFound (undo_folder_of (S.files store.old)) numbers.now read.1) }
+    ensures found { S.honest store.new
+        → IfOk result (λ read. IsLeastFound (undo_folder_of (S.files store.old)) numbers.now read.1) }
     ensures refusal { IfErr result IsReadRefusal }
     ensures no_bad { (path : List ℕ) → result ≢ Err (Refusal.BadJournal path) }
     ensures fails { RefusedAsRead S.Store store.old store.new result }

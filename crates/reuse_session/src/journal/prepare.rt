@@ -43,7 +43,8 @@ pub fn test_each<S: Store>(
     direction: Direction,
     aim: Aim,
 ) -> Result<(), Refusal>
-    ensures ready { S.honest store.new → IsEntry changes.now → OnOk result (All (Passes aim direction (tree_of (S.files store.old))) changes.now) }
+    ensures ready { S.honest store.new → IsEntry changes.now
+        → OnOk result (All (Passes aim direction (tree_of (S.files store.old))) changes.now) }
     ensures moved { S.honest store.new → IsEntry changes.now → (path : List ℕ) → result ≡ Err (Refusal.Moved path)
         → IsFirstWithout (Passes aim direction (tree_of (S.files store.old))) changes.now path }
     ensures refusal { IfErr result IsTestRefusal }
@@ -90,7 +91,8 @@ pub fn prepare<S: Store>(
     direction: Direction,
 ) -> Result<Paths, Refusal>
     ensures paths { IfOk result (λ paths. paths ≡ paths_of changes.now) }
-    ensures ready { S.honest store.new → IsEntry changes.now → OnOk result (All (CanBeMade direction (tree_of (S.files store.old))) changes.now) }
+    ensures ready { S.honest store.new → IsEntry changes.now
+        → OnOk result (All (CanBeMade direction (tree_of (S.files store.old))) changes.now) }
     ensures moved { S.honest store.new → IsEntry changes.now → (path : List ℕ) → result ≡ Err (Refusal.Moved path)
         → IsFirstStuck direction (tree_of (S.files store.old)) changes.now path }
     ensures refusal { IfErr result IsTestRefusal }

@@ -55,7 +55,8 @@ pub fn recover<S: Store>(
 ) -> (S, Result<Recovered, Refusal>)
     // Nothing, where no step is pending; and else each path of the step is rolled back, stays or is
     // left, and is told so. The journal lists the same steps then, and none is pending.
-    ensures recovered { S.honest result.0 → IfOk result.1 (RecoversFiles skip_moved (S.files store) (S.files result.0)) }
+    ensures recovered { S.honest result.0
+        → IfOk result.1 (RecoversFiles skip_moved (S.files store) (S.files result.0)) }
     // Unless it tells an I/O error or an allocation failure, it is refused as `BadJournal` exactly
     // at the first path at fault, and as `Moved` exactly at the first path that is stuck, where
     // none is to be skipped.
@@ -63,14 +64,19 @@ pub fn recover<S: Store>(
 
     // It stops only where a step is pending: that is recovered, or each of its paths is as it was
     // or as recovering leaves it.
-    ensures interrupted { S.honest result.0 → (cause : Cause) → result.1 ≡ Err (Refusal.Failed (failures.Interrupted cause)) → StopsRecovering (S.files store) (S.files result.0) }
+    ensures interrupted { S.honest result.0 → (cause : Cause)
+        → result.1 ≡ Err (Refusal.Failed (failures.Interrupted cause))
+        → StopsRecovering (S.files store) (S.files result.0) }
     // It is refused before it has put anything, and stops after that (but where it tells that a
     // file changed while it ran). Where no step is pending it only reads; and of the journal's
     // folder nothing but the head changes.
     ensures early { IfErr result.1 (λ refusal. IsEarly refusal → OnlyReads S.Store store result.0) }
-    ensures late { (cause : Cause) → result.1 ≡ Err (Refusal.Failed (failures.Interrupted cause)) → cause ≢ causes.Moved → S.mutations store < S.mutations result.0 }
-    ensures quiet { S.honest result.0 → (journal : Journal) → HasNonePending journal (S.files store) → OnlyReads S.Store store result.0 }
-    ensures folder { S.honest result.0 → IsSameBut head_path (undo_folder_of (S.files store)) (undo_folder_of (S.files result.0)) }
+    ensures late { (cause : Cause) → result.1 ≡ Err (Refusal.Failed (failures.Interrupted cause)) → cause ≢ causes.Moved
+        → S.mutations store < S.mutations result.0 }
+    ensures quiet { S.honest result.0 → (journal : Journal) → HasNonePending journal (S.files store)
+        → OnlyReads S.Store store result.0 }
+    ensures folder { S.honest result.0
+        → IsSameBut head_path (undo_folder_of (S.files store)) (undo_folder_of (S.files result.0)) }
 
     // Of files in doubt between two standings it makes what an opening makes: one of the two. Where
     // it fails they are in doubt still.
@@ -85,7 +91,8 @@ pub fn recover<S: Store>(
     // The same of a step of which some paths can't be rolled back. Once it is recovered, a loss of
     // power leaves what is there. If that stops, recovering what is left leads to the same files.
     ensures lasting { S.honest result.0 → (direction : PendingDirection) → (step : Recorded) → (held : State)
-        → AwaitsRecovery S.Store direction step held store → SurvivesRecovery S.Store direction step held result.1 result.0 }
+        → AwaitsRecovery S.Store direction step held store
+        → SurvivesRecovery S.Store direction step held result.1 result.0 }
     ensures refusal { IfErr result.1 IsOpenRefusal }
     ensures clash { S.honest result.0 → IfErr result.1 IsNoClash }
     ensures fault { IfErr result.1 (HasCause (S.failures store < S.failures result.0)) }
@@ -102,18 +109,27 @@ fn recover_journal<S: Store>(
     store: &mut S,
     skip_moved: bool,
 ) -> Result<Recovered, Refusal>
-    ensures recovered { S.honest store.new → IfOk result (RecoversFiles skip_moved (S.files store.old) (S.files store.new)) }
-    ensures bad { S.honest store.new → (path : List ℕ) → result ≡ Err (Refusal.BadJournal path) → IsFirstBad (S.files store.old) path }
-    ensures moved { S.honest store.new → (path : List ℕ) → result ≡ Err (Refusal.Moved path) → (skip_moved ≡ false) × IsStuckAt (S.files store.old) path }
-    ensures interrupted { S.honest store.new → (cause : Cause) → result ≡ Err (Refusal.Failed (failures.Interrupted cause)) → StopsRecovering (S.files store.old) (S.files store.new) }
+    ensures recovered { S.honest store.new
+        → IfOk result (RecoversFiles skip_moved (S.files store.old) (S.files store.new)) }
+    ensures bad { S.honest store.new → (path : List ℕ) → result ≡ Err (Refusal.BadJournal path)
+        → IsFirstBad (S.files store.old) path }
+    ensures moved { S.honest store.new → (path : List ℕ) → result ≡ Err (Refusal.Moved path) → (skip_moved ≡ false)
+        × IsStuckAt (S.files store.old) path }
+    ensures interrupted { S.honest store.new → (cause : Cause)
+        → result ≡ Err (Refusal.Failed (failures.Interrupted cause))
+        → StopsRecovering (S.files store.old) (S.files store.new) }
     ensures early { IfErr result (λ refusal. IsEarly refusal → OnlyReads S.Store store.old store.new) }
-    ensures late { (cause : Cause) → result ≡ Err (Refusal.Failed (failures.Interrupted cause)) → cause ≢ causes.Moved → S.mutations store.old < S.mutations store.new }
-    ensures quiet { S.honest store.new → (journal : Journal) → HasNonePending journal (S.files store.old) → OnlyReads S.Store store.old store.new }
-    ensures folder { S.honest store.new → IsSameBut head_path (undo_folder_of (S.files store.old)) (undo_folder_of (S.files store.new)) }
+    ensures late { (cause : Cause) → result ≡ Err (Refusal.Failed (failures.Interrupted cause)) → cause ≢ causes.Moved
+        → S.mutations store.old < S.mutations store.new }
+    ensures quiet { S.honest store.new → (journal : Journal) → HasNonePending journal (S.files store.old)
+        → OnlyReads S.Store store.old store.new }
+    ensures folder { S.honest store.new
+        → IsSameBut head_path (undo_folder_of (S.files store.old)) (undo_folder_of (S.files store.new)) }
     ensures survives { S.honest store.new → (earlier held next : State) → AreInDoubt S.Store earlier held next store.old
         → SurvivesInDoubt S.Store earlier held next result store.new }
     ensures lasting { S.honest store.new → (direction : PendingDirection) → (step : Recorded) → (held : State)
-        → AwaitsRecovery S.Store direction step held store.old → SurvivesRecovery S.Store direction step held result store.new }
+        → AwaitsRecovery S.Store direction step held store.old
+        → SurvivesRecovery S.Store direction step held result store.new }
     ensures refusal { IfErr result IsOpenRefusal }
     ensures clash { S.honest store.new → IfErr result IsNoClash }
     ensures fault { IfErr result (HasCause (S.failures store.old < S.failures store.new)) }
@@ -138,24 +154,34 @@ fn recover_step<S: Store>(
     history: &History,
     skip_moved: bool,
 ) -> Result<Recovered, Refusal>
-    ensures recovered { S.honest store.new → (journal : Journal) → IsRead (S.files store.old) (Some pending) history.now journal
+    ensures recovered { S.honest store.new → (journal : Journal)
+        → IsRead (S.files store.old) (Some pending) history.now journal
         → IfOk result (RecoversFiles skip_moved (S.files store.old) (S.files store.new)) }
-    ensures no_bad { S.honest store.new → (journal : Journal) → IsRead (S.files store.old) (Some pending) history.now journal
+    ensures no_bad { S.honest store.new → (journal : Journal)
+        → IsRead (S.files store.old) (Some pending) history.now journal
         → (path : List ℕ) → result ≢ Err (Refusal.BadJournal path) }
-    ensures moved { S.honest store.new → (journal : Journal) → IsRead (S.files store.old) (Some pending) history.now journal
-        → (path : List ℕ) → result ≡ Err (Refusal.Moved path) → (skip_moved ≡ false) × IsStuckAt (S.files store.old) path }
-    ensures interrupted { S.honest store.new → (journal : Journal) → IsRead (S.files store.old) (Some pending) history.now journal
-        → (cause : Cause) → result ≡ Err (Refusal.Failed (failures.Interrupted cause)) → StopsRecovering (S.files store.old) (S.files store.new) }
+    ensures moved { S.honest store.new → (journal : Journal)
+        → IsRead (S.files store.old) (Some pending) history.now journal
+        → (path : List ℕ) → result ≡ Err (Refusal.Moved path) → (skip_moved ≡ false)
+        × IsStuckAt (S.files store.old) path }
+    ensures interrupted { S.honest store.new → (journal : Journal)
+        → IsRead (S.files store.old) (Some pending) history.now journal
+        → (cause : Cause) → result ≡ Err (Refusal.Failed (failures.Interrupted cause))
+        → StopsRecovering (S.files store.old) (S.files store.new) }
     ensures early { IfErr result (λ refusal. IsEarly refusal → OnlyReads S.Store store.old store.new) }
-    ensures late { (cause : Cause) → result ≡ Err (Refusal.Failed (failures.Interrupted cause)) → cause ≢ causes.Moved → S.mutations store.old < S.mutations store.new }
-    ensures folder { S.honest store.new → (journal : Journal) → IsRead (S.files store.old) (Some pending) history.now journal
+    ensures late { (cause : Cause) → result ≡ Err (Refusal.Failed (failures.Interrupted cause)) → cause ≢ causes.Moved
+        → S.mutations store.old < S.mutations store.new }
+    ensures folder { S.honest store.new → (journal : Journal)
+        → IsRead (S.files store.old) (Some pending) history.now journal
         → IsSameBut head_path (undo_folder_of (S.files store.old)) (undo_folder_of (S.files store.new)) }
     ensures lasting { S.honest store.new
         → (journal : Journal) → IsRead (S.files store.old) (Some pending) history.now journal
-        → (direction : PendingDirection) → (step : Recorded) → (held : State) → AwaitsRecovery S.Store direction step held store.old
+        → (direction : PendingDirection) → (step : Recorded) → (held : State)
+        → AwaitsRecovery S.Store direction step held store.old
         → SurvivesRecovery S.Store direction step held result store.new }
     ensures refusal { IfErr result IsOpenRefusal }
-    ensures clash { S.honest store.new → (journal : Journal) → IsRead (S.files store.old) (Some pending) history.now journal → IfErr result IsNoClash }
+    ensures clash { S.honest store.new → (journal : Journal)
+        → IsRead (S.files store.old) (Some pending) history.now journal → IfErr result IsNoClash }
     ensures fault { IfErr result (HasCause (S.failures store.old < S.failures store.new)) }
     ensures later { IsLater S.Store store.old store.new }
 {
@@ -186,8 +212,10 @@ fn roll_back_part<S: Store>(
     direction: Direction,
     head: &NewHead<'_>,
 ) -> Result<(), Refusal>
-    ensures done { S.honest store.new → ArePart changes.now → OnOk result (IsRolledBack direction changes.now head.now.text.now (S.files store.old) (S.files store.new)) }
-    ensures back { S.honest store.new → ArePart changes.now → (cause : Cause) → result ≡ Err (Refusal.Failed (failures.Interrupted cause))
+    ensures done { S.honest store.new → ArePart changes.now
+        → OnOk result (IsRolledBack direction changes.now head.now.text.now (S.files store.old) (S.files store.new)) }
+    ensures back { S.honest store.new → ArePart changes.now → (cause : Cause)
+        → result ≡ Err (Refusal.Failed (failures.Interrupted cause))
         → StopsBack direction changes.now head.now.text.now (S.files store.old) (S.files store.new) }
     // What a loss of power may leave, if each tree that might be left before is the start with some
     // of the changes made.
@@ -200,13 +228,17 @@ fn roll_back_part<S: Store>(
         → Leaves S.Store store.old (λ kept. SomeMade direction changes.now start (tree_of kept))
         → (cause : Cause) → result ≡ Err (Refusal.Failed (failures.Interrupted cause))
         → StopsBackWithDoubt S.Store direction changes.now head.now.text.now start (S.files store.old) store.new }
-    ensures never_moved { S.honest store.new → ArePart changes.now → All (CanBeRolledBack direction (tree_of (S.files store.old))) changes.now
+    ensures never_moved { S.honest store.new → ArePart changes.now
+        → All (CanBeRolledBack direction (tree_of (S.files store.old))) changes.now
         → (path : List ℕ) → result ≢ Err (Refusal.Moved path) }
     ensures refusal { IfErr result IsRollBackRefusal }
-    ensures clash { S.honest store.new → ArePart changes.now → ¬ (Clashes (S.files store.old) head_path) → IfErr result IsNoClash }
-    ensures folder { S.honest store.new → ArePart changes.now → IsSameBut head_path (undo_folder_of (S.files store.old)) (undo_folder_of (S.files store.new)) }
+    ensures clash { S.honest store.new → ArePart changes.now → ¬ (Clashes (S.files store.old) head_path)
+        → IfErr result IsNoClash }
+    ensures folder { S.honest store.new → ArePart changes.now
+        → IsSameBut head_path (undo_folder_of (S.files store.old)) (undo_folder_of (S.files store.new)) }
     ensures early { IfErr result (λ refusal. IsEarly refusal → OnlyReads S.Store store.old store.new) }
-    ensures late { (cause : Cause) → result ≡ Err (Refusal.Failed (failures.Interrupted cause)) → cause ≢ causes.Moved → S.mutations store.old < S.mutations store.new }
+    ensures late { (cause : Cause) → result ≡ Err (Refusal.Failed (failures.Interrupted cause)) → cause ≢ causes.Moved
+        → S.mutations store.old < S.mutations store.new }
     ensures fault { IfErr result (HasCause (S.failures store.old < S.failures store.new)) }
     ensures later { IsLater S.Store store.old store.new }
 {
@@ -219,9 +251,11 @@ fn roll_back_part<S: Store>(
 
 // Puts a head that tells of no step, between barriers.
 fn clear_head<S: Store>(alloc: Global, store: &mut S, head: &NewHead<'_>) -> Result<(), Refusal>
-    ensures done { S.honest store.new → OnOk result (Sets head_path (Some head.now.text.now) (S.files store.old) (S.files store.new)) }
+    ensures done { S.honest store.new
+        → OnOk result (Sets head_path (Some head.now.text.now) (S.files store.old) (S.files store.new)) }
     ensures stopped { S.honest store.new → (cause : Cause) → result ≡ Err (Refusal.Failed (failures.Interrupted cause))
-        → (S.files store.new ≡ S.files store.old) ⊎ Sets head_path (Some head.now.text.now) (S.files store.old) (S.files store.new) }
+        → (S.files store.new ≡ S.files store.old)
+        ⊎ Sets head_path (Some head.now.text.now) (S.files store.old) (S.files store.new) }
     ensures lasting { S.honest store.new → HaveTree S.Store store.old (tree_of (S.files store.old))
         → OnOk result (IsSynced S.Store store.new) }
     ensures left { S.honest store.new → HaveTree S.Store store.old (tree_of (S.files store.old))
@@ -231,7 +265,8 @@ fn clear_head<S: Store>(alloc: Global, store: &mut S, head: &NewHead<'_>) -> Res
     ensures never_moved { (path : List ℕ) → result ≢ Err (Refusal.Moved path) }
     ensures clash { S.honest store.new → ¬ (Clashes (S.files store.old) head_path) → IfErr result IsNoClash }
     ensures early { IfErr result (λ refusal. IsEarly refusal → OnlyReads S.Store store.old store.new) }
-    ensures late { (cause : Cause) → result ≡ Err (Refusal.Failed (failures.Interrupted cause)) → cause ≢ causes.Moved → S.mutations store.old < S.mutations store.new }
+    ensures late { (cause : Cause) → result ≡ Err (Refusal.Failed (failures.Interrupted cause)) → cause ≢ causes.Moved
+        → S.mutations store.old < S.mutations store.new }
     ensures fault { IfErr result (HasCause (S.failures store.old < S.failures store.new)) }
     ensures later { IsLater S.Store store.old store.new }
 {
@@ -280,7 +315,8 @@ fn find_next<S: Store>(
     change: &Change,
     direction: Direction,
 ) -> Result<(), Refusal>
-    ensures adds { S.honest store.new → IsProper change.now → IsSmall change.now → is_of_tree (path_of change.now) ≡ true
+    ensures adds { S.honest store.new → IsProper change.now → IsSmall change.now
+        → is_of_tree (path_of change.now) ≡ true
         → OnOk result (FindsNext direction (tree_of (S.files store.old)) change.now found.old.changed.items found.new.changed.items found.old.skipped.items found.new.skipped.items) }
     ensures refusal { IfErr result IsEarlyFailure }
     ensures fails { RefusedAsRead S.Store store.old store.new result }
@@ -300,7 +336,8 @@ fn find_next<S: Store>(
 // Where none is to be skipped, the first path is refused.
 fn refuse_first(alloc: Global, skipped: &[PathText], skip_moved: bool) -> Result<(), Refusal>
     ensures none { skip_moved ≡ false → OnOk result (skipped.now ≡ []) }
-    ensures moved { (path : List ℕ) → result ≡ Err (Refusal.Moved path) → (skip_moved ≡ false) × ((rest : List (List ℕ)) × (skipped.now ≡ path ∷ rest)) }
+    ensures moved { (path : List ℕ) → result ≡ Err (Refusal.Moved path) → (skip_moved ≡ false)
+        × ((rest : List (List ℕ)) × (skipped.now ≡ path ∷ rest)) }
     ensures refusal { IfErr result IsTestRefusal }
     ensures fault { (fault : Fault) → result ≢ Err (Refusal.Failed (failures.Fault fault)) }
 {

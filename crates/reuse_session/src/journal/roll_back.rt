@@ -37,36 +37,49 @@ pub fn roll_back<S: Store>(
     direction: Direction,
     head: &NewHead<'_>,
 ) -> Result<(), Refusal>
-    ensures done { S.honest store.new → IsEntry changes.now → OnOk result (IsRolledBack direction changes.now head.now.text.now (S.files store.old) (S.files store.new)) }
+    ensures done { S.honest store.new → IsEntry changes.now
+        → OnOk result (IsRolledBack direction changes.now head.now.text.now (S.files store.old) (S.files store.new)) }
     ensures moved { S.honest store.new → IsEntry changes.now → (path : List ℕ) → result ≡ Err (Refusal.Moved path)
         → IsFirstWithout (CanBeRolledBack direction (tree_of (S.files store.old))) changes.now path }
     // From a tree on which some of the changes were made, it stops on the way back to that tree.
-    ensures stopped { S.honest store.new → IsEntry changes.now → (start : Files) → ArePartlyMade direction changes.now start (tree_of (S.files store.old))
-        → (cause : Cause) → result ≡ Err (refusals.Failed (failures.Interrupted cause)) → StopsRollingBack direction changes.now head.now.text.now start (S.files store.old) (S.files store.new) }
+    ensures stopped { S.honest store.new → IsEntry changes.now → (start : Files)
+        → ArePartlyMade direction changes.now start (tree_of (S.files store.old))
+        → (cause : Cause) → result ≡ Err (refusals.Failed (failures.Interrupted cause))
+        → StopsRollingBack direction changes.now head.now.text.now start (S.files store.old) (S.files store.new) }
     // It is never refused on the way from a tree.
-    ensures recovers { S.honest store.new → IsEntry changes.now → (start : Files) → AreFiles start → ArePartlyMade direction changes.now start (tree_of (S.files store.old))
+    ensures recovers { S.honest store.new → IsEntry changes.now → (start : Files) → AreFiles start
+        → ArePartlyMade direction changes.now start (tree_of (S.files store.old))
         → (path : List ℕ) → result ≢ Err (Refusal.Moved path) }
     // A loss of power leaves what is there once it is done. Where it stops, some of the changes are
     // still made, or the last head is put or not. That holds if each tree that might be left before
     // is the start with some of the changes made.
-    ensures lasting { S.honest store.new → IsEntry changes.now → (start : Files) → ArePartlyMade direction changes.now start (tree_of (S.files store.old))
-        → Leaves S.Store store.old (λ kept. SomeMade direction changes.now start (tree_of kept)) → OnOk result (IsSynced S.Store store.new) }
-    ensures left { S.honest store.new → IsEntry changes.now → (start : Files) → ArePartlyMade direction changes.now start (tree_of (S.files store.old))
+    ensures lasting { S.honest store.new → IsEntry changes.now → (start : Files)
+        → ArePartlyMade direction changes.now start (tree_of (S.files store.old))
         → Leaves S.Store store.old (λ kept. SomeMade direction changes.now start (tree_of kept))
-        → (cause : Cause) → result ≡ Err (refusals.Failed (failures.Interrupted cause)) → StopsBackWithDoubt S.Store direction changes.now head.now.text.now start (S.files store.old) store.new }
+        → OnOk result (IsSynced S.Store store.new) }
+    ensures left { S.honest store.new → IsEntry changes.now → (start : Files)
+        → ArePartlyMade direction changes.now start (tree_of (S.files store.old))
+        → Leaves S.Store store.old (λ kept. SomeMade direction changes.now start (tree_of kept))
+        → (cause : Cause) → result ≡ Err (refusals.Failed (failures.Interrupted cause))
+        → StopsBackWithDoubt S.Store direction changes.now head.now.text.now start (S.files store.old) store.new }
     // Where it stops, each path is as it was or is rolled back.
-    ensures back { S.honest store.new → IsEntry changes.now → (cause : Cause) → result ≡ Err (refusals.Failed (failures.Interrupted cause))
+    ensures back { S.honest store.new → IsEntry changes.now → (cause : Cause)
+        → result ≡ Err (refusals.Failed (failures.Interrupted cause))
         → StopsBack direction changes.now head.now.text.now (S.files store.old) (S.files store.new) }
     ensures refusal { IfErr result IsRollBackRefusal }
-    ensures clash { S.honest store.new → IsEntry changes.now → ¬ (Clashes (S.files store.old) head_path) → IfErr result IsNoClash }
+    ensures clash { S.honest store.new → IsEntry changes.now → ¬ (Clashes (S.files store.old) head_path)
+        → IfErr result IsNoClash }
     // It stops only where each change isn't made or can be taken back.
-    ensures tested { S.honest store.new → IsEntry changes.now → (cause : Cause) → result ≡ Err (refusals.Failed (failures.Interrupted cause))
+    ensures tested { S.honest store.new → IsEntry changes.now → (cause : Cause)
+        → result ≡ Err (refusals.Failed (failures.Interrupted cause))
         → All (CanBeRolledBack direction (tree_of (S.files store.old))) changes.now }
-    ensures folder { S.honest store.new → IsEntry changes.now → IsSameBut head_path (undo_folder_of (S.files store.old)) (undo_folder_of (S.files store.new)) }
+    ensures folder { S.honest store.new → IsEntry changes.now
+        → IsSameBut head_path (undo_folder_of (S.files store.old)) (undo_folder_of (S.files store.new)) }
     // It is refused before it has moved anything, and stops after that; one that tells a file that
     // changed since it was tested may stop before.
     ensures early { IfErr result (λ refusal. IsEarly refusal → OnlyReads S.Store store.old store.new) }
-    ensures late { (cause : Cause) → result ≡ Err (refusals.Failed (failures.Interrupted cause)) → cause ≢ Cause.Moved → S.mutations store.old < S.mutations store.new }
+    ensures late { (cause : Cause) → result ≡ Err (refusals.Failed (failures.Interrupted cause)) → cause ≢ Cause.Moved
+        → S.mutations store.old < S.mutations store.new }
     ensures fault { IfErr result (HasCause (S.failures store.old < S.failures store.new)) }
     ensures written { IsEntry changes.now → S.written store.new ≤ S.written store.old + length head.now.text.now }
     ensures mutations { S.mutations store.new ≤ S.mutations store.old + length changes.now + 1 }
@@ -103,18 +116,26 @@ fn roll_back_changes<S: Store>(
     head: &NewHead<'_>,
     started: &mut bool,
 ) -> Result<(), Cause>
-    ensures done { S.honest store.new → IsEntry changes.now → OnOk result (IsRolledBack direction changes.now head.now.text.now (S.files store.old) (S.files store.new)) }
-    ensures stopped { S.honest store.new → IsEntry changes.now → (start : Files) → ArePartlyMade direction changes.now start (tree_of (S.files store.old))
+    ensures done { S.honest store.new → IsEntry changes.now
+        → OnOk result (IsRolledBack direction changes.now head.now.text.now (S.files store.old) (S.files store.new)) }
+    ensures stopped { S.honest store.new → IsEntry changes.now → (start : Files)
+        → ArePartlyMade direction changes.now start (tree_of (S.files store.old))
         → OnErr result (StopsRollingBack direction changes.now head.now.text.now start (S.files store.old) (S.files store.new)) }
-    ensures lasting { S.honest store.new → IsEntry changes.now → (start : Files) → ArePartlyMade direction changes.now start (tree_of (S.files store.old))
-        → Leaves S.Store store.old (IsMidway direction changes.now start (undo_folder_of (S.files store.old))) → OnOk result (IsSynced S.Store store.new) }
-    ensures left { S.honest store.new → IsEntry changes.now → (start : Files) → ArePartlyMade direction changes.now start (tree_of (S.files store.old))
+    ensures lasting { S.honest store.new → IsEntry changes.now → (start : Files)
+        → ArePartlyMade direction changes.now start (tree_of (S.files store.old))
+        → Leaves S.Store store.old (IsMidway direction changes.now start (undo_folder_of (S.files store.old)))
+        → OnOk result (IsSynced S.Store store.new) }
+    ensures left { S.honest store.new → IsEntry changes.now → (start : Files)
+        → ArePartlyMade direction changes.now start (tree_of (S.files store.old))
         → Leaves S.Store store.old (IsMidway direction changes.now start (undo_folder_of (S.files store.old)))
         → OnErr result (StopsBackWithDoubt S.Store direction changes.now head.now.text.now start (S.files store.old) store.new) }
-    ensures back { S.honest store.new → IsEntry changes.now → OnErr result (StopsBack direction changes.now head.now.text.now (S.files store.old) (S.files store.new)) }
-    ensures cause { S.honest store.new → IsEntry changes.now → All (CanBeRolledBack direction (tree_of (S.files store.old))) changes.now
+    ensures back { S.honest store.new → IsEntry changes.now
+        → OnErr result (StopsBack direction changes.now head.now.text.now (S.files store.old) (S.files store.new)) }
+    ensures cause { S.honest store.new → IsEntry changes.now
+        → All (CanBeRolledBack direction (tree_of (S.files store.old))) changes.now
         → ¬ (Clashes (S.files store.old) head_path) → (result ≢ Err Cause.Moved) × (result ≢ Err Cause.Clash) }
-    ensures folder { S.honest store.new → IsEntry changes.now → IsSameBut head_path (undo_folder_of (S.files store.old)) (undo_folder_of (S.files store.new)) }
+    ensures folder { S.honest store.new → IsEntry changes.now
+        → IsSameBut head_path (undo_folder_of (S.files store.old)) (undo_folder_of (S.files store.new)) }
     ensures notes { NotesMutations S.Store started.old started.new store.old store.new }
     ensures device { IsErrOf result Cause.Device → S.failures store.old < S.failures store.new }
     ensures written { IsEntry changes.now → S.written store.new ≤ S.written store.old + length head.now.text.now }

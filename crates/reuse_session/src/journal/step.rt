@@ -42,17 +42,21 @@ pub fn commit_step<S: Store>(
     // After a loss of power, if nothing but the journal was in doubt before: what is there, once it
     // is done; and where it stops, what was there with the pending head, or with some changes too,
     // or with all and the last head.
-    ensures lasting { S.honest store.new → IsEntry changes.now → HaveTree S.Store store.old (tree_of (S.files store.old)) → OnOk result (IsSynced S.Store store.new) }
+    ensures lasting { S.honest store.new → IsEntry changes.now
+        → HaveTree S.Store store.old (tree_of (S.files store.old)) → OnOk result (IsSynced S.Store store.new) }
     ensures doubt { S.honest store.new → IsEntry changes.now → HaveTree S.Store store.old (tree_of (S.files store.old))
         → OnErr result (StopsWithDoubt S.Store direction changes.now heads.now.pending.now heads.now.settled.now store.old store.new) }
     // Where each change can be made, no file has moved, and a clash is that of the head.
-    ensures moved { S.honest store.new → IsEntry changes.now → All (CanBeMade direction (tree_of (S.files store.old))) changes.now
+    ensures moved { S.honest store.new → IsEntry changes.now
+        → All (CanBeMade direction (tree_of (S.files store.old))) changes.now
         → result ≢ Err Cause.Moved }
-    ensures clash { S.honest store.new → IsEntry changes.now → All (CanBeMade direction (tree_of (S.files store.old))) changes.now
+    ensures clash { S.honest store.new → IsEntry changes.now
+        → All (CanBeMade direction (tree_of (S.files store.old))) changes.now
         → result ≡ Err Cause.Clash → Clashes (S.files store.old) head_path }
     ensures device { IsErrOf result Cause.Device → S.failures store.old < S.failures store.new }
     ensures begun { IsEntry changes.now → S.written store.old + length heads.now.pending.now ≤ S.written store.new }
-    ensures written { IsEntry changes.now → S.written store.new ≤ S.written store.old + length heads.now.pending.now + length heads.now.settled.now }
+    ensures written { IsEntry changes.now
+        → S.written store.new ≤ S.written store.old + length heads.now.pending.now + length heads.now.settled.now }
     ensures mutations { S.mutations store.new ≤ S.mutations store.old + length changes.now + 2 }
     ensures later { IsLater S.Store store.old store.new }
 {

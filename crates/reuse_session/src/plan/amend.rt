@@ -67,7 +67,8 @@ fn plan_table<S: Store>(
     path: &PathText,
     asked: &Amendment<'_>,
 ) -> Result<Option<Change>, Refusal>
-    ensures edit { S.honest store.new → (bytes : List ℕ) → get (tree_of (S.files store.old)) path.now ≡ Some bytes → AnswersEdit (tree_of (S.files store.old)) (table_by asked.now path.now bytes) result }
+    ensures edit { S.honest store.new → (bytes : List ℕ) → get (tree_of (S.files store.old)) path.now ≡ Some bytes
+        → AnswersEdit (tree_of (S.files store.old)) (table_by asked.now path.now bytes) result }
     ensures asks { ReadsAlone S.Store IsOfPlan store.old store.new result }
 {
     let reading = store.read(alloc, path, LONGEST_FILE)?;
@@ -81,7 +82,8 @@ fn plan_table_text(
     asked: &Amendment<'_>,
     reading: Reading,
 ) -> Result<Option<Change>, Refusal>
-    ensures edit { (tree : Files) (bytes : List ℕ) → get tree path.now ≡ Some bytes → reading ≡ reading_of (Some bytes) LONGEST_FILE → AnswersEdit tree (table_by asked.now path.now bytes) result }
+    ensures edit { (tree : Files) (bytes : List ℕ) → get tree path.now ≡ Some bytes
+        → reading ≡ reading_of (Some bytes) LONGEST_FILE → AnswersEdit tree (table_by asked.now path.now bytes) result }
     ensures no_fault { IfErr result IsNoFault }
 {
     let bytes = short_bytes(alloc, path, reading)?;
@@ -116,7 +118,9 @@ fn plan_beside<S: Store>(
     path: &PathText,
     asked: &Amendment<'_>,
 ) -> Result<Option<Change>, Refusal>
-    ensures edit { S.honest store.new → (bytes : List ℕ) → get (tree_of (S.files store.old)) (neighbour_of path.now) ≡ Some bytes → AnswersEdit (tree_of (S.files store.old)) (beside_by asked.now path.now bytes) result }
+    ensures edit { S.honest store.new → (bytes : List ℕ)
+        → get (tree_of (S.files store.old)) (neighbour_of path.now) ≡ Some bytes
+        → AnswersEdit (tree_of (S.files store.old)) (beside_by asked.now path.now bytes) result }
     ensures asks { ReadsAlone S.Store IsOfPlan store.old store.new result }
 {
     let Some(neighbour) = neighbour_path(alloc, path)? else {
@@ -134,8 +138,10 @@ fn plan_neighbour(
     asked: &Amendment<'_>,
     reading: Reading,
 ) -> Result<Option<Change>, Refusal>
-    ensures edit { (tree : Files) (bytes : List ℕ) → neighbour.now ≡ neighbour_of path.now → nat_lt 4096 (length (neighbour_of path.now)) ≡ false
-        → get tree neighbour.now ≡ Some bytes → reading ≡ reading_of (Some bytes) LONGEST_FILE → AnswersEdit tree (beside_by asked.now path.now bytes) result }
+    ensures edit { (tree : Files) (bytes : List ℕ) → neighbour.now ≡ neighbour_of path.now
+        → nat_lt 4096 (length (neighbour_of path.now)) ≡ false
+        → get tree neighbour.now ≡ Some bytes → reading ≡ reading_of (Some bytes) LONGEST_FILE
+        → AnswersEdit tree (beside_by asked.now path.now bytes) result }
     ensures no_fault { IfErr result IsNoFault }
 {
     let bytes = short_bytes(alloc, path, reading)?;
@@ -153,7 +159,8 @@ fn plan_inside<S: Store>(
     style: Style,
     asked: &Amendment<'_>,
 ) -> Result<Option<Change>, Refusal>
-    ensures edit { S.honest store.new → (bytes : List ℕ) → get (tree_of (S.files store.old)) path.now ≡ Some bytes → AnswersEdit (tree_of (S.files store.old)) (inside_by asked.now path.now bytes (Some style)) result }
+    ensures edit { S.honest store.new → (bytes : List ℕ) → get (tree_of (S.files store.old)) path.now ≡ Some bytes
+        → AnswersEdit (tree_of (S.files store.old)) (inside_by asked.now path.now bytes (Some style)) result }
     ensures asks { ReadsAlone S.Store IsOfPlan store.old store.new result }
 {
     let reading = store.read(alloc, path, LONGEST_FILE)?;
@@ -168,7 +175,9 @@ fn plan_block(
     asked: &Amendment<'_>,
     reading: Reading,
 ) -> Result<Option<Change>, Refusal>
-    ensures edit { (tree : Files) (bytes : List ℕ) → get tree path.now ≡ Some bytes → reading ≡ reading_of (Some bytes) LONGEST_FILE → AnswersEdit tree (inside_by asked.now path.now bytes (Some style)) result }
+    ensures edit { (tree : Files) (bytes : List ℕ) → get tree path.now ≡ Some bytes
+        → reading ≡ reading_of (Some bytes) LONGEST_FILE
+        → AnswersEdit tree (inside_by asked.now path.now bytes (Some style)) result }
     ensures no_fault { IfErr result IsNoFault }
 {
     let bytes = short_bytes(alloc, path, reading)?;

@@ -24,7 +24,8 @@ pub(crate) fn with_table<S: Store>(
     places: &[Place],
     scope: &Scope,
 ) -> Result<Vec<Place>, Refusal>
-    ensures places { S.honest store.new → IfOk result (λ all. all.items ≡ with_table scope.now places.now (tree_of (S.files store.old))) }
+    ensures places { S.honest store.new
+        → IfOk result (λ all. all.items ≡ with_table scope.now places.now (tree_of (S.files store.old))) }
     ensures asks { ReadsAlone S.Store IsEarlyFailure store.old store.new result }
 {
     let is_chosen = is_table_chosen(alloc, store, places, scope)?;

@@ -55,7 +55,8 @@ fn plan_beside<S: Store>(
     path: &PathText,
     asked: &Annotation<'_>,
 ) -> Result<PathPlan, Refusal>
-    ensures plan { S.honest store.new → ShowsPair paths.now (tree_of (S.files store.old)) path.now → is_covered path.now ≡ true
+    ensures plan { S.honest store.new → ShowsPair paths.now (tree_of (S.files store.old)) path.now
+        → is_covered path.now ≡ true
         → AnswersPlan Stop (tree_of (S.files store.old)) (path_beside_by asked.now (tree_of (S.files store.old)) path.now) result }
     ensures asks { ReadsAlone S.Store IsOfPlan store.old store.new result }
 {

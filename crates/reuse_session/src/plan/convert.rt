@@ -25,7 +25,8 @@ pub(crate) fn plan_conversion<S: Store>(
     alloc: Global,
     store: &mut S,
 ) -> Result<Vec<Change>, Refusal>
-    ensures edits { S.honest store.new → AnswersEdits (tree_of (S.files store.old)) (conversion_edits (tree_of (S.files store.old))) result }
+    ensures edits { S.honest store.new
+        → AnswersEdits (tree_of (S.files store.old)) (conversion_edits (tree_of (S.files store.old))) result }
     ensures asks { ReadsAlone S.Store IsOfPlan store.old store.new result }
 {
     let dep5 = known_path(alloc, ".reuse/dep5")?;
@@ -39,7 +40,8 @@ pub(crate) fn toml_paths<S: Store>(
     alloc: Global,
     store: &mut S,
 ) -> Result<Vec<PathText>, StoreFault>
-    ensures paths { S.honest store.new → IfOk result (λ paths. Shows paths.items (tree_of (S.files store.old)) toml_path) }
+    ensures paths { S.honest store.new
+        → IfOk result (λ paths. Shows paths.items (tree_of (S.files store.old)) toml_path) }
     ensures fails { FailsAsRead S.Store store.old store.new result }
     ensures reads { OnlyReads S.Store store.old store.new }
 {
@@ -55,7 +57,8 @@ fn conversion_of(
     dep5: PathText,
     reading: Reading,
 ) -> Result<Vec<Change>, Refusal>
-    ensures edits { (tree : Files) → Shows paths.now tree toml_path → dep5 ≡ dep5_path → reading ≡ reading_of (get tree dep5_path) LONGEST_FILE
+    ensures edits { (tree : Files) → Shows paths.now tree toml_path → dep5 ≡ dep5_path
+        → reading ≡ reading_of (get tree dep5_path) LONGEST_FILE
         → AnswersEdits tree (conversion_edits tree) result }
     ensures no_fault { IfErr result IsNoFault }
 {
@@ -73,7 +76,8 @@ fn replacement(
     dep5: PathText,
     bytes: Bytes,
 ) -> Result<Vec<Change>, Refusal>
-    ensures edits { (tree : Files) → Shows paths.now tree toml_path → dep5 ≡ dep5_path → get tree dep5_path ≡ Some bytes → length bytes ≤ LONGEST_FILE
+    ensures edits { (tree : Files) → Shows paths.now tree toml_path → dep5 ≡ dep5_path → get tree dep5_path ≡ Some bytes
+        → length bytes ≤ LONGEST_FILE
         → AnswersEdits tree (conversion_edits tree) result }
     ensures no_fault { IfErr result IsNoFault }
 {
@@ -97,8 +101,10 @@ fn changes_to(
     toml: PathText,
     new: Bytes,
 ) -> Result<Vec<Change>, Refusal>
-    ensures edits { (tree : Files) → Shows paths.now tree toml_path → dep5 ≡ dep5_path → toml ≡ toml_path → get tree dep5_path ≡ Some old → length old ≤ LONGEST_FILE
-        → is_among paths.now toml_path ≡ false → converted old ≡ Ok new → length new ≤ LONGEST_FILE → AnswersEdits tree (conversion_edits tree) result }
+    ensures edits { (tree : Files) → Shows paths.now tree toml_path → dep5 ≡ dep5_path → toml ≡ toml_path
+        → get tree dep5_path ≡ Some old → length old ≤ LONGEST_FILE
+        → is_among paths.now toml_path ≡ false → converted old ≡ Ok new → length new ≤ LONGEST_FILE
+        → AnswersEdits tree (conversion_edits tree) result }
     ensures no_fault { IfErr result IsNoFault }
 {
     if is_clash(alloc, paths, &toml)? {

@@ -44,7 +44,8 @@ pub(crate) fn plan_download<S: Store>(
 // The paths of the tree at which licences stand, and what else is there: no other folder is looked
 // at.
 fn licence_paths<S: Store>(alloc: Global, store: &mut S) -> Result<Vec<PathText>, StoreFault>
-    ensures paths { S.honest store.new → IfOk result (λ paths. ShowsLicences paths.items (tree_of (S.files store.old))) }
+    ensures paths { S.honest store.new
+        → IfOk result (λ paths. ShowsLicences paths.items (tree_of (S.files store.old))) }
     ensures fails { FailsAsRead S.Store store.old store.new result }
     ensures reads { OnlyReads S.Store store.old store.new }
 {
@@ -60,7 +61,8 @@ fn download_on(
     texts: &[LicenceText],
     policy: Policy,
 ) -> Result<Vec<PathPlan>, Refusal>
-    ensures plans { (tree : Files) → ShowsLicences paths.now tree → AnswersPlans policy tree (downloads_at ids.now texts.now tree) result }
+    ensures plans { (tree : Files) → ShowsLicences paths.now tree
+        → AnswersPlans policy tree (downloads_at ids.now texts.now tree) result }
     ensures ends { IfErr result (EndsWalk policy) }
     ensures no_fault { IfErr result IsNoFault }
 {
@@ -91,9 +93,12 @@ fn find_ids(
     texts: &[LicenceText],
     policy: Policy,
 ) -> Result<FoundIds, Refusal>
-    ensures refused { (tree : Files) → ShowsLicences paths.now tree → IfOk result (λ found. ArePlansOf policy tree (id_refusals tree texts.now ids.now) found.refused.items) }
-    ensures made { (tree : Files) → ShowsLicences paths.now tree → id_refusals tree texts.now ids.now ≡ [] → IfOk result (λ found. found.made.items ≡ map licence_path ids.now) }
-    ensures ended { (tree : Files) → ShowsLicences paths.now tree → IfErr result (IsRefusalOf (edits_in (id_refusals tree texts.now ids.now))) }
+    ensures refused { (tree : Files) → ShowsLicences paths.now tree
+        → IfOk result (λ found. ArePlansOf policy tree (id_refusals tree texts.now ids.now) found.refused.items) }
+    ensures made { (tree : Files) → ShowsLicences paths.now tree → id_refusals tree texts.now ids.now ≡ []
+        → IfOk result (λ found. found.made.items ≡ map licence_path ids.now) }
+    ensures ended { (tree : Files) → ShowsLicences paths.now tree
+        → IfErr result (IsRefusalOf (edits_in (id_refusals tree texts.now ids.now))) }
     ensures ends { IfErr result (EndsWalk policy) }
     ensures no_fault { IfErr result IsNoFault }
 {
@@ -135,8 +140,10 @@ fn made_path(
     id: &Bytes,
     texts: &[LicenceText],
 ) -> Result<PathText, Refusal>
-    ensures made { (tree : Files) → ShowsLicences paths.now tree → IfOk result (λ path. (path ≡ licence_path id.now) × (id_refusal tree texts.now id.now ≡ None)) }
-    ensures refused { (tree : Files) → ShowsLicences paths.now tree → IfErr result (IsRefused (id_refusal tree texts.now id.now)) }
+    ensures made { (tree : Files) → ShowsLicences paths.now tree
+        → IfOk result (λ path. (path ≡ licence_path id.now) × (id_refusal tree texts.now id.now ≡ None)) }
+    ensures refused { (tree : Files) → ShowsLicences paths.now tree
+        → IfErr result (IsRefused (id_refusal tree texts.now id.now)) }
     ensures no_fault { IfErr result IsNoFault }
 {
     match as_id(id.as_slice()) {
@@ -159,8 +166,10 @@ fn path_for(
     path: PathText,
     found: Option<&Bytes>,
 ) -> Result<PathText, Refusal>
-    ensures made { (tree : Files) → ShowsLicences paths.now tree → path ≡ licence_path id.now → IfOk result (λ made. (made ≡ path) × (refusal_of_found tree id.now (option_copied found.entry) ≡ None)) }
-    ensures refused { (tree : Files) → ShowsLicences paths.now tree → path ≡ licence_path id.now → IfErr result (IsRefused (refusal_of_found tree id.now (option_copied found.entry))) }
+    ensures made { (tree : Files) → ShowsLicences paths.now tree → path ≡ licence_path id.now
+        → IfOk result (λ made. (made ≡ path) × (refusal_of_found tree id.now (option_copied found.entry) ≡ None)) }
+    ensures refused { (tree : Files) → ShowsLicences paths.now tree → path ≡ licence_path id.now
+        → IfErr result (IsRefused (refusal_of_found tree id.now (option_copied found.entry))) }
     ensures no_fault { IfErr result IsNoFault }
 {
     let Some(text) = found else {

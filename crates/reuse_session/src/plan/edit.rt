@@ -35,7 +35,8 @@ pub(crate) fn change_by(
     file: &[u8],
     made: Result<Option<Splice>, HeaderRefusal>,
 ) -> Result<Option<Change>, Refusal>
-    ensures edit { (tree : Files) (due : Due) → get tree at.now ≡ Some file.now → length file.now ≤ LONGEST_FILE → Fits file.now due → IsDue (answer_of file.now due) made
+    ensures edit { (tree : Files) (due : Due) → get tree at.now ≡ Some file.now → length file.now ≤ LONGEST_FILE
+        → Fits file.now due → IsDue (answer_of file.now due) made
         → AnswersEdit tree (edit_by path.now at.now file.now due) result }
     ensures no_fault { IfErr result IsNoFault }
 {
@@ -78,8 +79,10 @@ pub(crate) fn amendment_by(
     file: &[u8],
     made: Result<Option<Splice>, AmendHeaderRefusal>,
 ) -> Result<Option<Change>, Refusal>
-    ensures edit { (tree : Files) (due : amending.Due) → get tree at.now ≡ Some file.now → length file.now ≤ LONGEST_FILE → amending.Fits file.now due
-        → IsAmendmentDue (amendment_answer file.now due) made → AnswersEdit tree (amendment_edit path.now at.now file.now due) result }
+    ensures edit { (tree : Files) (due : amending.Due) → get tree at.now ≡ Some file.now
+        → length file.now ≤ LONGEST_FILE → amending.Fits file.now due
+        → IsAmendmentDue (amendment_answer file.now due) made
+        → AnswersEdit tree (amendment_edit path.now at.now file.now due) result }
     ensures no_fault { IfErr result IsNoFault }
 {
     match made {
@@ -98,8 +101,10 @@ pub(crate) fn table_change_by(
     made: Result<Option<TomlSplice>, AmendTomlRefusal>,
 ) -> Result<Option<Change>, Refusal>
     requires { amending.IsWithin file.now made }
-    ensures edit { (tree : Files) (amendments : Amendments) → get tree path.now ≡ Some file.now → length file.now ≤ LONGEST_FILE
-        → IsTomlAnswer (toml_amendment_of amendments file.now) made → AnswersEdit tree (table_amendment path.now file.now (toml_amendment_of amendments file.now)) result }
+    ensures edit { (tree : Files) (amendments : Amendments) → get tree path.now ≡ Some file.now
+        → length file.now ≤ LONGEST_FILE
+        → IsTomlAnswer (toml_amendment_of amendments file.now) made
+        → AnswersEdit tree (table_amendment path.now file.now (toml_amendment_of amendments file.now)) result }
     ensures no_fault { IfErr result IsNoFault }
 {
     match made {

@@ -59,7 +59,8 @@ pub(crate) enum Policy {
 impl Policy {
     /// The plan of a path that is refused so, where the walk goes on.
     pub(crate) fn refused(self, refusal: Refusal) -> Result<PathPlan, Refusal>
-        ensures plan { (tree : Files) (here : PathEdit) → IsRefusalOf here.edit refusal → AnswersPlan self tree here result }
+        ensures plan { (tree : Files) (here : PathEdit) → IsRefusalOf here.edit refusal
+            → AnswersPlan self tree here result }
         ensures told { IfOk result (λ plan. IsTold refusal) }
         ensures same { IfErr result (λ ended. ended ≡ refusal) }
         ensures ends { IsOfPlan refusal → IfErr result (EndsWalk self) }
@@ -93,7 +94,8 @@ impl Policy {
         alloc: Global,
         changes: Result<Vec<Change>, Refusal>,
     ) -> Result<Vec<PathPlan>, Refusal>
-        ensures plans { (tree : Files) (edits : Result (List Edit) Refusal) → AnswersEdits tree edits changes → AnswersPlans self tree (all_or_none edits) result }
+        ensures plans { (tree : Files) (edits : Result (List Edit) Refusal) → AnswersEdits tree edits changes
+            → AnswersPlans self tree (all_or_none edits) result }
         ensures same { IfErr result (λ ended. (ended ≡ Refusal.Failed failures.Memory) ⊎ (changes ≡ Err ended)) }
         ensures ends { IfErr changes IsOfPlan → IfErr result (EndsWalk self) }
     {

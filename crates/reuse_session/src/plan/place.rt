@@ -50,9 +50,11 @@ pub(crate) fn absent_refusal(
     paths: &[PathText],
     path: &PathText,
 ) -> Result<Refusal, AllocError>
-    ensures annotated { (how : How) (scope : Scope) (additions : Additions) (own : OwnNames) (tree : Files) → ShowsPair paths.now tree path.now → is_among paths.now path.now ≡ false
+    ensures annotated { (how : How) (scope : Scope) (additions : Additions) (own : OwnNames) (tree : Files)
+        → ShowsPair paths.now tree path.now → is_among paths.now path.now ≡ false
         → IfOk result (λ refusal. annotated_at how scope additions own tree path.now ≡ Err refusal) }
-    ensures amended { (amendments : Amendments) (scope : Scope) (own : OwnNames) (tree : Files) → ShowsPair paths.now tree path.now → is_among paths.now path.now ≡ false
+    ensures amended { (amendments : Amendments) (scope : Scope) (own : OwnNames) (tree : Files)
+        → ShowsPair paths.now tree path.now → is_among paths.now path.now ≡ false
         → IfOk result (λ refusal. amended_at amendments scope own tree path.now ≡ Err refusal) }
     ensures no_fault { IfOk result IsNoFault }
 {
@@ -86,7 +88,8 @@ pub(crate) fn plan_reading(
     asked: &Annotation<'_>,
     reading: Reading,
 ) -> Result<Step, Refusal>
-    ensures step { (tree : Files) (bytes : List ℕ) → get tree path.now ≡ Some bytes → reading ≡ reading_of (Some bytes) LONGEST_FILE
+    ensures step { (tree : Files) (bytes : List ℕ) → get tree path.now ≡ Some bytes
+        → reading ≡ reading_of (Some bytes) LONGEST_FILE
         → StepsTo asked.now tree path.now bytes result }
     ensures no_fault { IfErr result IsNoFault }
 {
@@ -105,7 +108,8 @@ pub(crate) fn short_bytes(
     path: &PathText,
     reading: Reading,
 ) -> Result<Bytes, Refusal>
-    ensures answer { (file : List ℕ) → reading ≡ reading_of (Some file) LONGEST_FILE → AnswersOf (short_file path.now file) result }
+    ensures answer { (file : List ℕ) → reading ≡ reading_of (Some file) LONGEST_FILE
+        → AnswersOf (short_file path.now file) result }
     ensures short { IfOk result (λ bytes. length bytes ≤ LONGEST_FILE) }
     ensures no_fault { IfErr result IsNoFault }
 {
@@ -129,7 +133,8 @@ fn plan_inside(
     asked: &Annotation<'_>,
 ) -> Result<Step, Refusal>
     requires { length bytes.now ≤ LONGEST_FILE }
-    ensures step { (tree : Files) → get tree path.now ≡ Some bytes.now → StepsBy tree (path_inside_by asked.now path.now bytes.now style) result }
+    ensures step { (tree : Files) → get tree path.now ≡ Some bytes.now
+        → StepsBy tree (path_inside_by asked.now path.now bytes.now style) result }
     ensures no_fault { IfErr result IsNoFault }
 {
     if asked.scope.skip_existing && find(bytes, style).block.is_some() {
@@ -153,7 +158,8 @@ pub(crate) fn plan_neighbour(
     asked: &Annotation<'_>,
     reading: Reading,
 ) -> Result<PathPlan, Refusal>
-    ensures plan { (tree : Files) (bytes : List ℕ) → neighbour.now ≡ neighbour_of path.now → get tree neighbour.now ≡ Some bytes → reading ≡ reading_of (Some bytes) LONGEST_FILE
+    ensures plan { (tree : Files) (bytes : List ℕ) → neighbour.now ≡ neighbour_of path.now
+        → get tree neighbour.now ≡ Some bytes → reading ≡ reading_of (Some bytes) LONGEST_FILE
         → AnswersPlan Stop tree (path_neighbour_by asked.now tree path.now (Some bytes)) result }
     ensures no_fault { IfErr result IsNoFault }
 {
@@ -178,7 +184,8 @@ pub(crate) fn plan_new_neighbour<S: Store>(
     neighbour: PathText,
     asked: &Annotation<'_>,
 ) -> Result<Option<Change>, Refusal>
-    ensures edit { S.honest store.new → is_covered path.now ≡ true → neighbour ≡ neighbour_of path.now → get (tree_of (S.files store.old)) neighbour ≡ None
+    ensures edit { S.honest store.new → is_covered path.now ≡ true → neighbour ≡ neighbour_of path.now
+        → get (tree_of (S.files store.old)) neighbour ≡ None
         → AnswersEdit (tree_of (S.files store.old)) (neighbour_by asked.now (tree_of (S.files store.old)) path.now None) result }
     ensures asks { ReadsAlone S.Store IsOfPlan store.old store.new result }
 {
@@ -195,7 +202,8 @@ fn make_neighbour(
     neighbour: PathText,
     asked: &Annotation<'_>,
 ) -> Result<Option<Change>, Refusal>
-    ensures edit { (tree : Files) → neighbour ≡ neighbour_of path.now → get tree neighbour ≡ None → is_clash tree neighbour ≡ false
+    ensures edit { (tree : Files) → neighbour ≡ neighbour_of path.now → get tree neighbour ≡ None
+        → is_clash tree neighbour ≡ false
         → AnswersEdit tree (neighbour_by asked.now tree path.now None) result }
     ensures no_fault { IfErr result IsNoFault }
 {

@@ -86,7 +86,8 @@ fn plan_back(
     skip_moved: bool,
     policy: Policy,
 ) -> Result<PathPlan, Refusal>
-    ensures plan { (touched : List (List ℕ)) (tree : Files) → MakesEdit tree (Ok (taken_back_unless touched tree change.now)) back
+    ensures plan { (touched : List (List ℕ)) (tree : Files)
+        → MakesEdit tree (Ok (taken_back_unless touched tree change.now)) back
         → AnswersPlan policy tree (reverted_at touched skip_moved tree change.now) result }
     ensures ends { IfErr result (EndsWalk policy) }
     ensures other { IfErr result IsTestRefusal }
@@ -106,7 +107,8 @@ fn take_back_unless<S: Store>(
     touched: &PathList,
     change: &Change,
 ) -> Result<Option<Change>, Refusal>
-    ensures edit { S.honest store.new → IsProper change.now → IsSmall change.now → is_of_tree (path_of change.now) ≡ true
+    ensures edit { S.honest store.new → IsProper change.now → IsSmall change.now
+        → is_of_tree (path_of change.now) ≡ true
         → IfOk result (MakesEdit (tree_of (S.files store.old)) (Ok (taken_back_unless touched.now (tree_of (S.files store.old)) change.now))) }
     ensures asks { ReadsAlone S.Store IsEarlyFailure store.old store.new result }
 {
@@ -122,7 +124,8 @@ fn take_back<S: Store>(
     store: &mut S,
     change: &Change,
 ) -> Result<Option<Change>, Refusal>
-    ensures edit { S.honest store.new → IsProper change.now → IsSmall change.now → is_of_tree (path_of change.now) ≡ true
+    ensures edit { S.honest store.new → IsProper change.now → IsSmall change.now
+        → is_of_tree (path_of change.now) ≡ true
         → IfOk result (MakesEdit (tree_of (S.files store.old)) (Ok (taken_back_on (tree_of (S.files store.old)) change.now))) }
     ensures asks { ReadsAlone S.Store IsEarlyFailure store.old store.new result }
 {
@@ -156,7 +159,8 @@ fn change_back(
     change: &Change,
     reading: Reading,
 ) -> Result<Option<Change>, AllocError>
-    ensures { (tree : Files) → IsProper change.now → IsSmall change.now → reading ≡ reading_of (get tree (path_of change.now)) LONGEST_FILE
+    ensures { (tree : Files) → IsProper change.now → IsSmall change.now
+        → reading ≡ reading_of (get tree (path_of change.now)) LONGEST_FILE
         → IfOk result (MakesEdit tree (Ok (taken_back change.now (get tree (path_of change.now))))) }
 {
     match (change, reading) {
@@ -224,7 +228,8 @@ fn put_back(
     file: Bytes,
     written: &Written<'_>,
 ) -> Result<Option<Change>, AllocError>
-    ensures { (tree : Files) → written.now.old.now ≢ written.now.new.now → get tree path.now ≡ Some file → length file ≤ LONGEST_FILE
+    ensures { (tree : Files) → written.now.old.now ≢ written.now.new.now → get tree path.now ≡ Some file
+        → length file ≤ LONGEST_FILE
         → IfOk result (MakesEdit tree (Ok (taken_back (Splice path.now written.now.at written.now.old.now written.now.new.now written.now.rest written.now.seal) (Some file)))) }
 {
     let Written {

@@ -32,7 +32,8 @@ pub(crate) fn plan<S: Store>(
     // The changes hold what the command removes and writes at each path, and no more.
     ensures recorded { S.honest store.new → IfOk result (λ changes. Records (tree_of (S.files store.old)) (edits_of command.now (tree_of (S.files store.old))) changes.items) }
     ensures counts { S.honest store.new → OnOk result (IsCounted command.now (tree_of (S.files store.old)) counts.new) }
-    ensures refusal { S.honest store.new → IfErr result (λ refusal. IsRefusalOf (outcome_of command.now (tree_of (S.files store.old))) refusal) }
+    ensures refusal { S.honest store.new
+        → IfErr result (λ refusal. IsRefusalOf (outcome_of command.now (tree_of (S.files store.old))) refusal) }
     ensures fails { RefusedAsRead S.Store store.old store.new result }
     ensures reads { OnlyReads S.Store store.old store.new }
     ensures planned { IfErr result IsOfPlan }

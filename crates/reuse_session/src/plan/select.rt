@@ -75,8 +75,10 @@ pub(crate) fn find_selected<S: Store>(
     unused: &mut Unused,
 ) -> Result<Selected, Refusal>
     ensures paths { S.honest store.new → IfOk result (λ selected. selected.paths.items ≡ selected_paths scope.now places.now (tree_of (S.files store.old))) }
-    ensures shown { S.honest store.new → IfOk result (λ selected. ShowsEach selected.listing (tree_of (S.files store.old)) selected.paths.items) }
-    ensures unused { S.honest store.new → OnOk result (AreUnusedAt scope.now places.now (tree_of (S.files store.old)) unused.new) }
+    ensures shown { S.honest store.new
+        → IfOk result (λ selected. ShowsEach selected.listing (tree_of (S.files store.old)) selected.paths.items) }
+    ensures unused { S.honest store.new
+        → OnOk result (AreUnusedAt scope.now places.now (tree_of (S.files store.old)) unused.new) }
     ensures asks { ReadsAlone S.Store IsEarlyFailure store.old store.new result }
 {
     if !scope.recursive {
@@ -98,7 +100,8 @@ fn find_beneath<S: Store>(
     unused: &mut Unused,
 ) -> Result<Selected, Refusal>
     ensures paths { S.honest store.new → IfOk result (λ selected. selected.paths.items ≡ set_of (flat_map (expanded scope.now (tree_of (S.files store.old))) places.now)) }
-    ensures shown { S.honest store.new → IfOk result (λ selected. ShowsEach selected.listing (tree_of (S.files store.old)) selected.paths.items) }
+    ensures shown { S.honest store.new
+        → IfOk result (λ selected. ShowsEach selected.listing (tree_of (S.files store.old)) selected.paths.items) }
     ensures unused { S.honest store.new → OnOk result (AreUnused scope.now (set_of (flat_map (expanded scope.now (tree_of (S.files store.old))) places.now)) (found_paths scope.now places.now (tree_of (S.files store.old))) unused.new) }
     ensures asks { ReadsAlone S.Store IsEarlyFailure store.old store.new result }
 {
@@ -170,7 +173,8 @@ fn expanded<S: Store>(
     places: &[Place],
     scope: &Scope,
 ) -> Result<Vec<PathText>, StoreFault>
-    ensures found { S.honest store.new → ArePaths paths.now → All (ShowsPlace scope.now paths.now (tree_of (S.files store.old))) places.now
+    ensures found { S.honest store.new → ArePaths paths.now
+        → All (ShowsPlace scope.now paths.now (tree_of (S.files store.old))) places.now
         → IfOk result (λ found. found.items ≡ flat_map (expanded scope.now (tree_of (S.files store.old))) places.now) }
     ensures fails { FailsAsRead S.Store store.old store.new result }
     ensures reads { OnlyReads S.Store store.old store.new }
@@ -192,7 +196,8 @@ fn push_expanded<S: Store>(
     place: &Place,
     scope: &Scope,
 ) -> Result<(), StoreFault>
-    ensures adds { S.honest store.new → ArePaths paths.now → ShowsPlace scope.now paths.now (tree_of (S.files store.old)) place.now
+    ensures adds { S.honest store.new → ArePaths paths.now
+        → ShowsPlace scope.now paths.now (tree_of (S.files store.old)) place.now
         → OnOk result (found.new.items ≡ found.old.items ++ expanded scope.now (tree_of (S.files store.old)) place.now) }
     ensures fails { FailsAsRead S.Store store.old store.new result }
     ensures reads { OnlyReads S.Store store.old store.new }
@@ -222,7 +227,8 @@ fn stands_alone<S: Store>(
     beneath: &[PathText],
     path: &PathText,
 ) -> Result<bool, StoreFault>
-    ensures alone { S.honest store.new → ((length beneath.now ≡ 0 → ⊥) → is_folder (tree_of (S.files store.old)) path.now ≡ true)
+    ensures alone { S.honest store.new
+        → ((length beneath.now ≡ 0 → ⊥) → is_folder (tree_of (S.files store.old)) path.now ≡ true)
         → IfOk result (λ alone. alone ≡ not (is_folder (tree_of (S.files store.old)) path.now)) }
     ensures fails { FailsAsRead S.Store store.old store.new result }
     ensures reads { OnlyReads S.Store store.old store.new }

@@ -35,7 +35,8 @@ pub(crate) fn goes_beside(
     path: &PathText,
     asked: &Annotation<'_>,
 ) -> Result<bool, AllocError>
-    ensures { (tree : Files) → ShowsPair paths.now tree path.now → IfOk result (λ beside. beside ≡ goes_beside asked.now.scope.now (own_of asked.now) tree path.now) }
+    ensures { (tree : Files) → ShowsPair paths.now tree path.now
+        → IfOk result (λ beside. beside ≡ goes_beside asked.now.scope.now (own_of asked.now) tree path.now) }
 {
     let neighbour = neighbour_of(alloc, path)?;
     Ok(is_among(paths, neighbour.as_slice()) || goes_beside_unread(path, asked))

@@ -36,7 +36,8 @@ pub(crate) fn is_folder_alone<S: Store>(
     store: &mut S,
     path: &PathText,
 ) -> Result<bool, StoreFault>
-    ensures folder { S.honest store.new → IfOk result (λ found. found ≡ is_folder (tree_of (S.files store.old)) path.now) }
+    ensures folder { S.honest store.new
+        → IfOk result (λ found. found ≡ is_folder (tree_of (S.files store.old)) path.now) }
     ensures fails { FailsAsRead S.Store store.old store.new result }
     ensures reads { OnlyReads S.Store store.old store.new }
 {
@@ -50,7 +51,8 @@ pub(crate) fn pair_paths<S: Store>(
     store: &mut S,
     path: &PathText,
 ) -> Result<Vec<PathText>, Refusal>
-    ensures paths { S.honest store.new → IfOk result (λ paths. ShowsPair paths.items (tree_of (S.files store.old)) path.now) }
+    ensures paths { S.honest store.new
+        → IfOk result (λ paths. ShowsPair paths.items (tree_of (S.files store.old)) path.now) }
     ensures asks { ReadsAlone S.Store IsEarlyFailure store.old store.new result }
 {
     let folders = with_neighbours(alloc, slice::from_ref(path))?;

@@ -40,7 +40,8 @@ pub(crate) fn plan_command<S: Store>(
     unused: &mut Unused,
 ) -> Result<Vec<PathPlan>, Refusal>
     ensures plans { S.honest store.new → AnswersPlans policy (tree_of (S.files store.old)) (path_edits_of command.now (tree_of (S.files store.old))) result }
-    ensures unused { S.honest store.new → OnOk result (AreUnusedBy command.now (tree_of (S.files store.old)) unused.new) }
+    ensures unused { S.honest store.new
+        → OnOk result (AreUnusedBy command.now (tree_of (S.files store.old)) unused.new) }
     ensures entry { HoldsEntry command.now }
     ensures asks { ReadsAlone S.Store (EndsWalk policy) store.old store.new result }
 {
@@ -134,7 +135,8 @@ fn plan_places<S: Store>(
     unused: &mut Unused,
 ) -> Result<Vec<PathPlan>, Refusal>
     ensures plans { S.honest store.new → AnswersPlans policy (tree_of (S.files store.old)) (at_places_by asked.now (tree_of (S.files store.old)) places.now) result }
-    ensures unused { S.honest store.new → OnOk result (AreUnusedAt (scope_of asked.now) places.now (tree_of (S.files store.old)) unused.new) }
+    ensures unused { S.honest store.new
+        → OnOk result (AreUnusedAt (scope_of asked.now) places.now (tree_of (S.files store.old)) unused.new) }
     ensures asks { ReadsAlone S.Store (EndsWalk policy) store.old store.new result }
 {
     if gives_root(places, asked.scope()) {

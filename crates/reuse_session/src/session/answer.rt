@@ -48,7 +48,8 @@ impl<S: Store + Drop> Session<S> {
     /// `revert_command` is.
     pub fn preview_call(&mut self, alloc: Global, call: &Call) -> Result<PathOutcomes, Refusal>
         ensures broken { (result ≡ Err Refusal.Broken) ↔ (is_broken self.old ≡ true) }
-        ensures exact { S.honest (store_of self.new) → (held : State) → StandsOn S.files self.old held → TellsNoFault result → Previews call.now held result }
+        ensures exact { S.honest (store_of self.new) → (held : State) → StandsOn S.files self.old held
+            → TellsNoFault result → Previews call.now held result }
         ensures reads_only { ReadsOnlyWithCause S.Store result self.old self.new }
     {
         match call {

@@ -47,13 +47,15 @@ impl<S: Store + Drop> Session<S> {
         // Unless the answer tells an allocation failure or a stop, each number is that of a step
         // and these are gone, from any standing.
         ensures exact { S.honest (store_of self.new) → (held : State) → StandsOn S.files self.old held
-            → TellsNoFault result → (left : State) × StandsOn S.files self.new left × Forgets numbers.now held result left }
+            → TellsNoFault result → (left : State) × StandsOn S.files self.new left
+            × Forgets numbers.now held result left }
         // Where they are the oldest that are done, the session stands at the state of the machine
         // that lacks its oldest trees.
         ensures machine { S.honest (store_of self.new) → (state next : Snapshots) → StandsAt S.files self.old state
             → IsWithoutOldest numbers.now state next → OnOk result (StandsAt S.files self.new next) }
         // The same, whatever the store: what is remembered, and the numbers.
-        ensures forgotten { IfOk result (λ forgotten. AreInOrder numbers.now forgotten × (memory_of self.new ≡ memory_besides numbers.now (memory_of self.old))) }
+        ensures forgotten { IfOk result (λ forgotten. AreInOrder numbers.now forgotten
+            × (memory_of self.new ≡ memory_besides numbers.now (memory_of self.old))) }
         // Without a number nothing is asked of the store.
         ensures nothing { numbers.now ≡ [] → self.new ≡ self.old }
 
@@ -84,9 +86,11 @@ impl<S: Store + Drop> Session<S> {
         ensures stays { IfErr result (λ refusal. IsEarly refusal → self.new ≡ self.old) }
         ensures refusal { IfErr result IsForgetRefusal }
         ensures exact { S.honest (store_of self.new) → (held : State) → StandsOn S.files self.old held
-            → TellsNoFault result → (left : State) × StandsOn S.files self.new left × Forgets (numbers_in held.journal) held result left }
+            → TellsNoFault result → (left : State) × StandsOn S.files self.new left
+            × Forgets (numbers_in held.journal) held result left }
         // No step is left.
-        ensures machine { S.honest (store_of self.new) → (state : Snapshots) → StandsAt S.files self.old state → OnOk result (StandsAt S.files self.new (alone state)) }
+        ensures machine { S.honest (store_of self.new) → (state : Snapshots) → StandsAt S.files self.old state
+            → OnOk result (StandsAt S.files self.new (alone state)) }
         ensures forgotten { IfOk result (λ forgotten. AreInOrder (all_numbers (memory_of self.old)) forgotten
             × (memory_of self.new ≡ record { done = []; undone = []; used = (memory_of self.old).used })) }
         ensures nothing { all_numbers (memory_of self.old) ≡ [] → self.new ≡ self.old }
@@ -105,7 +109,8 @@ impl<S: Store + Drop> Session<S> {
     fn forget_listed(&mut self, alloc: Global, numbers: &[u32]) -> Result<EntryNumbers, Refusal>
         requires some { numbers.now ≢ [] }
         requires listed { first_unlisted (memory_of self.now) numbers.now ≡ None }
-        ensures forgotten { IfOk result (λ forgotten. AreInOrder numbers.now forgotten × (memory_of self.new ≡ memory_besides numbers.now (memory_of self.old))) }
+        ensures forgotten { IfOk result (λ forgotten. AreInOrder numbers.now forgotten
+            × (memory_of self.new ≡ memory_besides numbers.now (memory_of self.old))) }
         ensures stands { S.honest (store_of self.new) → (held : State) → StandsOn S.files self.old held
             → OnOk result (StandsOn S.files self.new (state_besides numbers.now held)) }
         ensures stays { IfErr result (λ refusal. IsEarly refusal → self.new ≡ self.old) }
@@ -217,7 +222,8 @@ fn put_and_remove<S: Store>(
     text: &[u8],
     paths: &[PathText],
 ) -> Result<(), Cause>
-    ensures done { S.honest store.new → OnOk result (PutsAndRemoves text.now paths.now (S.files store.old) (S.files store.new)) }
+    ensures done { S.honest store.new
+        → OnOk result (PutsAndRemoves text.now paths.now (S.files store.old) (S.files store.new)) }
     ensures stopped { S.honest store.new → OnErr result ((S.files store.new ≡ S.files store.old)
         ⊎ ((count : ℕ) × PutsAndRemoves text.now (take count paths.now) (S.files store.old) (S.files store.new))) }
     // After a loss of power, if nothing but the journal was in doubt before: once it is done, the
@@ -226,7 +232,8 @@ fn put_and_remove<S: Store>(
     ensures lasting { S.honest store.new → HaveTree S.Store store.old (tree_of (S.files store.old))
         → OnOk result (Leaves S.Store store.new (PutsAndRemovesSome text.now paths.now (S.files store.old))) }
     ensures doubt { S.honest store.new → HaveTree S.Store store.old (tree_of (S.files store.old))
-        → OnErr result (Leaves S.Store store.new (λ left. S.may_be store.old left ⊎ ((kept : Files) × S.may_be store.old kept × PutsAndRemovesSome text.now paths.now kept left))) }
+        → OnErr result (Leaves S.Store store.new (λ left. S.may_be store.old left
+        ⊎ ((kept : Files) × S.may_be store.old kept × PutsAndRemovesSome text.now paths.now kept left))) }
     ensures clash { S.honest store.new → result ≡ Err Cause.Clash → Clashes (S.files store.old) head_path }
     ensures moved { result ≢ Err Cause.Moved }
     ensures device { IsErrOf result Cause.Device → S.failures store.old < S.failures store.new }
@@ -242,9 +249,11 @@ fn put_and_remove<S: Store>(
 // Removes the files of these paths, one after the other.
 fn remove_each<S: Store>(alloc: Global, store: &mut S, paths: &[PathText]) -> Result<(), Cause>
     ensures removed { S.honest store.new → OnOk result (Removes paths.now (S.files store.old) (S.files store.new)) }
-    ensures stopped { S.honest store.new → OnErr result ((count : ℕ) × Removes (take count paths.now) (S.files store.old) (S.files store.new)) }
+    ensures stopped { S.honest store.new
+        → OnErr result ((count : ℕ) × Removes (take count paths.now) (S.files store.old) (S.files store.new)) }
     // A loss of power may leave what it might before, with some of the removals.
-    ensures left { Leaves S.Store store.new (λ left. (kept : Files) × S.may_be store.old kept × RemovesSome paths.now kept left) }
+    ensures left { Leaves S.Store store.new (λ left. (kept : Files) × S.may_be store.old kept
+        × RemovesSome paths.now kept left) }
     ensures clash { S.honest store.new → result ≢ Err Cause.Clash }
     ensures moved { result ≢ Err Cause.Moved }
     ensures device { IsErrOf result Cause.Device → S.failures store.old < S.failures store.new }

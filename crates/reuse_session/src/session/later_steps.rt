@@ -34,11 +34,15 @@ pub(crate) fn read_back<S: Store>(
 ) -> Result<(EntryChanges, PathList), Refusal>
     ensures absent { (result ≡ Err (Refusal.NoSuchStep number)) ↔ (lists history.now.done number ≡ false) }
     ensures unread { result ≡ Err (Refusal.NoSuchStep number) → store.new ≡ store.old }
-    ensures back { S.honest store.new → (journal : Journal) → Remembers history.now journal → KeepsJournal (undo_folder_of (S.files store.old)) journal None
+    ensures back { S.honest store.new → (journal : Journal) → Remembers history.now journal
+        → KeepsJournal (undo_folder_of (S.files store.old)) journal None
         → IfOk result (λ back. IsBackOf number journal back.0 back.1) }
-    ensures good { S.honest store.new → (journal : Journal) → Remembers history.now journal → KeepsJournal (undo_folder_of (S.files store.old)) journal None
+    ensures good { S.honest store.new → (journal : Journal) → Remembers history.now journal
+        → KeepsJournal (undo_folder_of (S.files store.old)) journal None
         → (path : List ℕ) → result ≢ Err (Refusal.BadJournal path) }
-    ensures says { IfOk result (λ back. (entry : Entry) × (S.honest store.new → EntrySays (get (undo_folder_of (S.files store.old)) (entry_path number)) entry) × (back.0 ≡ entry.changes)) }
+    ensures says { IfOk result (λ back. (entry : Entry)
+        × (S.honest store.new → EntrySays (get (undo_folder_of (S.files store.old)) (entry_path number)) entry)
+        × (back.0 ≡ entry.changes)) }
     ensures refusal { IfErr result (λ refusal. (refusal ≡ Refusal.NoSuchStep number) ⊎ IsReadRefusal refusal) }
     ensures fails { RefusedAsRead S.Store store.old store.new result }
     ensures reads { OnlyReads S.Store store.old store.new }
@@ -59,10 +63,13 @@ fn touched_paths<S: Store>(
     changes: &[Change],
     later: &[u32],
 ) -> Result<PathList, Refusal>
-    ensures touched { S.honest store.new → IsEntry changes.now → (steps : List Recorded) → later.now ≡ map number_of steps
-        → All (IsKeptIn (undo_folder_of (S.files store.old))) steps → IfOk result (λ touched. touched ≡ filter (touched_by steps) (paths_of changes.now)) }
+    ensures touched { S.honest store.new → IsEntry changes.now → (steps : List Recorded)
+        → later.now ≡ map number_of steps
+        → All (IsKeptIn (undo_folder_of (S.files store.old))) steps
+        → IfOk result (λ touched. touched ≡ filter (touched_by steps) (paths_of changes.now)) }
     ensures good { S.honest store.new → (steps : List Recorded) → later.now ≡ map number_of steps
-        → All (IsKeptIn (undo_folder_of (S.files store.old))) steps → (path : List ℕ) → result ≢ Err (Refusal.BadJournal path) }
+        → All (IsKeptIn (undo_folder_of (S.files store.old))) steps → (path : List ℕ)
+        → result ≢ Err (Refusal.BadJournal path) }
     ensures refusal { IfErr result IsReadRefusal }
     ensures fails { RefusedAsRead S.Store store.old store.new result }
     ensures reads { OnlyReads S.Store store.old store.new }
@@ -82,7 +89,9 @@ fn without_touched<S: Store>(
     paths: Vec<PathText>,
     number: u32,
 ) -> Result<Vec<PathText>, Refusal>
-    ensures left { S.honest store.new → IfOk result (λ left. (entry : Entry) × EntrySays (get (undo_folder_of (S.files store.old)) (entry_path number)) entry
+    ensures left { S.honest store.new
+        → IfOk result (λ left. (entry : Entry)
+        × EntrySays (get (undo_folder_of (S.files store.old)) (entry_path number)) entry
         × (left.items ≡ left_of paths.items (paths_of entry.changes))) }
     ensures bad { S.honest store.new → (path : List ℕ) → result ≡ Err (Refusal.BadJournal path)
         → (entry : Entry) → ¬ (EntrySays (get (undo_folder_of (S.files store.old)) (entry_path number)) entry) }

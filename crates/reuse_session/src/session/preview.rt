@@ -37,11 +37,15 @@ impl<S: Store + Drop> Session<S> {
             ↔ ((is_broken self.old ≡ false) × (is_full (length (memory_of self.old).done) (memory_of self.old).used ≡ true)) }
         // The path outcomes are those of the command on the tree that is there, and so those of the
         // machine.
-        ensures exact { S.honest (store_of self.new) → (held : State) → StandsOn S.files self.old held → IfOk result (λ path_outcomes. path_outcomes ≡ path_outcomes_of command.now held.tree) }
-        ensures answers { S.honest (store_of self.new) → (held : State) → StandsOn S.files self.old held → TellsNoFault result → result ≡ run_path_outcomes_on held command.now }
-        ensures machine { S.honest (store_of self.new) → (state : Snapshots) → StandsAt S.files self.old state → TellsNoFault result → result ≡ run_path_outcomes state command.now }
+        ensures exact { S.honest (store_of self.new) → (held : State) → StandsOn S.files self.old held
+            → IfOk result (λ path_outcomes. path_outcomes ≡ path_outcomes_of command.now held.tree) }
+        ensures answers { S.honest (store_of self.new) → (held : State) → StandsOn S.files self.old held
+            → TellsNoFault result → result ≡ run_path_outcomes_on held command.now }
+        ensures machine { S.honest (store_of self.new) → (state : Snapshots) → StandsAt S.files self.old state
+            → TellsNoFault result → result ≡ run_path_outcomes state command.now }
         // It counts as a run does.
-        ensures counts { S.honest (store_of self.new) → (held : State) → StandsOn S.files self.old held → OnOk result (IsCounted command.now held.tree (counts_of self.new)) }
+        ensures counts { S.honest (store_of self.new) → (held : State) → StandsOn S.files self.old held
+            → OnOk result (IsCounted command.now held.tree (counts_of self.new)) }
         ensures reads_only { ReadsOnly S.Store result self.old self.new }
         ensures refusal { IfErr result IsPreviewRefusal }
     {
@@ -70,14 +74,17 @@ impl<S: Store + Drop> Session<S> {
         ensures machine { S.honest (store_of self.new) → (state : Snapshots) → StandsAt S.files self.old state
             → TellsNoFault result → path_outcomes_alone result ≡ run_path_outcomes state command.now }
         // It counts as a run does.
-        ensures counts { S.honest (store_of self.new) → (held : State) → StandsOn S.files self.old held → OnOk result (IsCounted command.now held.tree (counts_of self.new)) }
+        ensures counts { S.honest (store_of self.new) → (held : State) → StandsOn S.files self.old held
+            → OnOk result (IsCounted command.now held.tree (counts_of self.new)) }
         // Where none of the path outcomes is a refusal, the changes are none or a good entry, lead
         // from the tree to that of the command's outcome, and hold what the command removes and
         // writes.
         ensures plan { S.honest (store_of self.new) → (held : State) → StandsOn S.files self.old held
-            → IfOk result (λ previewed. first_refusal previewed.path_outcomes ≡ None → IsPlan (outcome_of command.now held.tree) held.tree previewed.changes) }
+            → IfOk result (λ previewed. first_refusal previewed.path_outcomes ≡ None
+            → IsPlan (outcome_of command.now held.tree) held.tree previewed.changes) }
         ensures recorded { S.honest (store_of self.new) → (held : State) → StandsOn S.files self.old held
-            → IfOk result (λ previewed. first_refusal previewed.path_outcomes ≡ None → Records held.tree (edits_of command.now held.tree) previewed.changes) }
+            → IfOk result (λ previewed. first_refusal previewed.path_outcomes ≡ None
+            → Records held.tree (edits_of command.now held.tree) previewed.changes) }
         ensures reads_only { ReadsOnly S.Store result self.old self.new }
         ensures refusal { IfErr result IsPreviewRefusal }
     {
@@ -97,10 +104,12 @@ impl<S: Store + Drop> Session<S> {
     /// or for an I/O error or an allocation failure.
     pub fn preview_undo(&mut self, alloc: Global) -> Result<PathOutcomes, Refusal>
         ensures broken { (result ≡ Err Refusal.Broken) ↔ (is_broken self.old ≡ true) }
-        ensures nothing { (result ≡ Err Refusal.NothingToUndo) ↔ ((is_broken self.old ≡ false) × ((memory_of self.old).done ≡ [])) }
+        ensures nothing { (result ≡ Err Refusal.NothingToUndo)
+            ↔ ((is_broken self.old ≡ false) × ((memory_of self.old).done ≡ [])) }
         ensures exact { S.honest (store_of self.new) → (held : State) → StandsOn S.files self.old held
             → TellsNoFault result → PreviewsReplay go.Backward held.journal.done held.tree result }
-        ensures machine { S.honest (store_of self.new) → (state : Snapshots) → StandsAt S.files self.old state → TellsNoFault result → result ≡ undo_path_outcomes state.tree state.past }
+        ensures machine { S.honest (store_of self.new) → (state : Snapshots) → StandsAt S.files self.old state
+            → TellsNoFault result → result ≡ undo_path_outcomes state.tree state.past }
         ensures reads_only { ReadsOnly S.Store result self.old self.new }
         ensures refusal { IfErr result IsPreviewRefusal }
     {
@@ -114,10 +123,12 @@ impl<S: Store + Drop> Session<S> {
     /// or for an I/O error or an allocation failure.
     pub fn preview_redo(&mut self, alloc: Global) -> Result<PathOutcomes, Refusal>
         ensures broken { (result ≡ Err Refusal.Broken) ↔ (is_broken self.old ≡ true) }
-        ensures nothing { (result ≡ Err Refusal.NothingToRedo) ↔ ((is_broken self.old ≡ false) × ((memory_of self.old).undone ≡ [])) }
+        ensures nothing { (result ≡ Err Refusal.NothingToRedo)
+            ↔ ((is_broken self.old ≡ false) × ((memory_of self.old).undone ≡ [])) }
         ensures exact { S.honest (store_of self.new) → (held : State) → StandsOn S.files self.old held
             → TellsNoFault result → PreviewsReplay go.Forward held.journal.undone held.tree result }
-        ensures machine { S.honest (store_of self.new) → (state : Snapshots) → StandsAt S.files self.old state → TellsNoFault result → result ≡ redo_path_outcomes state.tree state.future }
+        ensures machine { S.honest (store_of self.new) → (state : Snapshots) → StandsAt S.files self.old state
+            → TellsNoFault result → result ≡ redo_path_outcomes state.tree state.future }
         ensures reads_only { ReadsOnly S.Store result self.old self.new }
         ensures refusal { IfErr result IsPreviewRefusal }
     {
@@ -135,9 +146,11 @@ impl<S: Store + Drop> Session<S> {
         direction: Direction,
     ) -> Result<Previewed, Refusal>
         ensures broken { (result ≡ Err Refusal.Broken) ↔ (is_broken self.old ≡ true) }
-        ensures nothing { (result ≡ Err (end_of direction)) ↔ ((is_broken self.old ≡ false) × (entries_ahead direction (memory_of self.old) ≡ [])) }
+        ensures nothing { (result ≡ Err (end_of direction))
+            ↔ ((is_broken self.old ≡ false) × (entries_ahead direction (memory_of self.old) ≡ [])) }
         ensures exact { S.honest (store_of self.new) → (held : State) → StandsOn S.files self.old held
-            → TellsNoFault result → PreviewsReplay direction (ahead direction held.journal) held.tree (path_outcomes_alone result) }
+            → TellsNoFault result
+            → PreviewsReplay direction (ahead direction held.journal) held.tree (path_outcomes_alone result) }
         ensures machine { S.honest (store_of self.new) → (state : Snapshots) → StandsAt S.files self.old state
             → TellsNoFault result → path_outcomes_alone result ≡ step_path_outcomes direction state }
         // The changes are those of the step, and a good entry.
@@ -165,7 +178,8 @@ impl<S: Store + Drop> Session<S> {
     ) -> Result<Previewed, Refusal>
         requires { (front : List ListedEntry) × (entries_ahead direction (memory_of self.now) ≡ front ++ listed ∷ []) }
         ensures exact { S.honest (store_of self.new) → (held : State) → StandsOn S.files self.old held
-            → TellsNoFault result → PreviewsReplay direction (ahead direction held.journal) held.tree (path_outcomes_alone result) }
+            → TellsNoFault result
+            → PreviewsReplay direction (ahead direction held.journal) held.tree (path_outcomes_alone result) }
         ensures changes { S.honest (store_of self.new) → (held : State) → StandsOn S.files self.old held
             → IfOk result (λ previewed. changes_ahead (ahead direction held.journal) ≡ Some previewed.changes) }
         ensures good { IfOk result (λ previewed. IsEntry previewed.changes) }

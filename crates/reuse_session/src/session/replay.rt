@@ -27,14 +27,16 @@ impl<S: Store + Drop> Session<S> {
     /// the step is pending. Where it stops later it is `Interrupted`.
     pub fn undo(&mut self, alloc: Global) -> Result<Response, Refusal>
         ensures broken { (result ≡ Err Refusal.Broken) ↔ (is_broken self.old ≡ true) }
-        ensures nothing { (result ≡ Err Refusal.NothingToUndo) ↔ ((is_broken self.old ≡ false) × ((memory_of self.old).done ≡ [])) }
+        ensures nothing { (result ≡ Err Refusal.NothingToUndo)
+            ↔ ((is_broken self.old ≡ false) × ((memory_of self.old).done ≡ [])) }
         ensures stays { (result ≡ Err Refusal.Broken) ⊎ (result ≡ Err Refusal.NothingToUndo) → self.new ≡ self.old }
 
         // Unless the answer tells an I/O error or an allocation failure, it is accepted exactly
         // where each file is as the step left it and no path that it makes clashes. It then takes
         // these changes back, and changes nothing else.
         ensures exact { S.honest (store_of self.new) → (held : State) → StandsOn S.files self.old held
-            → TellsNoFault result → (left : State) × StandsOn S.files self.new left × Undoes held.journal.done held result left }
+            → TellsNoFault result → (left : State) × StandsOn S.files self.new left
+            × Undoes held.journal.done held result left }
         ensures machine { S.honest (store_of self.new) → (state : Snapshots) → StandsAt S.files self.old state
             → TellsNoFault result → Follows S.files result self.new (undone state state.past) }
 
@@ -54,14 +56,16 @@ impl<S: Store + Drop> Session<S> {
     /// before the step is pending. Where it stops later it is `Interrupted`.
     pub fn redo(&mut self, alloc: Global) -> Result<Response, Refusal>
         ensures broken { (result ≡ Err Refusal.Broken) ↔ (is_broken self.old ≡ true) }
-        ensures nothing { (result ≡ Err Refusal.NothingToRedo) ↔ ((is_broken self.old ≡ false) × ((memory_of self.old).undone ≡ [])) }
+        ensures nothing { (result ≡ Err Refusal.NothingToRedo)
+            ↔ ((is_broken self.old ≡ false) × ((memory_of self.old).undone ≡ [])) }
         ensures stays { (result ≡ Err Refusal.Broken) ⊎ (result ≡ Err Refusal.NothingToRedo) → self.new ≡ self.old }
 
         // Unless the answer tells an I/O error or an allocation failure, it is accepted exactly
         // where each file is as it was before the step and no path that it makes clashes. It then
         // makes these changes, and changes nothing else.
         ensures exact { S.honest (store_of self.new) → (held : State) → StandsOn S.files self.old held
-            → TellsNoFault result → (left : State) × StandsOn S.files self.new left × Redoes held.journal.undone held result left }
+            → TellsNoFault result → (left : State) × StandsOn S.files self.new left
+            × Redoes held.journal.undone held result left }
         ensures machine { S.honest (store_of self.new) → (state : Snapshots) → StandsAt S.files self.old state
             → TellsNoFault result → Follows S.files result self.new (redone state state.future) }
 
@@ -77,10 +81,12 @@ impl<S: Store + Drop> Session<S> {
     // Goes one step this way: takes the last one done back, or makes the next undone one again.
     fn replay(&mut self, alloc: Global, direction: Direction) -> Result<Response, Refusal>
         ensures broken { (result ≡ Err Refusal.Broken) ↔ (is_broken self.old ≡ true) }
-        ensures nothing { (result ≡ Err (end_of direction)) ↔ ((is_broken self.old ≡ false) × (entries_ahead direction (memory_of self.old) ≡ [])) }
+        ensures nothing { (result ≡ Err (end_of direction))
+            ↔ ((is_broken self.old ≡ false) × (entries_ahead direction (memory_of self.old) ≡ [])) }
         ensures stays { (result ≡ Err Refusal.Broken) ⊎ (result ≡ Err (end_of direction)) → self.new ≡ self.old }
         ensures exact { S.honest (store_of self.new) → (held : State) → StandsOn S.files self.old held
-            → TellsNoFault result → (left : State) × StandsOn S.files self.new left × Replays direction (ahead direction held.journal) held result left }
+            → TellsNoFault result → (left : State) × StandsOn S.files self.new left
+            × Replays direction (ahead direction held.journal) held result left }
         ensures survives { SurvivesCall S.Store (IsNextBy (listed_direction direction)) result self.old self.new }
         ensures call { IsCall S.Store result self.old self.new }
         ensures leaves { LeavesReplay S.Store direction result self.old self.new }
@@ -103,7 +109,8 @@ impl<S: Store + Drop> Session<S> {
     ) -> Result<Response, Refusal>
         requires { (front : List ListedEntry) × (entries_ahead direction (memory_of self.now) ≡ front ++ listed ∷ []) }
         ensures exact { S.honest (store_of self.new) → (held : State) → StandsOn S.files self.old held
-            → TellsNoFault result → (left : State) × StandsOn S.files self.new left × Replays direction (ahead direction held.journal) held result left }
+            → TellsNoFault result → (left : State) × StandsOn S.files self.new left
+            × Replays direction (ahead direction held.journal) held result left }
         ensures survives { SurvivesCall S.Store (IsNextBy (listed_direction direction)) result self.old self.new }
         ensures call { IsCall S.Store result self.old self.new }
         ensures leaves { LeavesReplay S.Store direction result self.old self.new }

@@ -21,7 +21,8 @@ pub(crate) fn replay_path_outcomes<S: Store>(
     changes: &[Change],
     direction: Direction,
 ) -> Result<PathOutcomes, Refusal>
-    ensures path_outcomes { S.honest store.new → IsEntry changes.now → IfOk result (ArePathOutcomesOf direction (tree_of (S.files store.old)) changes.now) }
+    ensures path_outcomes { S.honest store.new → IsEntry changes.now
+        → IfOk result (ArePathOutcomesOf direction (tree_of (S.files store.old)) changes.now) }
     ensures fails { RefusedAsRead S.Store store.old store.new result }
     ensures reads { OnlyReads S.Store store.old store.new }
     ensures refusal { IfErr result IsEarlyFailure }
@@ -40,7 +41,8 @@ fn change_path_outcome<S: Store>(
     change: &Change,
     direction: Direction,
 ) -> Result<PathOutcome, Refusal>
-    ensures path_outcome { S.honest store.new → IsProper change.now → IsSmall change.now → is_of_tree (path_of change.now) ≡ true
+    ensures path_outcome { S.honest store.new → IsProper change.now → IsSmall change.now
+        → is_of_tree (path_of change.now) ≡ true
         → IfOk result (IsPathOutcomeOf direction (tree_of (S.files store.old)) change.now) }
     ensures asks { ReadsAlone S.Store IsEarlyFailure store.old store.new result }
 {

@@ -44,16 +44,20 @@ impl<S: Store + Drop> Session<S> {
         when: Moment,
     ) -> Result<Reverted, Refusal>
         ensures broken { (result ≡ Err Refusal.Broken) ↔ (is_broken self.old ≡ true) }
-        ensures absent { (result ≡ Err (Refusal.NoSuchStep number)) ↔ ((is_broken self.old ≡ false) × (lists (memory_of self.old).done number ≡ false)) }
-        ensures stays { (result ≡ Err Refusal.Broken) ⊎ (result ≡ Err (Refusal.NoSuchStep number)) → self.new ≡ self.old }
+        ensures absent { (result ≡ Err (Refusal.NoSuchStep number))
+            ↔ ((is_broken self.old ≡ false) × (lists (memory_of self.old).done number ≡ false)) }
+        ensures stays { (result ≡ Err Refusal.Broken) ⊎ (result ≡ Err (Refusal.NoSuchStep number))
+            → self.new ≡ self.old }
         // A full journal takes no further entry, so that no clash of one is told.
-        ensures full { S.honest (store_of self.new) → is_full (length (memory_of self.old).done) (memory_of self.old).used ≡ true → IfErr result IsNoClash }
+        ensures full { S.honest (store_of self.new)
+            → is_full (length (memory_of self.old).done) (memory_of self.old).used ≡ true → IfErr result IsNoClash }
 
         // Unless the answer tells an I/O error or an allocation failure, the files and the session
         // go on as a run of the command that takes the step's changes back: from any standing, and
         // as the machine.
         ensures exact { S.honest (store_of self.new) → (held : State) → StandsOn S.files self.old held
-            → TellsNoFault result → (left : State) × StandsOn S.files self.new left × Reverts number skip_moved when held result left }
+            → TellsNoFault result → (left : State) × StandsOn S.files self.new left
+            × Reverts number skip_moved when held result left }
         ensures machine { S.honest (store_of self.new) → (state : Snapshots) → StandsAt S.files self.old state
             → TellsNoFault result → RevertFollows S.files number skip_moved when state result self.new }
 
@@ -94,9 +98,12 @@ impl<S: Store + Drop> Session<S> {
         skip_moved: bool,
     ) -> Result<Command, Refusal>
         ensures broken { (result ≡ Err Refusal.Broken) ↔ (is_broken self.old ≡ true) }
-        ensures absent { (result ≡ Err (Refusal.NoSuchStep number)) ↔ ((is_broken self.old ≡ false) × (lists (memory_of self.old).done number ≡ false)) }
-        ensures exact { S.honest (store_of self.new) → (held : State) → StandsOn S.files self.old held → TellsNoFault result → GivesRevert number skip_moved held result }
-        ensures machine { S.honest (store_of self.new) → (state : Snapshots) → StandsAt S.files self.old state → TellsNoFault result → GivesRevertAt number skip_moved state result }
+        ensures absent { (result ≡ Err (Refusal.NoSuchStep number))
+            ↔ ((is_broken self.old ≡ false) × (lists (memory_of self.old).done number ≡ false)) }
+        ensures exact { S.honest (store_of self.new) → (held : State) → StandsOn S.files self.old held
+            → TellsNoFault result → GivesRevert number skip_moved held result }
+        ensures machine { S.honest (store_of self.new) → (state : Snapshots) → StandsAt S.files self.old state
+            → TellsNoFault result → GivesRevertAt number skip_moved state result }
         ensures reads_only { ReadsOnly S.Store result self.old self.new }
         ensures call { IsCall S.Store result self.old self.new }
     {
@@ -115,7 +122,8 @@ impl<S: Store + Drop> Session<S> {
 // The answer of the run that takes back a step of these paths.
 fn told(alloc: Global, answer: Result<Response, Refusal>, paths: Paths) -> Result<Reverted, Refusal>
     ensures same { IsRunAnswer answer → as_run result ≡ answer }
-    ensures skipped { IfOk result (λ reverted. ArePaths reverted.changed → reverted.skipped ≡ left_of paths reverted.changed) }
+    ensures skipped { IfOk result (λ reverted. ArePaths reverted.changed
+        → reverted.skipped ≡ left_of paths reverted.changed) }
 {
     match answer {
         Ok(Response::Changed(changed)) => Ok(reverted(paths, changed)),

@@ -27,8 +27,10 @@ impl<S: Store + Drop> Session<S> {
             ↔ ((is_broken self.old ≡ false) × ((lists (memory_of self.old).done number || lists (memory_of self.old).undone number) ≡ false)) }
         // Unless it tells an I/O error or an allocation failure, it shows a step of the number, or
         // tells that there is none.
-        ensures exact { S.honest (store_of self.new) → (held : State) → StandsOn S.files self.old held → TellsNoFault result → ShowsIn held.journal number result }
-        ensures machine { S.honest (store_of self.new) → (state : Snapshots) → StandsAt S.files self.old state → IfOk result (ShowsAt state number) }
+        ensures exact { S.honest (store_of self.new) → (held : State) → StandsOn S.files self.old held
+            → TellsNoFault result → ShowsIn held.journal number result }
+        ensures machine { S.honest (store_of self.new) → (state : Snapshots) → StandsAt S.files self.old state
+            → IfOk result (ShowsAt state number) }
         // It only reads, and what is remembered stays.
         ensures reads { OnlyReads S.Store (store_of self.old) (store_of self.new) }
         ensures kept { IsKept self.old self.new }

@@ -7,7 +7,8 @@ use Rattle.reuse_undo.specs.declared.cli.line.Asked.TheVariants as asked
 use Rattle.reuse_undo.specs.declared.cli.line.Line.{Line}
 use Rattle.reuse_undo.specs.declared.cli.line.LineFault.{LineFault}
 
--- the line as it is, or with the list that the file has; or the fault that the file can't be read, or an allocation failure
+-- the line as it is, or with the list that the file has; or the fault that the file can't be read, or an allocation
+-- failure
 abbrev pub IsWithList : Option (List ℕ) → Line → Result Line LineFault → Type 0
 IsWithList None line answer = answer ≡ Ok line
 IsWithList (Some file) line (Ok new) =

@@ -2,7 +2,8 @@
 use Rattle.std.specs.Prelude.{◌≡◌, ◌≢◌, ℕ, Bool, List, [], ◌∷◌, ◌++◌, Option, None, Some}
 use Rattle.reuse_undo.specs.declared.disk.place.Identity.{Identity}
 
--- which file it is: one that was there at the start, by a number of its own, or one that was made since, by how many were made before
+-- which file it is: one that was there at the start, by a number of its own, or one that was made since, by how many
+-- were made before
 pub data FileKey : Type 0 where
   Found : ℕ → FileKey
   Made : ℕ → FileKey

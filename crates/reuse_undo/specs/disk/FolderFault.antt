@@ -16,7 +16,8 @@ abbrev pub fault_of_kind : ErrorKind → Error → FolderFault
 fault_of_kind OutOfMemory error = Memory
 fault_of_kind kind error = Device (System error)
 
--- the system's an allocation failure is an allocation failure, and all else a device fault that tells the system's error
+-- the system's an allocation failure is an allocation failure, and all else a device fault that tells the system's
+-- error
 abbrev pub fault_of_system : Error → FolderFault
 fault_of_system error = fault_of_kind (error_kind error) error
 

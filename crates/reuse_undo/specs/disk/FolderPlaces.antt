@@ -12,7 +12,8 @@ place_of_found (found.File status) = File status
 place_of_found (found.Folder identity) = Folder
 place_of_found found.Other = Other
 
--- by what stands above it: nothing is there where that is missing or a folder, and below a file or a link nothing can be
+-- by what stands above it: nothing is there where that is missing or a folder, and below a file or a link nothing can
+-- be
 abbrev pub place_below : Found → Place
 place_below found.Nothing = Nothing
 place_below (found.File status) = BelowFile

@@ -13,7 +13,8 @@ use Rattle.reuse_undo.specs.declared.disk.trail.Trail.{Trail}
 
 -- the folder that was entered last
 abbrev pub current_of : Trail → Option Identity
-current_of trail = option_map (λ step. step.folder.identity) (slice_get trail.steps.items (length trail.steps.items - 1))
+current_of trail =
+    option_map (λ step. step.folder.identity) (slice_get trail.steps.items (length trail.steps.items - 1))
 
 -- this file stands in this folder, under the path's own name
 pub record StandsIn (folder : Option Identity) (path : List ℕ) (held : FileState) (one : StateFile) : Type 0 where
@@ -25,10 +26,13 @@ pub record StandsIn (folder : Option Identity) (path : List ℕ) (held : FileSta
 
 -- where the path is told to be a regular file, one stands there that is so long
 abbrev pub IsPlaceIn : Option Identity → List ℕ → FileState → Place → Type 0
-IsPlaceIn folder path held (place.File status) = (one : StateFile) × StandsIn folder path held one × (length one.bytes ≡ status.len)
+IsPlaceIn folder path held (place.File status) =
+    (one : StateFile) × StandsIn folder path held one × (length one.bytes ≡ status.len)
 IsPlaceIn folder path held place = Unit {0}
 
--- where a file was read, it stands in some folder under the path's own name, and all its bytes were read, or it is too long
+-- where a file was read, it stands in some folder under the path's own name, and all its bytes were read, or it is too
+-- long
 abbrev pub IsReadIn : List ℕ → ℕ → FileState → Reading → Type 0
 IsReadIn path limit held reading.Absent = Unit {0}
-IsReadIn path limit held reading = (folder : Option Identity) × (one : StateFile) × StandsIn folder path held one × (reading ≡ reading_of (Some one.bytes) limit)
+IsReadIn path limit held reading = (folder : Option Identity) × (one : StateFile) × StandsIn folder path held one
+    × (reading ≡ reading_of (Some one.bytes) limit)

@@ -1,5 +1,5 @@
--- What a folder makes of the files that names lead to, where a path is put or removed. Which folder the path lies in, and which folder is
--- that of new files, is not said.
+-- What a folder makes of the files that names lead to, where a path is put or removed. Which folder the path lies in,
+-- and which folder is that of new files, is not said.
 use Rattle.std.specs.Prelude.{◌≡◌, ℕ, Bool, List, Result, IfOk}
 use Rattle.reuse_undo.specs.disk.Asides.{IsNewIn, IsNewPlace}
 use Rattle.reuse_undo.specs.disk.FileStates.{FileState, place_in}
@@ -9,8 +9,8 @@ use Rattle.reuse_undo.specs.disk.Written.{IsWritten}
 use Rattle.reuse_undo.specs.declared.disk.new_file.NewFile.{NewFile}
 use Rattle.reuse_undo.specs.declared.disk.place.Identity.{Identity}
 
--- the bytes were put at the path, as a whole or not at all: in some folder, under the path's own name there, and by way of new files in
--- some folder or beside the target; nothing else differs
+-- the bytes were put at the path, as a whole or not at all: in some folder, under the path's own name there, and by way
+-- of new files in some folder or beside the target; nothing else differs
 pub record IsPutAt (path bytes : List ℕ) (is_lasting : Bool) (old new : FileState) (is_done : Bool) : Type 0 where
   pub new_files : Identity
   pub folder : Identity

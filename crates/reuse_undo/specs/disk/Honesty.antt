@@ -1,4 +1,5 @@
--- When a folder is honest: its answers are those of a folder that nobody else writes and that gives back what was written.
+-- When a folder is honest: its answers are those of a folder that nobody else writes and that gives back what was
+-- written.
 use Rattle.std.specs.Prelude.{◌≡◌, ◌≢◌, ◌⊎◌, ℕ, Bool, true, false, IsTrue, List, [], ◌∷◌, Result, Ok, Err, MatchResult, if◌then◌else◌, cond, refl}
 use Rattle.std.specs.List.{Contains}
 use Rattle.std.specs.FinMap.{get, insert, remove}
@@ -13,7 +14,8 @@ use Rattle.reuse_tree.specs.Store.{reading_of}
 use Rattle.reuse_tree.specs.declared.fault.StoreFault.{StoreFault}
 use Rattle.reuse_tree.specs.declared.fault.StoreFault.TheVariants.{Device, Clash, Memory}
 
--- whether a put or a removal took effect: a good answer says so, a clash that it didn't, and of another fault it is left open
+-- whether a put or a removal took effect: a good answer says so, a clash that it didn't, and of another fault it is
+-- left open
 abbrev pub has_effect : Result (Unit {0}) StoreFault → Bool → Bool
 has_effect (Ok done) took = true
 has_effect (Err Clash) took = false
@@ -47,8 +49,10 @@ MayAnswerPut files path (Err Memory) took = IsTrue took → HasRoom files path
 
 -- a folder that holds these files may answer the call so
 abbrev pub MayAnswer : Files → Call → Type 0
-MayAnswer files (ListCall folders pruned answer) = MatchResult answer (λ paths. paths ≡ listed_paths files folders (is_among pruned)) (λ fault. fault ≢ Clash)
-MayAnswer files (ReadCall path limit answer) = MatchResult answer (λ reading. reading ≡ reading_of (get files path) limit) (λ fault. fault ≢ Clash)
+MayAnswer files (ListCall folders pruned answer) =
+    MatchResult answer (λ paths. paths ≡ listed_paths files folders (is_among pruned)) (λ fault. fault ≢ Clash)
+MayAnswer files (ReadCall path limit answer) =
+    MatchResult answer (λ reading. reading ≡ reading_of (get files path) limit) (λ fault. fault ≢ Clash)
 MayAnswer files (PutCall path bytes answer took) = MayAnswerPut files path answer took
 MayAnswer files (RemoveCall path answer took) = answer ≢ Err Clash
 MayAnswer files (SyncCall changes answer) = answer ≢ Err Clash
@@ -58,18 +62,20 @@ abbrev pub IsHonest : Files → List Call → Type 0
 IsHonest start [] = AreFiles start
 IsHonest start (call ∷ calls) = MayAnswer (files_of start calls) call × IsHonest start calls
 
--- What a loss of power may leave after these calls, the newest first: at the start the files, or one of what else might be left then.
--- Behind a put or a removal it is what might be left before, with it or without, whatever was answered; behind a barrier that succeeded
--- it is one of what might be left before, and certain where that says so.
+-- What a loss of power may leave after these calls, the newest first: at the start the files, or one of what else might
+-- be left then. Behind a put or a removal it is what might be left before, with it or without, whatever was answered;
+-- behind a barrier that succeeded it is one of what might be left before, and certain where that says so.
 abbrev pub MayBeLeft : Files → List Files → List Call → Files → Type 0
 MayBeLeft start doubts [] left = (left ≡ start) ⊎ Contains doubts left
 MayBeLeft start doubts (ListCall folders pruned answer ∷ calls) left = MayBeLeft start doubts calls left
 MayBeLeft start doubts (ReadCall path limit answer ∷ calls) left = MayBeLeft start doubts calls left
 MayBeLeft start doubts (PutCall path bytes answer took ∷ calls) left =
-    MayBeLeft start doubts calls left ⊎ ((kept : Files) × MayBeLeft start doubts calls kept × (left ≡ insert kept path bytes))
+    MayBeLeft start doubts calls left
+    ⊎ ((kept : Files) × MayBeLeft start doubts calls kept × (left ≡ insert kept path bytes))
 MayBeLeft start doubts (RemoveCall path answer took ∷ calls) left =
     MayBeLeft start doubts calls left ⊎ ((kept : Files) × MayBeLeft start doubts calls kept × (left ≡ remove kept path))
-MayBeLeft start doubts (SyncCall changes (Ok done) ∷ calls) left = MayBeLeft start doubts calls left × IsCertain changes (files_of start calls) left left
+MayBeLeft start doubts (SyncCall changes (Ok done) ∷ calls) left =
+    MayBeLeft start doubts calls left × IsCertain changes (files_of start calls) left left
 MayBeLeft start doubts (SyncCall changes (Err fault) ∷ calls) left = MayBeLeft start doubts calls left
 
 -- what is there may be left
@@ -83,12 +89,15 @@ removal_may : (start : Files) (doubts : List Files) (calls : List Call) (path : 
 removal_may start doubts calls path answer took true may = inr (files_of start calls, may, refl)
 removal_may start doubts calls path answer took false may = inl may
 
-pub files_may_be_left : (start : Files) (doubts : List Files) (calls : List Call) → MayBeLeft start doubts calls (files_of start calls)
+pub files_may_be_left : (start : Files) (doubts : List Files) (calls : List Call)
+    → MayBeLeft start doubts calls (files_of start calls)
 files_may_be_left start doubts [] = inl refl
 files_may_be_left start doubts (ListCall folders pruned answer ∷ calls) = files_may_be_left start doubts calls
 files_may_be_left start doubts (ReadCall path limit answer ∷ calls) = files_may_be_left start doubts calls
-files_may_be_left start doubts (PutCall path bytes answer took ∷ calls) = put_may start doubts calls path bytes answer took (has_effect answer took) (files_may_be_left start doubts calls)
-files_may_be_left start doubts (RemoveCall path answer took ∷ calls) = removal_may start doubts calls path answer took (has_effect answer took) (files_may_be_left start doubts calls)
+files_may_be_left start doubts (PutCall path bytes answer took ∷ calls) =
+    put_may start doubts calls path bytes answer took (has_effect answer took) (files_may_be_left start doubts calls)
+files_may_be_left start doubts (RemoveCall path answer took ∷ calls) =
+    removal_may start doubts calls path answer took (has_effect answer took) (files_may_be_left start doubts calls)
 files_may_be_left start doubts (SyncCall changes (Ok done) ∷ calls) =
     (files_may_be_left start doubts calls, record { folder = refl; here = λ path touched. refl; others = λ path none. inl refl })
 files_may_be_left start doubts (SyncCall changes (Err fault) ∷ calls) = files_may_be_left start doubts calls

@@ -9,8 +9,8 @@ use Rattle.reuse_undo.specs.cli.Places.{between_slashes}
 abbrev pub new_name : List ℕ
 new_name = codes ".reuse-undo-new"
 
--- A folder of this name holds what version control keeps. Capital and small letters are the same, as they are on some file systems, but in `CVS`: a folder
--- of sources may be called `cvs`.
+-- A folder of this name holds what version control keeps. Capital and small letters are the same, as they are on some
+-- file systems, but in `CVS`: a folder of sources may be called `cvs`.
 abbrev pub is_control_folder : List ℕ → Bool
 is_control_folder name =
     str_eq_ignore_ascii_case name (codes ".git") || str_eq_ignore_ascii_case name (codes ".hg") || str_eq_ignore_ascii_case name (codes ".svn")
@@ -18,7 +18,8 @@ is_control_folder name =
     || str_eq_ignore_ascii_case name (codes ".sl") || str_eq_ignore_ascii_case name (codes ".pijul") || str_eq_ignore_ascii_case name (codes ".repo")
     || bytes_eq name (codes "CVS")
 
--- a file of this name leads to what version control keeps elsewhere, as that of a submodule does, or hasn't its name yet
+-- a file of this name leads to what version control keeps elsewhere, as that of a submodule does, or hasn't its name
+-- yet
 abbrev pub is_name_kept_out : List ℕ → Bool
 is_name_kept_out name = str_eq_ignore_ascii_case name (codes ".git") || bytes_eq name new_name
 
@@ -31,7 +32,8 @@ begins_journal names = false
 abbrev pub is_number : List ℕ → Bool
 is_number bytes = not (length bytes == 0) && list_all is_ascii_digit bytes
 
--- A file of this name in a journal's folder was written aside and has no name of its own yet: the first one, or one of several.
+-- A file of this name in a journal's folder was written aside and has no name of its own yet: the first one, or one of
+-- several.
 abbrev pub is_new_name : List ℕ → Bool
 is_new_name name = bytes_eq name (codes "new") || (starts_with nat_eq name (codes "new.") && is_number (drop 4 name))
 
@@ -50,12 +52,13 @@ abbrev pub is_new : List (List ℕ) → Bool
 is_new [] = false
 is_new (name ∷ names) = bytes_eq name (codes ".reuse") && is_new_in_reuse names
 
--- Along these names stands somebody else's data: in a folder of version control, or in a journal behind the first name. The last name, of a folder or of
--- a file, may itself be kept out.
+-- Along these names stands somebody else's data: in a folder of version control, or in a journal behind the first name.
+-- The last name, of a folder or of a file, may itself be kept out.
 abbrev pub is_foreign : Bool → List (List ℕ) → Bool
 is_foreign is_folder [] = false
 is_foreign is_folder (name ∷ []) = if is_folder then is_control_folder name else is_name_kept_out name
-is_foreign is_folder (name ∷ next ∷ names) = is_control_folder name || begins_journal (next ∷ names) || is_foreign is_folder (next ∷ names)
+is_foreign is_folder (name ∷ next ∷ names) =
+    is_control_folder name || begins_journal (next ∷ names) || is_foreign is_folder (next ∷ names)
 
 -- a file of this path is no part of the tree
 abbrev pub is_kept_out : List ℕ → Bool

@@ -31,21 +31,24 @@ gives_user process user = process.user == 0 || user == process.user
 abbrev pub gives_group : Process → ℕ → Bool
 gives_group process group = process.user == 0 || list_any (λ other. other == group) process.groups.items
 
--- A new file that belongs to `made` gets this owner in place of the one that it should have: user and group each, if the process may give it.
+-- A new file that belongs to `made` gets this owner in place of the one that it should have: user and group each, if
+-- the process may give it.
 abbrev pub kept_owner : Process → (wanted made : Owner) → Owner
 kept_owner process wanted made = record {
   user = if gives_user process wanted.user then wanted.user else made.user;
   group = if gives_group process wanted.group then wanted.group else made.group;
 }
 
--- A file that is written anew can't keep its owner if that owner would lose access, or somebody would gain it. An owner who loses the file is taken to be in
--- its group. If the group is lost, some users change over from the group's rights to those of others, and some the other way round.
+-- A file that is written anew can't keep its owner if that owner would lose access, or somebody would gain it. An owner
+-- who loses the file is taken to be in its group. If the group is lost, some users change over from the group's rights
+-- to those of others, and some the other way round.
 abbrev pub cannot_keep : Process → Owner → Rights → Bool
 cannot_keep process owner rights =
     (not (gives_user process owner.user) && not (covers rights.group rights.owner))
     || (not (gives_group process owner.group) && not (rights.group == rights.others))
 
--- A file that is made anew belongs to the process, and to the folder's group if the folder passes its group on. What root makes belongs to the folder's owner.
+-- A file that is made anew belongs to the process, and to the folder's group if the folder passes its group on. What
+-- root makes belongs to the folder's owner.
 abbrev pub owner_of_new : Process → (folder : Owner) → (passes_group : Bool) → Owner
 owner_of_new process folder passes_group =
     if process.user == 0 then folder else record { user = process.user; group = if passes_group then folder.group else process.group }
@@ -59,4 +62,5 @@ is_of_other user (Some owner) = not (owner == user)
 
 -- the journal is another user's: its folder, the folder above it, or the head
 abbrev pub is_journal_of_other : ℕ → JournalOwners → Bool
-is_journal_of_other user owners = is_of_other user owners.above || is_of_other user owners.folder || is_of_other user owners.head
+is_journal_of_other user owners =
+    is_of_other user owners.above || is_of_other user owners.folder || is_of_other user owners.head

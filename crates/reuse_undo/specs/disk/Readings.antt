@@ -9,4 +9,5 @@ IsWholeOf said had bytes = (bytes ≡ had) ⊎ ((said < length had) × (bytes �
 
 -- what is answered of such bytes: they are found where they are no more than the limit, and else too long
 abbrev pub IsReadingOf : ℕ → ℕ → List ℕ → Reading → Type 0
-IsReadingOf said limit had reading = (bytes : List ℕ) × IsWholeOf said had bytes × (reading ≡ reading_of (Some bytes) limit)
+IsReadingOf said limit had reading =
+    (bytes : List ℕ) × IsWholeOf said had bytes × (reading ≡ reading_of (Some bytes) limit)

@@ -14,9 +14,10 @@ use Rattle.reuse_undo.specs.declared.disk.system.record.CallKind.TheVariants as 
 use Rattle.reuse_undo.specs.declared.disk.system.record.ReadKind.{ReadKind}
 use Rattle.reuse_undo.specs.declared.disk.system.record.ReadKind.TheVariants as read
 
--- what nobody can know of a system at its start: each name that leads to a file, with the number of that file, its bytes, and whether a
--- loss of power surely leaves it these; and of each call that is to come its fate: how much of an appending that fails is written, whether
--- another call that fails takes effect, which is 1 or more, and whether the old name stays where a renaming is done, which is 1
+-- what nobody can know of a system at its start: each name that leads to a file, with the number of that file, its
+-- bytes, and whether a loss of power surely leaves it these; and of each call that is to come its fate: how much of an
+-- appending that fails is written, whether another call that fails takes effect, which is 1 or more, and whether the
+-- old name stays where a renaming is done, which is 1
 pub record SystemStart : Type 0 where
   pub files : List (Place × (ℕ × (List ℕ × Bool)))
   pub fates : List ℕ
@@ -29,7 +30,8 @@ fate_at (fate ∷ fates) (suc n) = fate_at fates n
 -- the file that the place leads to at the start
 abbrev pub held_at_start : List (Place × (ℕ × (List ℕ × Bool))) → FileState
 held_at_start [] place = None
-held_at_start (entry ∷ entries) place = if bytes_eq place entry.0 then file (Found entry.1.0) entry.1.1.0 entry.1.1.1 else held_at_start entries place
+held_at_start (entry ∷ entries) place =
+    if bytes_eq place entry.0 then file (Found entry.1.0) entry.1.1.0 entry.1.1.1 else held_at_start entries place
 
 -- the place leads to this
 abbrev pub set : FileState → Place → Option StateFile → FileState
@@ -42,7 +44,8 @@ is_made number (Made other) = other == number
 -- the file, if it is the one that was made so
 abbrev pub filled_if : ℕ → List ℕ → Bool → Option StateFile → Option StateFile
 filled_if number bytes is_lasting None = None
-filled_if number bytes is_lasting (Some held) = if is_made number held.key then file held.key (held.bytes ++ bytes) is_lasting else Some held
+filled_if number bytes is_lasting (Some held) =
+    if is_made number held.key then file held.key (held.bytes ++ bytes) is_lasting else Some held
 
 abbrev pub filled : ℕ → List ℕ → Bool → FileState → FileState
 filled number bytes is_lasting held place = filled_if number bytes is_lasting (held place)
@@ -75,7 +78,8 @@ held_by fate made (ReadCall place said limit answer) held = held
 -- what names lead to after these calls, the newest first
 abbrev pub held_after : List (Place × (ℕ × (List ℕ × Bool))) → List ℕ → List SystemCall → FileState
 held_after files fates [] = held_at_start files
-held_after files fates (call ∷ calls) = held_by (fate_at fates (length calls)) (made_of calls) call (held_after files fates calls)
+held_after files fates (call ∷ calls) =
+    held_by (fate_at fates (length calls)) (made_of calls) call (held_after files fates calls)
 
 -- a call may answer so where names lead to these files and nobody else writes
 abbrev pub MayAnswer : FileState → SystemCall → Type 0
@@ -103,4 +107,5 @@ call_of (kind.Sync number is_done) name other = SyncCall number is_done
 call_of (kind.Rename from to is_done) name other = RenameCall (place_in from name) (place_in to other) is_done
 call_of (kind.Remove folder is_done) name other = RemoveCall (place_in folder name) is_done
 call_of (kind.Look folder answer) name other = LookCall (place_in folder name) answer
-call_of (kind.Read folder said limit answer) name bytes = ReadCall (place_in folder name) said limit (reading_of_kind answer bytes)
+call_of (kind.Read folder said limit answer) name bytes =
+    ReadCall (place_in folder name) said limit (reading_of_kind answer bytes)

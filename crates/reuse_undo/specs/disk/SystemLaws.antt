@@ -31,7 +31,8 @@ pub record IsMade (place : Place) (key : FileKey) (old new : FileState) : Type 0
 
 -- the file got these bytes at its end, and a loss of power surely leaves it what it has now, or not
 pub record IsFilled (key : FileKey) (bytes : List ℕ) (is_lasting : Bool) (old new : FileState) : Type 0 where
-  pub here : (place : Place) (had : List ℕ) (was_lasting : Bool) → old place ≡ file key had was_lasting → new place ≡ file key (had ++ bytes) is_lasting
+  pub here : (place : Place) (had : List ℕ) (was_lasting : Bool) → old place ≡ file key had was_lasting
+      → new place ≡ file key (had ++ bytes) is_lasting
   pub others : IsAlikeButFile key old new
 
 abbrev pub IsAppended : FileKey → List ℕ → FileState → FileState → Type 0
@@ -39,7 +40,8 @@ IsAppended key bytes old new = IsFilled key bytes false old new
 
 -- a loss of power leaves the file its bytes
 pub record IsSynced (key : FileKey) (old new : FileState) : Type 0 where
-  pub here : (place : Place) (had : List ℕ) (is_lasting : Bool) → old place ≡ file key had is_lasting → new place ≡ file key had true
+  pub here : (place : Place) (had : List ℕ) (is_lasting : Bool) → old place ≡ file key had is_lasting
+      → new place ≡ file key had true
   pub others : IsAlikeButFile key old new
 
 -- what stood at one place stands at the other now; where both led to one file, it stands at both
@@ -64,5 +66,6 @@ IsSeen one (Err fault) = Unit {0}
 
 -- what a reading may answer of it: what is read of a reader that has its bytes
 abbrev pub IsReadOf : (said limit : ℕ) → Option StateFile → Result Reading FolderFault → Type 0
-IsReadOf said limit one (Ok reading) = (held : StateFile) × (one ≡ Some held) × IsReadingOf said limit held.bytes reading
+IsReadOf said limit one (Ok reading) =
+    (held : StateFile) × (one ≡ Some held) × IsReadingOf said limit held.bytes reading
 IsReadOf said limit one (Err fault) = Unit {0}

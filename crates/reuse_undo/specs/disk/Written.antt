@@ -25,8 +25,8 @@ pub record StandsAlone (place : Place) (key : FileKey) (held : FileState) : Type
   pub here : held place ≡ file key [] false
   pub alone : (other : Place) → other ≢ place → IsNot key (held other)
 
--- Where it is done, the target has these bytes. Done or not, the target has them or what it had, if it is none of the places
--- where new files are written; and nothing differs but there and at the target.
+-- Where it is done, the target has these bytes. Done or not, the target has them or what it had, if it is none of the
+-- places where new files are written; and nothing differs but there and at the target.
 pub record IsWritten (IsAside : Place → Type 0) (target : Place) (bytes : List ℕ) (is_lasting : Bool) (old new : FileState) (is_done : Bool) : Type 0 where
   pub done : IsTrue is_done → Holds new target bytes is_lasting
   pub whole : ¬ (IsAside target) → (new target ≡ old target) ⊎ Holds new target bytes is_lasting

@@ -86,7 +86,8 @@ side_text side path (Some file) = name_text side path
 
 abbrev pub end_text : List ℕ → Option (List ℕ) → List ℕ
 end_text path None = codes "\n"
-end_text path (Some file) = if list_any (λ byte. byte == 32) path && not (list_any is_quoted path) then codes "\t\n" else codes "\n"
+end_text path (Some file) =
+    if list_any (λ byte. byte == 32) path && not (list_any is_quoted path) then codes "\t\n" else codes "\n"
 
 abbrev pub names_text : List ℕ → Option (List ℕ) → Option (List ℕ) → List ℕ
 names_text path before after =
@@ -112,7 +113,8 @@ same_side (Some before) (Some after) = bytes_eq before after
 same_side None (Some after) = false
 same_side (Some before) None = false
 
--- what stands behind the head where both sides are texts: their names and the hunk between them, or nothing where their bytes are the same
+-- what stands behind the head where both sides are texts: their names and the hunk between them, or nothing where their
+-- bytes are the same
 pub record IsTextBody (names before after text : List ℕ) : Type 0 where
   pub same : before ≡ after → text ≡ []
   pub hunk : before ≢ after → (hunk : Hunk) × IsHunk before after hunk × (text ≡ names ++ hunk_text hunk)
@@ -128,7 +130,8 @@ IsBody path before after text =
     (text ≡ binary_text path before after)
     (IsTextBody (names_text path before after) (unwrap_or before []) (unwrap_or after []) text)
 
--- The diff of the file that a path holds before and after: nothing where that is the same, and else its head and what stands behind.
+-- The diff of the file that a path holds before and after: nothing where that is the same, and else its head and what
+-- stands behind.
 abbrev pub IsDiff : List ℕ → Option (List ℕ) → Option (List ℕ) → List ℕ → Type 0
 IsDiff path before after text =
     MatchBool (same_side before after) (text ≡ [])
@@ -140,11 +143,12 @@ IsDiff path before after text =
 abbrev pub range_title : ℕ → List ℕ
 range_title at = codes "@@ byte " ++ decimal at ++ codes " @@\n"
 
--- names, where the range stands, and lines that are kept, removed or added: those that are kept or removed are the bytes that gave way, and
--- those that are kept or added the bytes in their place
+-- names, where the range stands, and lines that are kept, removed or added: those that are kept or removed are the
+-- bytes that gave way, and those that are kept or added the bytes in their place
 abbrev pub IsRangeLines : List ℕ → ℕ → (old new text : List ℕ) → Type 0
 IsRangeLines names at old new text =
-    (pieces : List Piece) × AreLinesOf old (old_lines pieces) × AreLinesOf new (new_lines pieces) × (text ≡ names ++ range_title at ++ flat_map piece_text pieces)
+    (pieces : List Piece) × AreLinesOf old (old_lines pieces) × AreLinesOf new (new_lines pieces)
+    × (text ≡ names ++ range_title at ++ flat_map piece_text pieces)
 
 -- what stands behind the head of a range: that it is a binary, or its lines
 abbrev pub IsRangeBody : List ℕ → Option (List ℕ) → Option (List ℕ) → ℕ → List ℕ → Type 0
@@ -154,10 +158,11 @@ IsRangeBody path before after at text =
     (IsRangeLines (names_text path before after) at (unwrap_or before []) (unwrap_or after []) text)
 
 abbrev pub IsRange : List ℕ → Option (List ℕ) → Option (List ℕ) → ℕ → List ℕ → Type 0
-IsRange path before after at text = (body : List ℕ) × IsRangeBody path before after at body × (text ≡ head_text path before after ++ body)
+IsRange path before after at text =
+    (body : List ℕ) × IsRangeBody path before after at body × (text ≡ head_text path before after ++ body)
 
--- What a change has recorded: of a range the bytes that gave way and those in their place, and else the diff of the file that is made or
--- removed.
+-- What a change has recorded: of a range the bytes that gave way and those in their place, and else the diff of the
+-- file that is made or removed.
 abbrev pub IsRecord : Change → List ℕ → Type 0
 IsRecord (Splice path at old new rest seal) text = IsRange path (Some old) (Some new) at text
 IsRecord change text = IsDiff (path_of change) (part_before change) (part_after change) text

@@ -46,7 +46,8 @@ pub record IsContext (shown : ℕ) (left : List (List ℕ)) : Type 0 where
   pub most : shown ≤ 3
   pub whole : left ≢ [] → shown ≡ 3
 
--- Both files are the same lines above the hunk, its own lines, and the same lines below. It begins and ends with three lines that are kept.
+-- Both files are the same lines above the hunk, its own lines, and the same lines below. It begins and ends with three
+-- lines that are kept.
 pub record IsHunk (before after : List ℕ) (hunk : Hunk) : Type 0 where
   pub above : List (List ℕ)
   pub below : List (List ℕ)

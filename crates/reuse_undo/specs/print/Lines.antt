@@ -51,7 +51,8 @@ change_lines names changes = joined (change_line names) changes
 
 -- what a step is printed as: its row of the log, and a line for each path
 abbrev pub IsShownText : Names → Shown → List ℕ → Type 0
-IsShownText names shown text = (line : List ℕ) × IsRowLine shown.row line × (text ≡ line ++ change_lines names shown.changes)
+IsShownText names shown text =
+    (line : List ℕ) × IsRowLine shown.row line × (text ≡ line ++ change_lines names shown.changes)
 
 -- the paths at which a step was taken back
 abbrev pub changed_text : Names → List (List ℕ) → List ℕ

@@ -30,7 +30,8 @@ abbrev pub row_value : Row → Date → Data
 row_value row date = object_of (row_members row date)
 
 abbrev pub change_value : Change → Data
-change_value change = object_of ((codes "kind", string (kind_word change)) ∷ (codes "path", string (path_of change)) ∷ [])
+change_value change =
+    object_of ((codes "kind", string (kind_word change)) ∷ (codes "path", string (path_of change)) ∷ [])
 
 abbrev pub changes_value : List Change → Data
 changes_value changes = array_of (map change_value changes)
@@ -56,7 +57,8 @@ AreRowObjects rows text = AreJoined IsRowObject rows text
 
 -- the object of a step, on a line
 abbrev pub IsShownObject : Shown → List ℕ → Type 0
-IsShownObject shown text = (date : Date) × (IsDateOf shown.row.when date × (text ≡ object_line (shown_value shown date)))
+IsShownObject shown text =
+    (date : Date) × (IsDateOf shown.row.when date × (text ≡ object_line (shown_value shown date)))
 
 -- what would become of a path
 abbrev pub outcome_value : List ℕ → List ℕ → Data

@@ -32,7 +32,8 @@ IsRowLine row line = (date : Date) × (IsDateOf row.when date × (line ≡ row_l
 -- such texts of all, one after the other
 abbrev pub AreJoined : {A : Type 0} → (A → List ℕ → Type 0) → List A → List ℕ → Type 0
 AreJoined IsText [] text = text ≡ []
-AreJoined IsText (one ∷ others) text = (line : List ℕ) × ((rest : List ℕ) × (IsText one line × (AreJoined IsText others rest × (text ≡ line ++ rest))))
+AreJoined IsText (one ∷ others) text =
+    (line : List ℕ) × ((rest : List ℕ) × (IsText one line × (AreJoined IsText others rest × (text ≡ line ++ rest))))
 
 -- the lines of rows, one after the other
 abbrev pub AreRowLines : List Row → List ℕ → Type 0

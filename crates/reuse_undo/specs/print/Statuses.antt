@@ -9,14 +9,16 @@ use Rattle.reuse_undo.specs.declared.print.status.Ending.{Ending}
 use Rattle.reuse_undo.specs.declared.print.status.Ending.TheVariants.{BadClock, NoLine, Denied, Called}
 use Rattle.reuse_undo.specs.declared.cli.line.LineFault.TheVariants.{Usage, Help, BadPath, BadAdditions, NothingToAmend, BadGlob, Unreadable, Memory}
 
--- after a call, by how many paths changed, or would change in a dry run: 1 where it was refused or failed, and 1 where a path changed and that is asked for
+-- after a call, by how many paths changed, or would change in a dry run: 1 where it was refused or failed, and 1 where
+-- a path changed and that is asked for
 abbrev pub call_status_of : ChangeStatus → Result ℕ Fault → ℕ
 call_status_of on_change (Err fault) = 1
 call_status_of on_change (Ok zero) = 0
 call_status_of Zero (Ok (suc others)) = 0
 call_status_of One (Ok (suc others)) = 1
 
--- 0 where help was asked for, 1 where memory ran out, and 2 where the words are wrong, or the list of files that they name can't be read
+-- 0 where help was asked for, 1 where memory ran out, and 2 where the words are wrong, or the list of files that they
+-- name can't be read
 abbrev pub line_status_of : LineFault → ℕ
 line_status_of (Help text) = 0
 line_status_of Memory = 1
@@ -28,7 +30,8 @@ line_status_of (BadPath text) = 2
 line_status_of (BadGlob text) = 2
 line_status_of (Unreadable file) = 2
 
--- of a run: 1 where the clock is out of range, and at least 1 where it couldn't be printed why the words are no line, or the help; and 1 where the program itself refused the call
+-- of a run: 1 where the clock is out of range, and at least 1 where it couldn't be printed why the words are no line,
+-- or the help; and 1 where the program itself refused the call
 abbrev pub exit_status_of : Ending → ℕ
 exit_status_of BadClock = 1
 exit_status_of (NoLine fault true) = line_status_of fault

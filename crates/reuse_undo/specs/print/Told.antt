@@ -32,19 +32,21 @@ abbrev pub WouldBeMade : Response → Type 0
 WouldBeMade (Preview path_outcomes) = is_refused path_outcomes ≡ false
 WouldBeMade told = Unit {0}
 
--- what may stand behind the lines of an answer where a diff is wanted: some diff, of a call that was only looked at and would be made; what a step has
--- recorded, where it is shown; and else nothing
+-- what may stand behind the lines of an answer where a diff is wanted: some diff, of a call that was only looked at and
+-- would be made; what a step has recorded, where it is shown; and else nothing
 abbrev pub IsDiffBehind : Response → List ℕ → Type 0
 IsDiffBehind (Preview path_outcomes) diff = (diff ≡ []) ⊎ (is_refused path_outcomes ≡ false)
 IsDiffBehind (Shown shown) diff = AreRecords shown.changes diff
 IsDiffBehind told diff = diff ≡ []
 
--- what an answer is printed as: in lines; in lines with a diff behind them; or rows, steps and dry runs as objects, and all else in lines
+-- what an answer is printed as: in lines; in lines with a diff behind them; or rows, steps and dry runs as objects, and
+-- all else in lines
 abbrev pub IsTextIn : OutputFormat → Names → Response → List ℕ → Type 0
 IsTextIn Json names (Log rows) text = AreRowObjects rows text
 IsTextIn Json names (Preview path_outcomes) text = ArePathOutcomeObjects path_outcomes text
 IsTextIn Json names (Shown shown) text = IsShownObject shown text
-IsTextIn Diff names told text = (lines : List ℕ) × (diff : List ℕ) × IsReplyText names told lines × IsDiffBehind told diff × (text ≡ lines ++ diff)
+IsTextIn Diff names told text =
+    (lines : List ℕ) × (diff : List ℕ) × IsReplyText names told lines × IsDiffBehind told diff × (text ≡ lines ++ diff)
 IsTextIn format names told text = IsReplyText names told text
 
 abbrev pub IsToldText : Telling → Response → List ℕ → Type 0
@@ -57,7 +59,8 @@ TellsFailure old new result = new ≡ old
 
 -- what would be made of a call that was only looked at is wanted as a diff
 abbrev pub IsDrawnPreview : Telling → Response → Type 0
-IsDrawnPreview telling told = (telling.format ≡ Diff) × (path_outcomes : List PathOutcome) × (told ≡ Preview path_outcomes) × (is_refused path_outcomes ≡ false)
+IsDrawnPreview telling told = (telling.format ≡ Diff) × (path_outcomes : List PathOutcome)
+    × (told ≡ Preview path_outcomes) × (is_refused path_outcomes ≡ false)
 
 -- ---- for private clauses
 
@@ -89,7 +92,8 @@ IsBehind telling told (Err fault) = fault ≡ Memory
 
 -- a dry run is answered, and none of its path outcomes is a refusal
 abbrev pub IsAccepted : Result Response Refusal → Type 0
-IsAccepted (Ok told) = (path_outcomes : List PathOutcome) × (told ≡ Preview path_outcomes) × (is_refused path_outcomes ≡ false)
+IsAccepted (Ok told) =
+    (path_outcomes : List PathOutcome) × (told ≡ Preview path_outcomes) × (is_refused path_outcomes ≡ false)
 IsAccepted (Err refusal) = ⊥
 
 -- a diff is wanted of what the answer tells
@@ -103,7 +107,8 @@ Accepts told (Ok count) = (count ≡ path_count told) × WouldBeMade told
 Accepts told (Err (WouldRefuse path_outcomes)) = (told ≡ Preview path_outcomes) × (is_refused path_outcomes ≡ true)
 Accepts told (Err fault) = ⊥
 
--- the answer is printed and accepted; or the output failed behind some front part of its text; or nothing was printed, for want of a diff or of memory
+-- the answer is printed and accepted; or the output failed behind some front part of its text; or nothing was printed,
+-- for want of a diff or of memory
 abbrev pub Finishes : Telling → Response → List ℕ → List ℕ → Result ℕ Fault → Type 0
 Finishes telling told old new (Err (NoDiff refusal)) = IsDrawnPreview telling told × (new ≡ old)
 Finishes telling told old new (Err Memory) = new ≡ old

@@ -28,22 +28,27 @@ pub record CarriesOut {S O : Type 0} (store : Ghosts S) (contents : O → List �
   -- from any state that the files hold it is that of the model that keeps whole copies
   pub machine : store.honest new → (state : Snapshots) → HoldState (store.files old) state
       → TellsAnswer telling (λ answer. FollowsModel state request answer (store.files new)) (contents before) (contents after) result
-  -- From files that an earlier stop may have left in doubt too: what is told is the answer of a run of the model with stops, and the files are left
-  -- where that run is.
+  -- From files that an earlier stop may have left in doubt too: what is told is the answer of a run of the model with
+  -- stops, and the files are left where that run is.
   pub after_stop : store.honest new → (start : Point) → AreLeft (store.files old) start.state start.next
       → (end : Point) × TellsAnswer telling (λ answer. AnswersAfterStop request answer start end) (contents before) (contents after) result
       × AreLeft (store.files new) end.state end.next
-  -- where a dry run's diff is wanted it stands behind the lines: the diff of the tree as it is, and of that which the call would leave
-  pub drawn : store.honest new → (held : State) → IsStanding (store.files old) held → telling.format ≡ Diff → (tree : Files) → WouldLeave request held tree
+  -- where a dry run's diff is wanted it stands behind the lines: the diff of the tree as it is, and of that which the
+  -- call would leave
+  pub drawn : store.honest new → (held : State) → IsStanding (store.files old) held → telling.format ≡ Diff
+      → (tree : Files) → WouldLeave request held tree
       → IfOk result (λ count. AddsSome (contents before) (contents after) (IsDrawnText telling.names held.tree tree))
   -- what only asks only reads the store, where nothing is pending
-  pub reads_only : store.honest new → IsReading request → (held : State) → IsStanding (store.files old) held → OnlyReads store old new
-  -- a refusal is told before anything is written, and that the reply couldn't be written exactly where the output failed
+  pub reads_only : store.honest new → IsReading request → (held : State) → IsStanding (store.files old) held
+      → OnlyReads store old new
+  -- a refusal is told before anything is written, and that the reply couldn't be written exactly where the output
+  -- failed
   pub quiet : IfRefused result (λ refusal. after ≡ before)
   pub failed : TellsFailure (has_failed before) (has_failed after) result
   -- a fault has its cause; where nothing is pending, a clash is told only where the path that the call puts clashes
   pub fault : IfRefused result (HasCause (store.failures old < store.failures new))
-  pub clash : store.honest new → (held : State) → IsStanding (store.files old) held → IfRefused result (HasCallClash request held (store.files old))
+  pub clash : store.honest new → (held : State) → IsStanding (store.files old) held
+      → IfRefused result (HasCallClash request held (store.files old))
   -- that a diff can't be made has its cause too, and is told before anything is written
   pub undrawn : IfNoDiff result (λ refusal. IsUndrawn store old new refusal × (after ≡ before))
   pub failures : store.failures old ≤ store.failures new

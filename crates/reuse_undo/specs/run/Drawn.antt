@@ -50,7 +50,8 @@ WouldLead planned before after = AreSmallSteps planned.direction planned.changes
 
 -- Made on the committed state, the call whose dry run is asked for is accepted and leaves this tree.
 abbrev pub WouldLeave : Request → State → Files → Type 0
-WouldLeave (requests.Preview call) held after = (when : ℕ) × (reply : Response) × (new : State) × Makes call when held (Ok reply) new × (new.tree ≡ after)
+WouldLeave (requests.Preview call) held after =
+    (when : ℕ) × (reply : Response) × (new : State) × Makes call when held (Ok reply) new × (new.tree ≡ after)
 WouldLeave request held after = ⊥
 
 -- the diff of two trees: of each path at which they differ, in byte order, what it holds in the one and in the other
@@ -87,10 +88,13 @@ abbrev pub planned_in : Direction → Result Previewed Refusal → Option Planne
 planned_in direction (Ok previewed) = planned_unless (is_refused previewed.path_outcomes) previewed.changes direction
 planned_in direction (Err refusal) = None
 
--- where a dry run was answered without a refusal, what would change is there, and leads to whatever tree the call would leave
-abbrev pub LeadsAsPreviewedAccepted : {S : Type 0} → Ghosts S → Request → Result Response Refusal → Option PlannedChanges → Session S → Session S → Type 0
+-- where a dry run was answered without a refusal, what would change is there, and leads to whatever tree the call would
+-- leave
+abbrev pub LeadsAsPreviewedAccepted : {S : Type 0} → Ghosts S → Request → Result Response Refusal
+    → Option PlannedChanges → Session S → Session S → Type 0
 LeadsAsPreviewedAccepted store request answer planned old new =
-    store.honest (store_of new) → (held : State) → StandsOn store.files old held → (after : Files) → WouldLeave request held after → IsAccepted answer
+    store.honest (store_of new) → (held : State) → StandsOn store.files old held → (after : Files)
+    → WouldLeave request held after → IsAccepted answer
     → IsSomeAnd planned (λ planned. LeadsAsPreviewed planned held.tree after)
 
 -- the request is answered, and of a dry run without a refusal what would change is there, and of nothing else

@@ -44,26 +44,34 @@ HasForgotten steps before after forgotten =
     (found : State) × (opened : Files) × (left : State) × OpensOn before found opened
     × Forgets (asked_numbers steps found.journal) found (Ok forgotten) left × IsStanding after left
 
--- how it is refused from a standing: at the first number that no step has, or for an allocation failure, and all stays; and where it stops the files are the
--- standing with the steps or without them
+-- how it is refused from a standing: at the first number that no step has, or for an allocation failure, and all stays;
+-- and where it stops the files are the standing with the steps or without them
 abbrev pub RefusesFrom : Steps → State → (opened : Files) → Refusal → (after : Files) → Type 0
-RefusesFrom steps found opened (refusals.NoSuchStep number) after = (first_absent found.journal (asked_numbers steps found.journal) ≡ Some number) × (after ≡ opened)
+RefusesFrom steps found opened (refusals.NoSuchStep number) after =
+    (first_absent found.journal (asked_numbers steps found.journal) ≡ Some number) × (after ≡ opened)
 RefusesFrom steps found opened (refusals.Failed failures.Memory) after = after ≡ opened
-RefusesFrom steps found opened (refusals.Failed (failures.Interrupted cause)) after = IsStanding after found ⊎ IsStanding after (state_besides (asked_numbers steps found.journal) found)
+RefusesFrom steps found opened (refusals.Failed (failures.Interrupted cause)) after =
+    IsStanding after found ⊎ IsStanding after (state_besides (asked_numbers steps found.journal) found)
 RefusesFrom steps found opened refusal after = ⊥
 
 -- no session was opened, or it refused
 abbrev pub RefusesToForget : Steps → (before after : Files) → Refusal → Type 0
 RefusesToForget steps before after refusal =
-    IsUnopened before refusal after ⊎ ((found : State) × (opened : Files) × OpensOn before found opened × RefusesFrom steps found opened refusal after)
+    IsUnopened before refusal after
+    ⊎ ((found : State) × (opened : Files) × OpensOn before found opened
+    × RefusesFrom steps found opened refusal after)
 
--- The steps are forgotten, and of what was forgotten the output took the lines, or some front part of them if it failed, or nothing for an allocation failure.
--- Or it is refused, and nothing is written.
+-- The steps are forgotten, and of what was forgotten the output took the lines, or some front part of them if it
+-- failed, or nothing for an allocation failure. Or it is refused, and nothing is written.
 abbrev pub ForgetsOn : Steps → (before after : Files) → (old new : List ℕ) → Result ℕ Fault → Type 0
-ForgetsOn steps before after old new (Ok count) = (forgotten : List ℕ) × HasForgotten steps before after forgotten × Adds old new (forgotten_text forgotten) × (count ≡ length forgotten)
-ForgetsOn steps before after old new (Err (faults.Refused refusal)) = RefusesToForget steps before after refusal × (new ≡ old)
-ForgetsOn steps before after old new (Err faults.Write) = (forgotten : List ℕ) × HasForgotten steps before after forgotten × AddsFront old new (forgotten_text forgotten)
-ForgetsOn steps before after old new (Err faults.Memory) = (forgotten : List ℕ) × HasForgotten steps before after forgotten × (new ≡ old)
+ForgetsOn steps before after old new (Ok count) = (forgotten : List ℕ) × HasForgotten steps before after forgotten
+    × Adds old new (forgotten_text forgotten) × (count ≡ length forgotten)
+ForgetsOn steps before after old new (Err (faults.Refused refusal)) =
+    RefusesToForget steps before after refusal × (new ≡ old)
+ForgetsOn steps before after old new (Err faults.Write) =
+    (forgotten : List ℕ) × HasForgotten steps before after forgotten × AddsFront old new (forgotten_text forgotten)
+ForgetsOn steps before after old new (Err faults.Memory) =
+    (forgotten : List ℕ) × HasForgotten steps before after forgotten × (new ≡ old)
 ForgetsOn steps before after old new (Err fault) = ⊥
 
 -- ---- for private clauses

@@ -10,7 +10,8 @@ use Rattle.reuse_undo.specs.declared.run.fault.Fault.{Fault}
 use Rattle.reuse_undo.specs.declared.cli.line.Telling.{Telling}
 use Rattle.reuse_session.specs.declared.request.Request.{Request}
 
--- a line that was carried out: what it asked for, its store and what its answer is written to, each before and after, and what was told
+-- a line that was carried out: what it asked for, its store and what its answer is written to, each before and after,
+-- and what was told
 pub record CarriedLine (S O : Type 0) : Type 0 where
   pub request : Request
   pub telling : Telling
@@ -29,14 +30,16 @@ abbrev pub LosesNoMore : {S : Type 0} → Ghosts S → S → S → Type 0
 LosesNoMore store left next = HoldsSame store left next × Leaves store next (store.may_be left)
 
 -- each line is carried out on a store that is next to the one that the line before it left, and is honest
-abbrev pub AreInTurn : {S O : Type 0} → (IsNext : S → S → Type 0) → Ghosts S → (O → List ℕ) → (O → Bool) → S → List (CarriedLine S O) → S → Type 0
+abbrev pub AreInTurn : {S O : Type 0} → (IsNext : S → S → Type 0) → Ghosts S → (O → List ℕ) → (O → Bool) → S
+    → List (CarriedLine S O) → S → Type 0
 AreInTurn IsNext store contents has_failed first [] last = last ≡ first
 AreInTurn IsNext store contents has_failed first (line ∷ lines) last =
     IsNext first line.old × store.honest line.new
     × CarriesOut store contents has_failed line.request line.telling line.old line.new line.before line.after line.result
     × AreInTurn IsNext store contents has_failed line.new lines last
 
--- the lines tell the answers of a run of the model with stops, one after the other, and lead from one point to the other
+-- the lines tell the answers of a run of the model with stops, one after the other, and lead from one point to the
+-- other
 abbrev pub RunAsModel : {S O : Type 0} → (O → List ℕ) → List (CarriedLine S O) → (start end : Point) → Type 0
 RunAsModel contents [] start end = end ≡ start
 RunAsModel contents (line ∷ lines) start end =

@@ -46,41 +46,51 @@ pub record IsUnopened (before : Files) (refusal : Refusal) (after : Files) : Typ
 abbrev pub AnswersOn : Request → State → Result Response Refusal → Files → Type 0
 AnswersOn request held answer after = (opened : Files) × IsStanding opened held × Meets request held answer after
 
--- A session was opened, which of the journal's files puts none but the head, and the call was made on the standing that it found. A clash that is told is
--- one of the files as the opening left them.
+-- A session was opened, which of the journal's files puts none but the head, and the call was made on the standing that
+-- it found. A clash that is told is one of the files as the opening left them.
 pub record IsMade (before : Files) (request : Request) (answer : Result Response Refusal) (after : Files) : Type 0 where
-  pub made : (found : State) × (opened : Files) × OpensOn before found opened × Meets request found answer after × IfErr answer (HasCallClash request found opened)
+  pub made : (found : State) × (opened : Files) × OpensOn before found opened × Meets request found answer after
+      × IfErr answer (HasCallClash request found opened)
       × IsSameBut head_path (undo_folder_of before) (undo_folder_of opened) × KeepsFolder request found opened after
   -- of files in doubt that is one of the two
-  pub recovers : (first second : State) → InDoubt first second before → AnswersOn request first answer after ⊎ AnswersOn request second answer after
+  pub recovers : (first second : State) → InDoubt first second before → AnswersOn request first answer after
+      ⊎ AnswersOn request second answer after
 
 -- a session's answer to the request, or its opening's refusal, and the files then
 abbrev pub RequestLeaves : Files → Request → Result Response Refusal → Files → Type 0
-RequestLeaves before request answer after = ((refusal : Refusal) × (answer ≡ Err refusal) × IsUnopened before refusal after) ⊎ IsMade before request answer after
+RequestLeaves before request answer after = ((refusal : Refusal) × (answer ≡ Err refusal)
+    × IsUnopened before refusal after) ⊎ IsMade before request answer after
 
 -- ---- from a state of the model
 
--- The answer and the files are those that the model gives. An early failure leaves the state, and a stop leaves it, or files in doubt between it
--- and the one that the model would be in.
+-- The answer and the files are those that the model gives. An early failure leaves the state, and a stop leaves it, or
+-- files in doubt between it and the one that the model would be in.
 abbrev pub FollowsModel : Snapshots → Request → Result Response Refusal → Files → Type 0
 FollowsModel state request (Err (refusals.Failed (failures.Interrupted cause))) files =
-    HoldState files state ⊎ ((given : Result Response Refusal) × (next : Snapshots) × Gives state request given next × AreLeft files state (Some next))
+    HoldState files state
+    ⊎ ((given : Result Response Refusal) × (next : Snapshots) × Gives state request given next
+    × AreLeft files state (Some next))
 FollowsModel state request (Err (refusals.Failed failure)) files = HoldState files state
 FollowsModel state request answer files = (next : Snapshots) × Gives state request answer next × HoldState files next
 
 -- ---- what is told of it
 
--- The answer is one of these. Of it the output took the lines, and the paths that changed are counted, or it failed behind some front part of them; a
--- refusal is handed on, and nothing is written of it, nor for an allocation failure. A call that was only looked at is a fault exactly where one of its path outcomes is a refusal. That another
--- run works on the tree is told before a store is asked, so never here.
+-- The answer is one of these. Of it the output took the lines, and the paths that changed are counted, or it failed
+-- behind some front part of them; a refusal is handed on, and nothing is written of it, nor for an allocation failure.
+-- A call that was only looked at is a fault exactly where one of its path outcomes is a refusal. That another run works
+-- on the tree is told before a store is asked, so never here.
 abbrev pub TellsAnswer : Telling → (Result Response Refusal → Type 0) → List ℕ → List ℕ → Result ℕ Fault → Type 0
-TellsAnswer telling IsAnswer old new (Ok count) = (told : Response) × IsAnswer (Ok told) × WouldBeMade told × AddsSome old new (IsToldText telling told) × (count ≡ path_count told)
+TellsAnswer telling IsAnswer old new (Ok count) = (told : Response) × IsAnswer (Ok told) × WouldBeMade told
+    × AddsSome old new (IsToldText telling told) × (count ≡ path_count told)
 TellsAnswer telling IsAnswer old new (Err (faults.Refused refusal)) = IsAnswer (Err refusal) × (new ≡ old)
 TellsAnswer telling IsAnswer old new (Err (faults.WouldRefuse path_outcomes)) =
-    IsAnswer (Ok (replies.Preview path_outcomes)) × (is_refused path_outcomes ≡ true) × AddsSome old new (IsToldText telling (replies.Preview path_outcomes))
-TellsAnswer telling IsAnswer old new (Err (faults.NoDiff refusal)) = ((told : Response) × IsAnswer (Ok told) × IsDrawnPreview telling told) × (new ≡ old)
+    IsAnswer (Ok (replies.Preview path_outcomes)) × (is_refused path_outcomes ≡ true)
+    × AddsSome old new (IsToldText telling (replies.Preview path_outcomes))
+TellsAnswer telling IsAnswer old new (Err (faults.NoDiff refusal)) =
+    ((told : Response) × IsAnswer (Ok told) × IsDrawnPreview telling told) × (new ≡ old)
 TellsAnswer telling IsAnswer old new (Err faults.InUse) = ⊥
-TellsAnswer telling IsAnswer old new (Err faults.Write) = (told : Response) × IsAnswer (Ok told) × (text : List ℕ) × IsToldText telling told text × AddsFront old new text
+TellsAnswer telling IsAnswer old new (Err faults.Write) =
+    (told : Response) × IsAnswer (Ok told) × (text : List ℕ) × IsToldText telling told text × AddsFront old new text
 TellsAnswer telling IsAnswer old new (Err faults.Memory) = ((told : Response) × IsAnswer (Ok told)) × (new ≡ old)
 
 -- a refusal that is told

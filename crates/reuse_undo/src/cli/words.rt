@@ -63,7 +63,8 @@ impl Said {
 /// Faults come in this order: those of the words themselves, the first word that names no place,
 /// those of what `annotate` is to add or `amend` to change, and the first glob that is none.
 pub fn words_to_command(alloc: Global, words: &[String], moment: Moment) -> Said
-    ensures { ((matches : ArgMatches) × IsFoundIn (map string_bytes words.now) matches × Says matches moment result) ⊎ IsRefusedByClap result }
+    ensures { ((matches : ArgMatches) × IsFoundIn (map string_bytes words.now) matches × Says matches moment result)
+        ⊎ IsRefusedByClap result }
 {
     match matches_of(alloc, words) {
         Ok(matches) => said_in(alloc, &matches, moment),

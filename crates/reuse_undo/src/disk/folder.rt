@@ -141,7 +141,8 @@ impl<R: Files<File = File> + AllocGlobal + Clone + Drop> RootFolder<R> {
     /// What stands at the path. The folder that it lies in is entered, if it is there.
     fn look(&mut self, alloc: Global, path: &PathText) -> Result<Place, FolderFault>
         ensures kept { ⟦<HostSystem<R> as System>⟧.holds self.new.system ≡ ⟦<HostSystem<R> as System>⟧.holds self.old.system }
-        ensures earlier { ⟦<HostSystem<R> as System>⟧.honest self.new.system → ⟦<HostSystem<R> as System>⟧.honest self.old.system }
+        ensures earlier { ⟦<HostSystem<R> as System>⟧.honest self.new.system
+            → ⟦<HostSystem<R> as System>⟧.honest self.old.system }
         ensures remembered { self.new.remembered ≡ self.old.remembered }
         ensures seen { ⟦<HostSystem<R> as System>⟧.honest self.new.system
             → IfOk result (IsPlaceIn (current_of self.new.trail) path.now (⟦<HostSystem<R> as System>⟧.holds self.new.system)) }
@@ -158,7 +159,8 @@ impl<R: Files<File = File> + AllocGlobal + Clone + Drop> RootFolder<R> {
         seen: Option<FileStatus>,
     ) -> Result<Place, FolderFault>
         ensures kept { ⟦<HostSystem<R> as System>⟧.holds self.new.system ≡ ⟦<HostSystem<R> as System>⟧.holds self.old.system }
-        ensures earlier { ⟦<HostSystem<R> as System>⟧.honest self.new.system → ⟦<HostSystem<R> as System>⟧.honest self.old.system }
+        ensures earlier { ⟦<HostSystem<R> as System>⟧.honest self.new.system
+            → ⟦<HostSystem<R> as System>⟧.honest self.old.system }
         ensures syncs { self.new.unsynced.syncs ≡ self.old.unsynced.syncs }
         ensures remembered { self.new.remembered ≡ self.old.remembered }
         ensures seen { ⟦<HostSystem<R> as System>⟧.honest self.new.system → seen ≡ None

@@ -66,7 +66,8 @@ fn make<S: System>(
     name: &str,
     mode: Option<u32>,
 ) -> io::Result<Aside>
-    ensures made { IfOk result (λ aside. (place_of aside ≡ name_in folder.now name.now) × StandsAlone (place_of aside) (key_of aside) (S.holds system.new)) }
+    ensures made { IfOk result (λ aside. (place_of aside ≡ name_in folder.now name.now)
+        × StandsAlone (place_of aside) (key_of aside) (S.holds system.new)) }
     ensures others { IsAlikeBut (name_in folder.now name.now) (S.holds system.old) (S.holds system.new) }
 {
     match system.make(folder, name, mode) {
@@ -321,7 +322,8 @@ pub fn name_aside<S: System>(
     aside: &Aside,
     target: Target<'_>,
 ) -> Result<bool, FolderFault>
-    ensures { (bytes : List ℕ) → (is_lasting : Bool) → S.holds system.old (place_of aside.now) ≡ file (key_of aside.now) bytes is_lasting
+    ensures { (bytes : List ℕ) → (is_lasting : Bool)
+        → S.holds system.old (place_of aside.now) ≡ file (key_of aside.now) bytes is_lasting
         → IsWritten (λ place. place ≡ place_of aside.now) (name_in target.entry.folder.now target.entry.name.now) bytes is_lasting
         (S.holds system.old) (S.holds system.new) (is_named result) }
 {

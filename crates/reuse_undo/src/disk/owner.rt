@@ -86,7 +86,8 @@ impl Process {
         ensures exact { result ≡ cannot_keep self.now owner rights }
         // Else whoever owns neither the old file nor the new one has the access that he had, and
         // the owner, a member of the file's group, has all that he had.
-        ensures same { result ≡ false → (made : Owner) → (user : ℕ) → (is_member : ℕ → Bool) → user ≢ owner.user → user ≢ made.user
+        ensures same { result ≡ false → (made : Owner) → (user : ℕ) → (is_member : ℕ → Bool) → user ≢ owner.user
+            → user ≢ made.user
             → access user is_member (kept_owner self.now owner made) rights ≡ access user is_member owner rights }
         ensures kept { result ≡ false → (made : Owner) → (is_member : ℕ → Bool) → IsTrue (is_member owner.group)
             → IsTrue (covers (access owner.user is_member (kept_owner self.now owner made) rights) (access owner.user is_member owner rights)) }

@@ -139,7 +139,8 @@ impl Unsynced {
         ensures left_out { self.old.syncs ≡ Syncs.LeftOut → IsOk result }
         ensures lasting { self.old.syncs ≡ Syncs.Kept → OnOk result (IsEmpty self.new.folders) }
         // Once one has failed, no later one is believed.
-        ensures failed { self.old.syncs ≡ Syncs.Kept → IfSome self.old.failed (λ obstacle. result ≡ Err (Device obstacle)) }
+        ensures failed { self.old.syncs ≡ Syncs.Kept
+            → IfSome self.old.failed (λ obstacle. result ≡ Err (Device obstacle)) }
         ensures fails { (obstacle : Obstacle) → result ≡ Err (Device obstacle) → self.new.failed ≡ Some obstacle }
     {
         if self.syncs == Syncs::LeftOut {

@@ -82,7 +82,8 @@ pub trait System {
     /// anything has the name.
     fn make(&mut self, folder: &OpenFolder, name: &str, mode: Option<u32>) -> io::Result<Aside>
         ensures { MatchResult result
-            (λ aside. (place_of aside ≡ name_in folder.now name.now) × IsMade (name_in folder.now name.now) (key_of aside) (holds self.old) (holds self.new))
+            (λ aside. (place_of aside ≡ name_in folder.now name.now)
+            × IsMade (name_in folder.now name.now) (key_of aside) (holds self.old) (holds self.new))
             (λ _. IsAlikeBut (name_in folder.now name.now) (holds self.old) (holds self.new)) };
 
     /// Writes these bytes to the end of the file. Where that fails, any may be written.

@@ -157,7 +157,8 @@ fn preview_in<S: Store + Drop>(
     session: &mut Session<S>,
     request: &Request,
 ) -> Result<PathOutcomes, Refusal>
-    ensures right { S.honest (store_of session.new) → (held : State) → StandsOn S.files session.old held → TellsNoFault result → PreviewsRequest request.now held result }
+    ensures right { S.honest (store_of session.new) → (held : State) → StandsOn S.files session.old held
+        → TellsNoFault result → PreviewsRequest request.now held result }
     ensures reads_with_cause { ReadsOnlyWithCause S.Store result session.old session.new }
 {
     match request {

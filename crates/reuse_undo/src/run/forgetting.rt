@@ -22,7 +22,8 @@ pub fn run_forget<S: Store + Drop, O: Sink>(
     steps: &Steps,
     out: &mut O,
 ) -> (S, Result<usize, Fault>)
-    ensures { S.honest result.0 → ForgetsOn steps.now (S.files store) (S.files result.0) (O.contents out.old) (O.contents out.new) result.1 }
+    ensures { S.honest result.0
+        → ForgetsOn steps.now (S.files store) (S.files result.0) (O.contents out.old) (O.contents out.new) result.1 }
 {
     let (store, answer) = forget_on(alloc, store, steps);
     match answer {
@@ -38,7 +39,8 @@ fn forget_on<S: Store + Drop>(
     steps: &Steps,
 ) -> (S, Result<EntryNumbers, Refusal>)
     ensures forgotten { S.honest result.0 → IfOk result.1 (HasForgotten steps.now (S.files store) (S.files result.0)) }
-    ensures refused { S.honest result.0 → IfErr result.1 (RefusesToForget steps.now (S.files store) (S.files result.0)) }
+    ensures refused { S.honest result.0
+        → IfErr result.1 (RefusesToForget steps.now (S.files store) (S.files result.0)) }
 {
     match Session::open(alloc, store) {
         Ok(opened) => {
@@ -57,7 +59,8 @@ fn forget_steps<S: Store + Drop>(
     steps: &Steps,
 ) -> Result<EntryNumbers, Refusal>
     ensures forgets { S.honest (store_of session.new) → (held : State) → StandsOn S.files session.old held
-        → IfOk result (λ forgotten. (left : State) × StandsOn S.files session.new left × Forgets (asked_numbers steps.now held.journal) held (Ok forgotten) left) }
+        → IfOk result (λ forgotten. (left : State) × StandsOn S.files session.new left
+        × Forgets (asked_numbers steps.now held.journal) held (Ok forgotten) left) }
     ensures refused { S.honest (store_of session.new) → (held : State) → StandsOn S.files session.old held
         → IfErr result (λ refusal. RefusesFrom steps.now held (S.files (store_of session.old)) refusal (S.files (store_of session.new))) }
     ensures was_honest { S.honest (store_of session.new) → S.honest (store_of session.old) }

@@ -58,12 +58,15 @@ fn call<S: Store + Drop>(
     telling: Telling,
 ) -> (S, Answer, Result<Vec<u8>, Fault>, Counts)
     ensures carries { S.honest result.0 → RequestLeaves (S.files store) request.now result.1 (S.files result.0) }
-    ensures reads_only { S.honest result.0 → IsReading request.now → (held : State) → IsStanding (S.files store) held → OnlyReads S.Store store result.0 }
+    ensures reads_only { S.honest result.0 → IsReading request.now → (held : State) → IsStanding (S.files store) held
+        → OnlyReads S.Store store result.0 }
     ensures fault { IfErr result.1 (HasCause (S.failures store < S.failures result.0)) }
-    ensures clash { S.honest result.0 → (held : State) → IsStanding (S.files store) held → IfErr result.1 (HasCallClash request.now held (S.files store)) }
+    ensures clash { S.honest result.0 → (held : State) → IsStanding (S.files store) held
+        → IfErr result.1 (HasCallClash request.now held (S.files store)) }
     ensures diff { IfOk result.1 (λ told. IsDiffOf telling told result.2) }
     ensures drawn { S.honest result.0 → (held : State) → IsStanding (S.files store) held
-        → IfOk result.1 (λ told. IsDrawnPreview telling told → IfOk result.2 (λ text. IsDiffOfCall request.now held text.items)) }
+        → IfOk result.1 (λ told. IsDrawnPreview telling told
+        → IfOk result.2 (λ text. IsDiffOfCall request.now held text.items)) }
     ensures undrawn { IfNoDiff result.2 (IsUndrawn S.Store store result.0) }
     ensures failures { S.failures store ≤ S.failures result.0 }
     ensures was_honest { S.honest result.0 → S.honest store }
@@ -95,7 +98,8 @@ fn ask_for<S: Store + Drop>(
 ) -> (Answer, Option<PlannedChanges>)
     ensures answered { IsAnswered S.Store request.now result.0 session.old session.new }
     ensures wanted { IfSome result.1 (λ planned. (format ≡ OutputFormat.Diff) × IsAccepted result.0) }
-    ensures previews { format ≡ OutputFormat.Diff → LeadsAsPreviewedAccepted S.Store request.now result.0 result.1 session.old session.new }
+    ensures previews { format ≡ OutputFormat.Diff
+        → LeadsAsPreviewedAccepted S.Store request.now result.0 result.1 session.old session.new }
 {
     match format {
         OutputFormat::Diff => ask_with_changes(alloc, session, request),
@@ -109,7 +113,8 @@ fn draw_planned<S: Store + Drop>(
     store: S,
     planned: Option<PlannedChanges>,
 ) -> (S, Result<Vec<u8>, Fault>)
-    ensures drawn { S.honest result.0 → (before : Files) → (after : Files) → tree_of (S.files store) ≡ before → IsSomeAnd planned (λ planned. LeadsAsPreviewed planned before after)
+    ensures drawn { S.honest result.0 → (before : Files) → (after : Files) → tree_of (S.files store) ≡ before
+        → IsSomeAnd planned (λ planned. LeadsAsPreviewed planned before after)
         → IfOk result.1 (λ text. IsTreeDiff before after text.items) }
     ensures none { planned ≡ None → IsNoDiff result.1 }
     ensures reads { OnlyReads S.Store store result.0 }
@@ -126,7 +131,8 @@ fn draw_from<S: Store + Drop>(
     store: S,
     planned: &PlannedChanges,
 ) -> (S, Result<Vec<u8>, Fault>)
-    ensures drawn { S.honest result.0 → (before : Files) → (after : Files) → tree_of (S.files store) ≡ before → LeadsAsPreviewed planned.now before after
+    ensures drawn { S.honest result.0 → (before : Files) → (after : Files) → tree_of (S.files store) ≡ before
+        → LeadsAsPreviewed planned.now before after
         → IfOk result.1 (λ text. IsTreeDiff before after text.items) }
     ensures reads { OnlyReads S.Store store result.0 }
     ensures diff { IfErr result.1 (IsOfDiff S.Store store result.0) }

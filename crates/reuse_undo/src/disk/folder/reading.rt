@@ -31,7 +31,8 @@ impl<R: Files<File = File> + AllocGlobal + Clone + Drop> RootFolder<R> {
         ensures within { IfOk result (IsWithin limit) }
         ensures kept_out { IsTrue (is_kept_out path.now) → IfOk result (λ reading. reading ≡ Reading.Absent) }
         ensures kept { ⟦<HostSystem<R> as System>⟧.holds self.new.system ≡ ⟦<HostSystem<R> as System>⟧.holds self.old.system }
-        ensures earlier { ⟦<HostSystem<R> as System>⟧.honest self.new.system → ⟦<HostSystem<R> as System>⟧.honest self.old.system }
+        ensures earlier { ⟦<HostSystem<R> as System>⟧.honest self.new.system
+            → ⟦<HostSystem<R> as System>⟧.honest self.old.system }
         // Of a file that is remembered the bytes aren't read again.
         ensures read { ⟦<HostSystem<R> as System>⟧.honest self.new.system → self.old.remembered.files.items ≡ []
             → IfOk result (IsReadIn path.now limit (⟦<HostSystem<R> as System>⟧.holds self.new.system)) }
@@ -82,7 +83,8 @@ impl<R: Files<File = File> + AllocGlobal + Clone + Drop> RootFolder<R> {
     ) -> Result<Reading, FolderFault>
         ensures within { IfOk result (IsWithin limit) }
         ensures kept { ⟦<HostSystem<R> as System>⟧.holds self.new.system ≡ ⟦<HostSystem<R> as System>⟧.holds self.old.system }
-        ensures earlier { ⟦<HostSystem<R> as System>⟧.honest self.new.system → ⟦<HostSystem<R> as System>⟧.honest self.old.system }
+        ensures earlier { ⟦<HostSystem<R> as System>⟧.honest self.new.system
+            → ⟦<HostSystem<R> as System>⟧.honest self.old.system }
         ensures read { ⟦<HostSystem<R> as System>⟧.honest self.new.system
             → IsPlaceIn (current_of self.old.trail) path.now (⟦<HostSystem<R> as System>⟧.holds self.old.system) (Place.File status)
             → IfOk result (IsReadIn path.now limit (⟦<HostSystem<R> as System>⟧.holds self.new.system)) }
@@ -111,7 +113,8 @@ impl<R: Files<File = File> + AllocGlobal + Clone + Drop> RootFolder<R> {
     ) -> Result<Option<Reading>, FolderFault>
         ensures within { IfOk result (λ read. IfSome read (IsWithin limit)) }
         ensures kept { ⟦<HostSystem<R> as System>⟧.holds self.new.system ≡ ⟦<HostSystem<R> as System>⟧.holds self.old.system }
-        ensures earlier { ⟦<HostSystem<R> as System>⟧.honest self.new.system → ⟦<HostSystem<R> as System>⟧.honest self.old.system }
+        ensures earlier { ⟦<HostSystem<R> as System>⟧.honest self.new.system
+            → ⟦<HostSystem<R> as System>⟧.honest self.old.system }
         ensures read { ⟦<HostSystem<R> as System>⟧.honest self.new.system
             → IsPlaceIn (current_of self.old.trail) path.now (⟦<HostSystem<R> as System>⟧.holds self.old.system) (Place.File status)
             → IfOk result (λ read. IfSome read (IsReadIn path.now limit (⟦<HostSystem<R> as System>⟧.holds self.new.system))) }

@@ -28,7 +28,8 @@ pub fn draw<S: Store>(
     store: &mut S,
     planned: &PlannedChanges,
 ) -> Result<Vec<u8>, Fault>
-    ensures drawn { S.honest store.new → (before : Files) → (after : Files) → tree_of (S.files store.old) ≡ before → WouldLead planned.now before after
+    ensures drawn { S.honest store.new → (before : Files) → (after : Files) → tree_of (S.files store.old) ≡ before
+        → WouldLead planned.now before after
         → IfOk result (λ text. AreDiffs before after planned.now.changes text.items) }
     ensures reads { OnlyReads S.Store store.old store.new }
     ensures fault { IfErr result (IsOfDiff S.Store store.old store.new) }
@@ -43,7 +44,8 @@ fn draw_all<S: Store>(
     changes: &[Change],
     direction: Direction,
 ) -> Result<Vec<u8>, Fault>
-    ensures drawn { S.honest store.new → (before : Files) → (after : Files) → tree_of (S.files store.old) ≡ before → AreSmallSteps direction changes.now before after
+    ensures drawn { S.honest store.new → (before : Files) → (after : Files) → tree_of (S.files store.old) ≡ before
+        → AreSmallSteps direction changes.now before after
         → IfOk result (λ text. AreDiffs before after changes.now text.items) }
     ensures reads { OnlyReads S.Store store.old store.new }
     ensures fault { IfErr result (IsOfDiff S.Store store.old store.new) }
@@ -62,7 +64,8 @@ fn draw_one<S: Store>(
     change: &Change,
     direction: Direction,
 ) -> Result<(), Fault>
-    ensures drawn { S.honest store.new → (before : Files) → (after : Files) → tree_of (S.files store.old) ≡ before → IsSmall change.now
+    ensures drawn { S.honest store.new → (before : Files) → (after : Files) → tree_of (S.files store.old) ≡ before
+        → IsSmall change.now
         → AppliesBy direction change.now (get before (path_of change.now)) (get after (path_of change.now))
         → OnOk result (AppendsSome (Some text.old.items) (Some text.new.items) (IsPathDiff before after (path_of change.now))) }
     ensures reads { OnlyReads S.Store store.old store.new }
@@ -95,7 +98,8 @@ fn draw_range<S: Store>(
     range: Turn<'_>,
     at: usize,
 ) -> Result<(), Fault>
-    ensures drawn { S.honest store.new → (file : List ℕ) → get (tree_of (S.files store.old)) range.entry.path.now ≡ Some file
+    ensures drawn { S.honest store.new → (file : List ℕ)
+        → get (tree_of (S.files store.old)) range.entry.path.now ≡ Some file
         → IsRangeWithin file at (unwrap_or (option_copied range.entry.before) []) (unwrap_or (option_copied range.entry.after) [])
         → OnOk result (AppendsSome (Some text.old.items) (Some text.new.items)
         (IsDiff range.entry.path.now (Some file) (Some (spliced file at (length (unwrap_or (option_copied range.entry.before) [])) (unwrap_or (option_copied range.entry.after) []))))) }

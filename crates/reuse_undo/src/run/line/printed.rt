@@ -67,8 +67,10 @@ fn print<O: Sink>(
 
 // What is told of an answer. No part of it is written before it is whole.
 fn text_of(alloc: Global, told: &Response, telling: Telling, diff: &[u8]) -> Result<Vec<u8>, Fault>
-    ensures text { (telling.format ≡ OutputFormat.Diff → IsDiffBehind told.now diff.now) → IfOk result (λ text. IsToldText telling told.now text.items) }
-    ensures behind { telling.format ≡ OutputFormat.Diff → IfOk result (λ text. HasBehind telling.names told.now diff.now text.items) }
+    ensures text { (telling.format ≡ OutputFormat.Diff → IsDiffBehind told.now diff.now)
+        → IfOk result (λ text. IsToldText telling told.now text.items) }
+    ensures behind { telling.format ≡ OutputFormat.Diff
+        → IfOk result (λ text. HasBehind telling.names told.now diff.now text.items) }
     ensures fault { IfErr result (λ fault. fault ≡ faults.Memory) }
 {
     let mut text = Vec::new(alloc);
@@ -116,7 +118,8 @@ fn print_told<W: Write>(
     telling: Telling,
     diff: &[u8],
 ) -> io::Result<()>
-    ensures text { (telling.format ≡ OutputFormat.Diff → IsDiffBehind told.now diff.now) → OnOk result (AppendsSome (W.contents out.old) (W.contents out.new) (IsToldText telling told.now)) }
+    ensures text { (telling.format ≡ OutputFormat.Diff → IsDiffBehind told.now diff.now)
+        → OnOk result (AppendsSome (W.contents out.old) (W.contents out.new) (IsToldText telling told.now)) }
     ensures behind { telling.format ≡ OutputFormat.Diff → OnOk result (AppendsSome (W.contents out.old) (W.contents out.new) (HasBehind telling.names told.now diff.now)) }
 {
     match telling.format {
