@@ -2,7 +2,7 @@ use Rattle.std.proofs.Common.{subst}
 use Rattle.std.specs.Option.{option_copied}
 use Rattle.reuse_tree.proofs.Applying.{not_both}
 use Rattle.reuse_tree.specs.Entry.{IsReady}
-use Rattle.reuse_tree.proofs.turn.is_ready.Goals as goal
+use Rattle.reuse_tree.proofs.apply_change.is_ready.Goals as goal
 
 pub returns-in-Backward-clause-stuck : goal.returns-in-Backward-clause-stuck
 returns-in-Backward-clause-stuck c proper ready =

@@ -6,7 +6,7 @@ use Rattle.reuse_tree.specs.Apply.{held_in}
 use Rattle.reuse_tree.specs.Tree.{is_of_tree, Sets}
 use Rattle.reuse_tree.proofs.Lasting.{may_set_by_put, may_set_by_removal, set_weaker}
 use Rattle.reuse_tree.proofs.ApplyLemmas.{counts_none, put_sets, removal_sets, put_doubt, removal_doubt, sets_as}
-use Rattle.reuse_tree.proofs.turn.put_applied.Goals as goal
+use Rattle.reuse_tree.proofs.apply_change.put_applied.Goals as goal
 
 pub returns-in_err-put_parts-in-Some-clause-err : goal.returns-in_err-put_parts-in-Some-clause-err
 returns-in_err-put_parts-in-Some-clause-err g c honest =

@@ -10,9 +10,9 @@ use Rattle.reuse_tree.proofs.Lasting.{set_weaker}
 use Rattle.reuse_text.specs.declared.TheConstants.{LONGEST_FILE}
 use Rattle.reuse_tree.specs.Apply.{IsChangeRolledBack}
 use Rattle.reuse_tree.proofs.ReadingLemmas.{read_first, too_long}
-use Rattle.reuse_tree.proofs.turn.roll_back_change.Given.{Over}
-use Rattle.reuse_tree.proofs.turn.roll_back_change.Goals.{After-roll_back_change_from}
-use Rattle.reuse_tree.proofs.turn.roll_back_change.Goals as goal
+use Rattle.reuse_tree.proofs.apply_change.roll_back_change.Given.{Over}
+use Rattle.reuse_tree.proofs.apply_change.roll_back_change.Goals.{After-roll_back_change_from}
+use Rattle.reuse_tree.proofs.apply_change.roll_back_change.Goals as goal
 
 -- what the path of the change held
 held : (g : Over) (c : After-roll_back_change_from g) → g.S.Store.honest c.read.new.self → get (g.S.Store.files c.args.store.now) (path_of c.args.change.now) ≡ option_copied c.in-Some.file

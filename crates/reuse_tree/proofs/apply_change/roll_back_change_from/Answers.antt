@@ -9,9 +9,9 @@ use Rattle.reuse_tree.specs.Apply.{held_in}
 use Rattle.reuse_tree.proofs.NotedMutations.{notes_last}
 use Rattle.reuse_tree.proofs.Lasting.{set_weaker}
 use Rattle.reuse_tree.proofs.ApplyLemmas.{step_by, makes_where_clash}
-use Rattle.reuse_tree.proofs.turn.roll_back_change_from.Given.{Over}
-use Rattle.reuse_tree.proofs.turn.roll_back_change_from.Goals.{After-put_applied}
-use Rattle.reuse_tree.proofs.turn.roll_back_change_from.Goals as goal
+use Rattle.reuse_tree.proofs.apply_change.roll_back_change_from.Given.{Over}
+use Rattle.reuse_tree.proofs.apply_change.roll_back_change_from.Goals.{After-put_applied}
+use Rattle.reuse_tree.proofs.apply_change.roll_back_change_from.Goals as goal
 
 -- what is put takes the change back
 applies : (g : Over) (c : After-put_applied g) → get (g.S.Store.files c.args.store.now) (path_of c.args.change.now) ≡ option_copied c.args.file
