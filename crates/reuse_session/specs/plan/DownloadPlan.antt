@@ -1,5 +1,5 @@
 -- The changes of a download.
-use Rattle.std.specs.Prelude.{ℕ, List, [], unwrap_or}
+use Rattle.std.specs.Prelude.{◌≤◌, ℕ, List, [], length, IsSome, unwrap_or}
 use Rattle.reuse_tree.specs.declared.change.Change.{Change}
 use Rattle.reuse_tree.specs.Change.{sealed_make}
 use Rattle.reuse_session.specs.plan.Licence.{licence_id}
@@ -9,3 +9,7 @@ use Rattle.reuse_session.specs.declared.plan.licence.LicenceText.{LicenceText}
 -- the text of the licence that stands at a path is made a file
 abbrev pub made_at : List LicenceText → List ℕ → Change
 made_at texts path = sealed_make path (unwrap_or (text_for texts (licence_id path)) [])
+
+-- a text was found for the licence whose text stands at the path
+abbrev pub HasText : List LicenceText → List ℕ → Type 0
+HasText texts path = (13 ≤ length path) × IsSome (text_for texts (licence_id path))

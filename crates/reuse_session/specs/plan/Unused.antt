@@ -1,6 +1,6 @@
 -- What of a command's choice of the files beneath folders came to nothing: globs that left nothing out, and listed
 -- paths that are no covered file beneath a place.
-use Rattle.std.specs.Prelude.{◌≡◌, ℕ, Bool, true, false, not, ◌&&◌, ◌||◌, List, [], filter, length, map, Option, Some, None, Result, Ok, Err}
+use Rattle.std.specs.Prelude.{◌≡◌, ℕ, Bool, true, false, not, ◌&&◌, List, [], filter, length, map, Option, Some, None, Result, Ok, Err}
 use Rattle.std.specs.List.{list_any}
 use Rattle.reuse_dep5.specs.declared.glob.GlobPiece.{GlobPiece}
 use Rattle.reuse_notice.specs.Sets.{set_of}

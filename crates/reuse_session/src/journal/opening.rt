@@ -1,9 +1,9 @@
 //! Opens the journal of a store: reads the head and each entry that it names, and rolls back what
 //! is pending.
-ghost use Rattle.std.specs.Prelude.{◌≡◌, ◌≢◌, ◌⊎◌, ◌<◌, ◌≤◌, ◌+◌, ℕ, List, IfOk, IfErr, OnOk, IsSome, Some, None, length, codes, MatchResult};
+ghost use Rattle.std.specs.Prelude.{◌≡◌, ◌≢◌, ◌⊎◌, ◌<◌, ◌≤◌, ◌+◌, ℕ, List, IfOk, IfErr, OnOk, IsSome, IsTrue, Some, None, length, codes, MatchResult};
 ghost use Rattle.std.specs.FinMap as map;
 ghost use Rattle.std.specs.List.{All, AllZip};
-ghost use Rattle.reuse_tree.specs.Path.{journal_folder};
+ghost use Rattle.reuse_tree.specs.Path.{is_path, journal_folder};
 ghost use Rattle.reuse_session.specs.session.Answer.{HasCause, IsEarly, IsNoClash, IsFailure, IsReadRefusal, IsOpenRefusal, RefusedAsRead};
 ghost use Rattle.reuse_tree.specs.Head.{listed, IsSoundHead};
 ghost use Rattle.reuse_tree.specs.declared.journal.head.Head.{Head};
@@ -184,6 +184,7 @@ fn test_folders<S: Store>(alloc: Global, store: &mut S) -> Result<(), Refusal>
 
 // No file has the path.
 fn test_folder<S: Store>(alloc: Global, store: &mut S, text: &str) -> Result<(), Refusal>
+    requires { IsTrue (is_path text.now) }
     ensures ok { S.honest store.new → OnOk result (map.get (S.files store.old) text.now ≡ None) }
     ensures bad { S.honest store.new → (path : List ℕ) → result ≡ Err (Refusal.BadJournal path)
         → (path ≡ text.now) × IsSome (map.get (S.files store.old) path) }

@@ -1,13 +1,11 @@
 //! Plans a conversion: a `REUSE.toml` in the place of `.reuse/dep5`.
-ghost use Rattle.std.specs.Prelude.{◌≡◌, ◌<◌, ◌≤◌, IfOk, IfErr, Ok, Some, false, length, [], ◌∷◌};
+ghost use Rattle.std.specs.Prelude.{◌≡◌, ◌<◌, ◌≤◌, IfOk, IfErr, Some, length, [], ◌∷◌};
 ghost use Rattle.reuse_session.specs.session.Reading.{get, reading_of, tree_of, Files, IsOfPlan, OnlyReads, ReadsAlone};
 ghost use Rattle.reuse_session.specs.plan.Shown.{Shows};
 ghost use Rattle.reuse_tree.specs.Asked.{FailsAsRead};
 ghost use Rattle.reuse_tree.specs.Change.{sealed_drop, sealed_make};
 ghost use Rattle.reuse_session.specs.plan.Refused.{IsNoFault, dep5_refusal};
-ghost use Rattle.reuse_tree.specs.Listing.{is_among};
 ghost use Rattle.reuse_session.specs.plan.Conversion.{dep5_path, toml_path, conversion_edits};
-ghost use Rattle.reuse_dep5.specs.Conversion.{converted};
 ghost use Rattle.reuse_session.specs.plan.Plan.{AnswersEdits};
 
 use crate::failure::Failure;
@@ -85,32 +83,16 @@ fn replacement(
     if is_among(paths, toml.as_bytes()) {
         return Err(Refusal::Exists(toml));
     }
-    let converted = convert_dep5(alloc, bytes.as_slice());
-    match converted {
-        Ok(text) => changes_to(alloc, paths, dep5, bytes, toml, Bytes::from_vec(text)),
+    match convert_dep5(alloc, bytes.as_slice()) {
+        Ok(text) => {
+            if is_clash(alloc, paths, &toml)? {
+                return Err(Refusal::Clash(toml));
+            }
+            let text = Bytes::from_vec(text);
+            Ok(both_changes(alloc, dep5, bytes, toml, text)?)
+        }
         Err(refusal) => Err(of_dep5(refusal)),
     }
-}
-
-// The changes that put this text in the place of the dep5.
-fn changes_to(
-    alloc: Global,
-    paths: &[PathText],
-    dep5: PathText,
-    old: Bytes,
-    toml: PathText,
-    new: Bytes,
-) -> Result<Vec<Change>, Refusal>
-    ensures edits { (tree : Files) → Shows paths.now tree toml_path → dep5 ≡ dep5_path → toml ≡ toml_path
-        → get tree dep5_path ≡ Some old → length old ≤ LONGEST_FILE
-        → is_among paths.now toml_path ≡ false → converted old ≡ Ok new → length new ≤ LONGEST_FILE
-        → AnswersEdits tree (conversion_edits tree) result }
-    ensures no_fault { IfErr result IsNoFault }
-{
-    if is_clash(alloc, paths, &toml)? {
-        return Err(Refusal::Clash(toml));
-    }
-    Ok(both_changes(alloc, dep5, old, toml, new)?)
 }
 
 // A refusal of the dep5 as one of the command.

@@ -1,5 +1,5 @@
 //! Which files annotate treats, by their paths.
-ghost use Rattle.std.specs.Prelude.{◌≡◌, slice_index};
+ghost use Rattle.std.specs.Prelude.{◌≡◌};
 ghost use Rattle.reuse_session.specs.plan.Covered.{is_in, is_outside, has_stem, is_outer_name, is_covered};
 
 use reuse_text::last_part;
@@ -12,18 +12,11 @@ pub(crate) fn is_covered(path: &[u8]) -> bool
     !is_outside(path) && !is_outer_name(last_part(path))
 }
 
-// The byte at a place, or 0 past the end.
-fn byte_at(bytes: &[u8], at: usize) -> u8
-    ensures { result ≡ slice_index bytes.now at }
-{
-    if at < bytes.len() { bytes[at] } else { 0 }
-}
-
 // Whether the path is the folder's, or goes on by a slash.
 fn is_in(folder: &[u8], path: &[u8]) -> bool
     ensures { result ≡ is_in folder.now path.now }
 {
-    path.starts_with(folder) && (path.len() == folder.len() || byte_at(path, folder.len()) == b'/')
+    path.starts_with(folder) && (path.len() == folder.len() || path[folder.len()] == b'/')
 }
 
 fn is_outside(path: &[u8]) -> bool
@@ -37,9 +30,7 @@ fn has_stem(stem: &[u8], name: &[u8]) -> bool
     ensures { result ≡ has_stem stem.now name.now }
 {
     name.starts_with(stem)
-        && (name.len() == stem.len()
-            || byte_at(name, stem.len()) == b'.'
-            || byte_at(name, stem.len()) == b'-')
+        && (name.len() == stem.len() || name[stem.len()] == b'.' || name[stem.len()] == b'-')
 }
 
 fn is_outer_name(name: &[u8]) -> bool

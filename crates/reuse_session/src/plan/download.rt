@@ -1,9 +1,10 @@
 //! Plans a download: a file for each licence's text.
-ghost use Rattle.std.specs.Prelude.{◌≡◌, ◌<◌, IfOk, IfErr, map, None, unwrap_or, []};
+ghost use Rattle.std.specs.Prelude.{◌≡◌, ◌<◌, IfOk, IfErr, IsSome, map, None, []};
+ghost use Rattle.std.specs.List.{AllByRecursion};
 ghost use Rattle.std.specs.Option.{option_copied};
 ghost use Rattle.reuse_notice.specs.Sets.{set_of};
-ghost use Rattle.reuse_session.specs.plan.DownloadPlan.{made_at};
-ghost use Rattle.reuse_session.specs.plan.Downloads.{text_for, refusal_of_found, id_refusal, id_refusals, downloads_at};
+ghost use Rattle.reuse_session.specs.plan.DownloadPlan.{made_at, HasText};
+ghost use Rattle.reuse_session.specs.plan.Downloads.{refusal_of_found, id_refusal, id_refusals, downloads_at};
 ghost use Rattle.reuse_session.specs.plan.Licence.{licence_path};
 ghost use Rattle.reuse_session.specs.plan.PathEdits.{edits_in};
 ghost use Rattle.reuse_session.specs.plan.PathPlans.{AnswersPlans, ArePlansOf, EndsWalk};
@@ -93,6 +94,7 @@ fn find_ids(
     texts: &[LicenceText],
     policy: Policy,
 ) -> Result<FoundIds, Refusal>
+    ensures texts { IfOk result (λ found. AllByRecursion (HasText texts.now) found.made.items) }
     ensures refused { (tree : Files) → ShowsLicences paths.now tree
         → IfOk result (λ found. ArePlansOf policy tree (id_refusals tree texts.now ids.now) found.refused.items) }
     ensures made { (tree : Files) → ShowsLicences paths.now tree → id_refusals tree texts.now ids.now ≡ []
@@ -140,6 +142,7 @@ fn made_path(
     id: &Bytes,
     texts: &[LicenceText],
 ) -> Result<PathText, Refusal>
+    ensures text { IfOk result (HasText texts.now) }
     ensures made { (tree : Files) → ShowsLicences paths.now tree
         → IfOk result (λ path. (path ≡ licence_path id.now) × (id_refusal tree texts.now id.now ≡ None)) }
     ensures refused { (tree : Files) → ShowsLicences paths.now tree
@@ -166,6 +169,7 @@ fn path_for(
     path: PathText,
     found: Option<&Bytes>,
 ) -> Result<PathText, Refusal>
+    ensures text { IfOk result (λ made. (made ≡ path) × IsSome (option_copied found.entry)) }
     ensures made { (tree : Files) → ShowsLicences paths.now tree → path ≡ licence_path id.now
         → IfOk result (λ made. (made ≡ path) × (refusal_of_found tree id.now (option_copied found.entry) ≡ None)) }
     ensures refused { (tree : Files) → ShowsLicences paths.now tree → path ≡ licence_path id.now
@@ -193,22 +197,16 @@ fn made_files(
     texts: &[LicenceText],
     paths: Vec<PathText>,
 ) -> Result<Vec<Change>, AllocError>
+    requires { AllByRecursion (HasText texts.now) paths.items }
     ensures { IfOk result (λ changes. changes.items ≡ map (made_at texts.now) paths.items) }
 {
     let mut changes = Vec::with_capacity(alloc, paths.len())?;
     for path in paths {
-        let new = copied_text(alloc, texts, licence_id(path.as_bytes()))?;
+        let Some(text) = text_for(texts, licence_id(path.as_bytes())) else {
+            unreachable!()
+        };
+        let new = text.try_clone(alloc)?;
         changes.push(Change::sealed_make(path, new))?;
     }
     Ok(changes)
-}
-
-// A copy of the text that was found for an id, or no bytes.
-fn copied_text(alloc: Global, texts: &[LicenceText], id: &[u8]) -> Result<Bytes, AllocError>
-    ensures { IfOk result (λ copy. copy ≡ unwrap_or (text_for texts.now id.now) []) }
-{
-    match text_for(texts, id) {
-        Some(text) => text.try_clone(alloc),
-        None => Ok(Bytes::new(alloc)),
-    }
 }

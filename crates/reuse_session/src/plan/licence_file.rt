@@ -1,9 +1,10 @@
 //! The files that hold the texts of licences.
-ghost use Rattle.std.specs.Prelude.{◌≡◌, IfOk};
+ghost use Rattle.std.specs.Prelude.{◌≡◌, ◌≤◌, true, length, IfOk};
 ghost use Rattle.std.specs.Option.{option_copied};
-ghost use Rattle.reuse_session.specs.plan.Licence.{licence_path, licence_id};
+ghost use Rattle.reuse_session.specs.plan.Licence.{is_id, licence_path, licence_id};
 ghost use Rattle.reuse_session.specs.plan.Downloads.{text_for};
 
+use crate::plan::known_path::known_path;
 use crate::plan::licence::LicenceText;
 use reuse_text::Bytes;
 use reuse_tree::PathText;
@@ -11,25 +12,20 @@ use std::alloc::{AllocError, Global};
 
 /// The path of the file that holds the text of a licence (REUSE Specification 3.3).
 pub(crate) fn licence_path(alloc: Global, id: &str) -> Result<PathText, AllocError>
+    requires { is_id id.now ≡ true }
     ensures { IfOk result (λ path. path ≡ licence_path id.now) }
 {
     let mut text = String::from_str(alloc, "LICENSES/")?;
     text.push_str(id)?;
     text.push_str(".txt")?;
-    match PathText::new(alloc, text.as_str()) {
-        Ok(path) => Ok(path),
-        // the path is a good one where the id is
-        Err(_) => Err(AllocError),
-    }
+    known_path(alloc, text.as_str())
 }
 
 /// The id of the licence whose text stands at the path.
 pub(crate) fn licence_id(path: &[u8]) -> &[u8]
+    requires { 13 ≤ length path.now }
     ensures { result.now ≡ licence_id path.now }
 {
-    if path.len() < 13 {
-        return &[];
-    }
     &path[9..path.len() - 4]
 }
 

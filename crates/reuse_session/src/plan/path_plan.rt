@@ -110,9 +110,5 @@ impl Policy {
 pub(crate) fn all_changes(alloc: Global, changes: Vec<Change>) -> Result<Vec<PathPlan>, AllocError>
     ensures { IfOk result (λ plans. plans.items ≡ map plan.Change changes.items) }
 {
-    let mut plans = Vec::with_capacity(alloc, changes.len())?;
-    for change in changes {
-        plans.push(PathPlan::Change(change))?;
-    }
-    Ok(plans)
+    changes.into_iter().map(PathPlan::Change).collect(alloc)
 }

@@ -68,21 +68,16 @@ pub(crate) fn changes_planned(
 ) -> Result<Vec<Change>, AllocError>
     ensures { IfOk result (λ changes. changes.items ≡ changes_planned plans.items) }
 {
-    let mut changes = Vec::new(alloc);
-    for plan in plans {
-        push_change(&mut changes, plan)?;
-    }
-    Ok(changes)
+    plans.into_iter().filter_map(change_planned).collect(alloc)
 }
 
-// Adds the change that is planned, if there is one.
-fn push_change(changes: &mut Vec<Change>, plan: PathPlan) -> Result<(), AllocError>
-    ensures { OnOk result (changes.new.items ≡ changes.old.items ++ option_to_list (change_planned plan)) }
+fn change_planned(plan: PathPlan) -> Option<Change>
+    ensures { result ≡ change_planned plan }
 {
-    if let PathPlan::Change(change) = plan {
-        changes.push(change)?;
+    match plan {
+        PathPlan::Change(change) => Some(change),
+        _ => None,
     }
-    Ok(())
 }
 
 /// How many of the plans skip their file.

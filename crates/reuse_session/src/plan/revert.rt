@@ -1,11 +1,9 @@
 //! Plans a revert: takes the changes of a step back on whatever the tree is now.
 ghost use Rattle.std.specs.Prelude.{◌≡◌, ◌≢◌, ◌↔◌, ◌&&◌, ◌+◌, ◌≤◌, ℕ, IfOk, IfErr, IsTrue, List, Ok, Err, Option, Some, None, false, true, length, map};
-ghost use Rattle.std.specs.Str.{bytes_eq};
 ghost use Rattle.reuse_tree.specs.Asked.{FailsAsRead};
 ghost use Rattle.reuse_tree.specs.Change.{path_of, IsProper};
 ghost use Rattle.reuse_tree.specs.Clash.{is_clash};
 ghost use Rattle.reuse_tree.specs.Entry.{makes, IsEntry, IsSmall};
-ghost use Rattle.reuse_tree.specs.EntryText.{HavePaths};
 ghost use Rattle.reuse_tree.specs.Tree.{is_of_tree};
 ghost use Rattle.reuse_tree.specs.declared.change.Change.TheVariants.{Make, Splice};
 ghost use Rattle.reuse_tree.specs.declared.direction.Direction.TheVariants.{Backward};
@@ -13,7 +11,7 @@ ghost use Rattle.reuse_session.specs.session.Answer.{IsTestRefusal, IsEarlyFailu
 ghost use Rattle.reuse_session.specs.plan.PathPlans.{AnswersPlan, AnswersPlans, EndsWalk};
 ghost use Rattle.reuse_session.specs.plan.Plan.{MakesEdit};
 ghost use Rattle.reuse_session.specs.session.Reading.{get, reading_of, tree_of, Files, OnlyReads, ReadsAlone};
-ghost use Rattle.reuse_session.specs.plan.Reverting.{has_digest, is_as_left, reverted_at, stands_as_written, stands_at, taken_back, taken_back_on, taken_back_unless};
+ghost use Rattle.reuse_session.specs.plan.Reverting.{has_digest, is_as_left, reverted_at, stands_as_written, stands_at, taken_back, taken_back_unless};
 ghost use Rattle.reuse_session.specs.declared.failure.Fault.{Fault};
 ghost use Rattle.reuse_session.specs.declared.failure.Failure.TheVariants as failures;
 
@@ -23,36 +21,12 @@ use crate::reply::Refusal;
 use reuse_text::{Bytes, LONGEST_FILE};
 use reuse_tree::apply_change::makes;
 use reuse_tree::{
-    Change, Digest, Direction, EntryChanges, PathText, Reading, Seal, Store, StoreFault,
-    is_clash_at,
+    Change, Digest, Direction, PathText, Reading, Seal, Store, StoreFault, is_clash_at,
 };
 use std::alloc::{AllocError, Global};
 
-/// What a revert of these changes does, where later steps touched these paths.
+/// What a revert of these changes of an entry does, where later steps touched these paths.
 pub(crate) fn plan_revert<S: Store>(
-    alloc: Global,
-    store: &mut S,
-    changes: &EntryChanges,
-    touched: &PathList,
-    skip_moved: bool,
-    policy: Policy,
-) -> Result<Vec<PathPlan>, Refusal>
-    ensures plans { S.honest store.new → AnswersPlans policy (tree_of (S.files store.old)) (map (reverted_at touched.now skip_moved (tree_of (S.files store.old))) changes.now) result }
-    ensures entry { IsEntry changes.now × HavePaths changes.now }
-    ensures asks { ReadsAlone S.Store (EndsWalk policy) store.old store.new result }
-{
-    plan_each(
-        alloc,
-        store,
-        changes.as_slice(),
-        touched,
-        skip_moved,
-        policy,
-    )
-}
-
-// What is done at the path of each of these changes of an entry.
-fn plan_each<S: Store>(
     alloc: Global,
     store: &mut S,
     changes: &[Change],
@@ -60,12 +34,13 @@ fn plan_each<S: Store>(
     skip_moved: bool,
     policy: Policy,
 ) -> Result<Vec<PathPlan>, Refusal>
-    ensures plans { S.honest store.new → IsEntry changes.now → AnswersPlans policy (tree_of (S.files store.old)) (map (reverted_at touched.now skip_moved (tree_of (S.files store.old))) changes.now) result }
+    requires { IsEntry changes.now }
+    ensures plans { S.honest store.new → AnswersPlans policy (tree_of (S.files store.old)) (map (reverted_at touched.now skip_moved (tree_of (S.files store.old))) changes.now) result }
     ensures asks { ReadsAlone S.Store (EndsWalk policy) store.old store.new result }
 {
     let mut plans = Vec::with_capacity(alloc, changes.len())?;
     for change in changes {
-        let back = match take_back_unless(alloc, store, touched, change) {
+        let back = match take_back(alloc, store, touched, change) {
             Ok(back) => back,
             Err(refusal) => return Err(refusal),
         };
@@ -101,7 +76,7 @@ fn plan_back(
 }
 
 // The change that takes a change back, if it can be taken back and no later step touched its path.
-fn take_back_unless<S: Store>(
+fn take_back<S: Store>(
     alloc: Global,
     store: &mut S,
     touched: &PathList,
@@ -115,20 +90,6 @@ fn take_back_unless<S: Store>(
     if touched.has(change.path()) {
         return Ok(None);
     }
-    take_back(alloc, store, change)
-}
-
-// The change that takes a change back, if it can be taken back.
-fn take_back<S: Store>(
-    alloc: Global,
-    store: &mut S,
-    change: &Change,
-) -> Result<Option<Change>, Refusal>
-    ensures edit { S.honest store.new → IsProper change.now → IsSmall change.now
-        → is_of_tree (path_of change.now) ≡ true
-        → IfOk result (MakesEdit (tree_of (S.files store.old)) (Ok (taken_back_on (tree_of (S.files store.old)) change.now))) }
-    ensures asks { ReadsAlone S.Store IsEarlyFailure store.old store.new result }
-{
     if makes_at_clash(alloc, store, change)? {
         return Ok(None);
     }
@@ -203,7 +164,7 @@ fn drop_made(
     ensures { (tree : Files) (after : Option (List ℕ)) → get tree path.now ≡ Some file → length new.now ≤ LONGEST_FILE
         → IfOk result (MakesEdit tree (Ok (taken_back (Make path.now new.now after) (Some file)))) }
 {
-    if !is_same(file.as_slice(), new.as_slice()) {
+    if file.as_slice() != new.as_slice() {
         return Ok(None);
     }
     Ok(Some(Change::sealed_drop(path.try_clone(alloc)?, file)))
@@ -259,12 +220,6 @@ fn put_back(
         new.try_clone(alloc)?,
         old.try_clone(alloc)?,
     )))
-}
-
-fn is_same(file: &[u8], other: &[u8]) -> bool
-    ensures { result ≡ bytes_eq file.now other.now }
-{
-    file == other
 }
 
 // Whether the new bytes stand in the file at the place, as a step wrote them.

@@ -7,12 +7,12 @@ ghost use Rattle.reuse_session.specs.session.Answer.{IsEarlyFailure};
 ghost use Rattle.reuse_session.specs.session.Reading.{tree_of, OnlyReads, ReadsAlone};
 ghost use Rattle.reuse_session.specs.plan.Shown.{folders_for, ShowsEach, ShowsPlace};
 ghost use Rattle.reuse_session.specs.plan.Choice.{is_chosen, is_listed, is_passed_over};
-ghost use Rattle.reuse_session.specs.plan.Unused.{found_paths, AreUnused, AreUnusedAt};
+ghost use Rattle.reuse_session.specs.plan.Unused.{AreUnusedAt};
 ghost use Rattle.reuse_session.specs.plan.Selected.{expanded, selected_paths};
 ghost use Rattle.reuse_session.specs.declared.command.Place.TheVariants as place;
 ghost use Rattle.std.specs.Option.{option_to_list};
 ghost use Rattle.reuse_notice.specs.Sets.{set_of};
-ghost use Rattle.reuse_session.specs.session.Command.{is_root, has_root, path_in, paths_among};
+ghost use Rattle.reuse_session.specs.session.Command.{has_root, path_in, paths_among};
 ghost use Rattle.reuse_session.specs.declared.failure.Failure.TheVariants as failures;
 
 use crate::command::{Place, Scope};
@@ -35,16 +35,7 @@ pub(crate) fn gives_root(places: &[Place], scope: &Scope) -> bool
 pub(crate) fn has_root(places: &[Place]) -> bool
     ensures { result ≡ has_root places.now }
 {
-    places.iter().any(|place| is_root(place))
-}
-
-fn is_root(place: &Place) -> bool
-    ensures { result ≡ is_root place.now }
-{
-    match place {
-        Place::Root => true,
-        Place::Path(_) => false,
-    }
+    places.iter().any(|place| matches!(place, Place::Root))
 }
 
 /// What is known of paths and their neighbours before one is looked at.
@@ -81,31 +72,14 @@ pub(crate) fn find_selected<S: Store>(
         → OnOk result (AreUnusedAt scope.now places.now (tree_of (S.files store.old)) unused.new) }
     ensures asks { ReadsAlone S.Store IsEarlyFailure store.old store.new result }
 {
+    let given = sorted(paths_among(alloc, places)?);
     if !scope.recursive {
         *unused = Unused::none(alloc);
         return Ok(Selected {
-            paths: given_paths(alloc, places)?,
+            paths: given,
             listing: Listing::Alone,
         });
     }
-    find_beneath(alloc, store, places, scope, unused)
-}
-
-// Where folders are gone through.
-fn find_beneath<S: Store>(
-    alloc: Global,
-    store: &mut S,
-    places: &[Place],
-    scope: &Scope,
-    unused: &mut Unused,
-) -> Result<Selected, Refusal>
-    ensures paths { S.honest store.new → IfOk result (λ selected. selected.paths.items ≡ set_of (flat_map (expanded scope.now (tree_of (S.files store.old))) places.now)) }
-    ensures shown { S.honest store.new
-        → IfOk result (λ selected. ShowsEach selected.listing (tree_of (S.files store.old)) selected.paths.items) }
-    ensures unused { S.honest store.new → OnOk result (AreUnused scope.now (set_of (flat_map (expanded scope.now (tree_of (S.files store.old))) places.now)) (found_paths scope.now places.now (tree_of (S.files store.old))) unused.new) }
-    ensures asks { ReadsAlone S.Store IsEarlyFailure store.old store.new result }
-{
-    let given = given_paths(alloc, places)?;
     let listed = list_selected(alloc, store, places, &given, scope)?;
     let paths = sorted(expanded(alloc, store, &listed, places, scope)?);
     *unused = Unused::of(alloc, scope, &paths, &listed)?;
@@ -128,7 +102,7 @@ fn list_selected<S: Store>(
     ensures asks { ReadsAlone S.Store IsEarlyFailure store.old store.new result }
 {
     let folders = folders_for(alloc, places, given)?;
-    let unselected = Unselected::new(scope, given);
+    let unselected = Unselected { scope, given };
     Ok(tree_paths(alloc, store, &folders, &unselected)?)
 }
 
@@ -145,13 +119,6 @@ fn folders_for(
         return Ok(Vec::new(alloc));
     }
     with_neighbours(alloc, given)
-}
-
-// The paths among the places, in byte order and without repeats.
-fn given_paths(alloc: Global, places: &[Place]) -> Result<Vec<PathText>, AllocError>
-    ensures { IfOk result (λ given. given.items ≡ set_of (paths_among places.now)) }
-{
-    Ok(sorted(paths_among(alloc, places)?))
 }
 
 /// The set of the paths, in byte order.

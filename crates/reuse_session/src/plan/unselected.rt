@@ -10,18 +10,8 @@ use reuse_tree::{PathText, Pruning};
 /// The folders beneath which no file is asked for, and no path lies that is given.
 #[derive(Clone, Copy)]
 pub(crate) struct Unselected<'a> {
-    scope: &'a Scope,
-    given: &'a [PathText],
-}
-
-impl<'a> Unselected<'a> {
-    /// Those of this scope beside these paths.
-    pub(crate) fn new(scope: &'a Scope, given: &'a [PathText]) -> Unselected<'a>
-        ensures scope { result.scope.now ≡ scope.now }
-        ensures given { result.given.now ≡ given.now }
-    {
-        Unselected { scope, given }
-    }
+    pub(crate) scope: &'a Scope,
+    pub(crate) given: &'a [PathText],
 }
 
 impl Pruning for Unselected<'_> {

@@ -83,7 +83,14 @@ pub(crate) fn plan_command<S: Store>(
             changes,
             touched,
             skip_moved,
-        } => plan_revert(alloc, store, changes, touched, *skip_moved, policy),
+        } => plan_revert(
+            alloc,
+            store,
+            changes.as_slice(),
+            touched,
+            *skip_moved,
+            policy,
+        ),
     }
 }
 

@@ -1,9 +1,7 @@
 use Rattle.reuse_session.specs.declared.command.Command.TheVariants.{Annotate}
-use Rattle.reuse_session.proofs.lemmas.plan.AcceptedTrees.{annotation_accepted}
-use Rattle.reuse_session.proofs.lemmas.plan.AnnotatedTexts.{stays_or_text}
-use Rattle.reuse_session.proofs.lemmas.plan.AnnotatedTrees.{annotates}
+use Rattle.reuse_session.proofs.lemmas.plan.AnnotationPathOutcomes.{annotation_accepted, annotates}
+use Rattle.reuse_session.proofs.lemmas.plan.OneAnnotation.{stays_or_text, one_tree}
 use Rattle.reuse_session.proofs.lemmas.session.LeftByRuns.{left_by_run}
-use Rattle.reuse_session.proofs.lemmas.plan.OneAnnotation.{one_tree}
 use Rattle.reuse_session.proofs.laws.annotations_change_chosen_places_alone.Goals as goal
 
 pub returns : goal.returns

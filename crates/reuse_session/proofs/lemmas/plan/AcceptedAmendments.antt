@@ -1,8 +1,6 @@
 -- Where amend is accepted on a tree.
-use Rattle.std.proofs.Common.{◌≡◌, ◌↔◌, inl, inr, ℕ, Bool, true, false, cond, not, ◌&&◌, nat_lt, List, length, Option, Some, None, Result, Ok, Err, refl, sym, ap, subst, ◌∙◌}
-use Rattle.std.specs.Prelude.{IsOk}
-use Rattle.std.specs.Str.{bytes_eq}
-use Rattle.std.specs.FinMap.{get}
+use Rattle.std.proofs.Common.{◌≡◌, ◌↔◌, inl, inr, ℕ, Bool, true, false, cond, not, ◌&&◌, nat_lt, List, length, Option, Some, None, Result, Ok, Err, refl, sym, ap, subst, ◌∙◌, IsOk, bytes_eq}
+use Rattle.reuse_session.specs.session.Reading.{get, Files}
 use Rattle.std.proofs.lemmas.Bool.{false≢true, ltb-false, le-ltb}
 use Rattle.std.proofs.lemmas.Option.{none-some, same_Some}
 use Rattle.std.proofs.lemmas.Slice.Eq.{bytes_eq-Decides}
@@ -16,7 +14,6 @@ use Rattle.reuse_header.specs.declared.style.Style.{Style}
 use Rattle.reuse_header.specs.Amendment.{amended_file, amendment_of, neighbour_amendment_of}
 use Rattle.reuse_header.specs.Names.{kind_in}
 use Rattle.reuse_header.specs.Neighbour.{is_text}
-use Rattle.reuse_tree.specs.Files.{Files}
 use Rattle.reuse_tree.specs.Listing.{is_folder}
 use Rattle.reuse_session.specs.plan.Accepted.{CanNeighbourBeAmended, CanFileBeAmended, CanBeAmended, CanAmend, FitsEntry, CanTableBeAmended, CanCoveredBeAmended}
 use Rattle.reuse_session.specs.plan.Amend.{style_or_named, style_for, amendment_edit, amend_neighbour, amend_inside, amend_covered, amended_where, amended_at, table_edit, table_amendment, amended_table, amend_table}
@@ -26,8 +23,7 @@ use Rattle.reuse_session.specs.plan.Annotated.{IsStyleOf}
 use Rattle.reuse_session.specs.session.Command.{has_root}
 use Rattle.reuse_session.specs.plan.Conversion.{toml_path}
 use Rattle.reuse_session.specs.plan.Covered.{is_covered}
-use Rattle.reuse_session.specs.plan.Edit.{Edit}
-use Rattle.reuse_session.specs.plan.Outcome.{outcome_of, edits_of}
+use Rattle.reuse_session.specs.plan.Outcome.{Edit, outcome_of, edits_of}
 use Rattle.reuse_session.specs.plan.TreeStyles.{OwnNames, styles_in}
 use Rattle.reuse_session.specs.plan.Selected.{amended_paths, with_table}
 use Rattle.reuse_session.specs.declared.command.Command.TheVariants.{Amend}
@@ -37,7 +33,7 @@ use Rattle.reuse_session.specs.declared.command.Scope.{Scope}
 use Rattle.reuse_session.specs.declared.reply.Refusal.{Refusal}
 use Rattle.reuse_session.specs.declared.reply.Refusal.TheVariants as refusals
 use Rattle.reuse_session.proofs.lemmas.plan.AcceptedFiles.{IsDone, done_nothing, done_rest, done_by}
-use Rattle.reuse_session.proofs.lemmas.plan.AcceptedTrees.{all_at, root_from_test, test_from_root}
+use Rattle.reuse_session.proofs.lemmas.plan.AnnotationPathOutcomes.{all_at, root_from_test, test_from_root}
 use Rattle.reuse_session.proofs.lemmas.plan.AmendedPlaces.{same_root}
 use Rattle.reuse_session.proofs.lemmas.plan.AmendedFiles.{KeepsBlock, KeepsNeighbour, style_reason}
 use Rattle.reuse_session.proofs.lemmas.plan.AmendedTrees.{each_done}

@@ -1,7 +1,5 @@
 -- Where annotate is accepted at a path.
-use Rattle.std.proofs.Common.{◌≡◌, ◌⊎◌, inl, inr, ℕ, ◌≤◌, Bool, true, false, cond, not, ◌&&◌, nat_lt, List, [], length, Option, Some, None, is_some, Result, Ok, Err, refl, sym, ap, subst, ◌∙◌}
-use Rattle.std.specs.Prelude.{IsOk, is_ok, unwrap_or}
-use Rattle.std.specs.Str.{bytes_eq}
+use Rattle.std.proofs.Common.{◌≡◌, ◌⊎◌, inl, inr, ℕ, ◌≤◌, Bool, true, false, cond, not, ◌&&◌, nat_lt, List, [], length, Option, Some, None, is_some, Result, Ok, Err, refl, sym, ap, subst, ◌∙◌, IsOk, is_ok, unwrap_or, bytes_eq}
 use Rattle.std.specs.FinMap.{get}
 use Rattle.std.proofs.lemmas.Bool.{false≢true, le-ltb, ltb-false}
 use Rattle.std.proofs.lemmas.Option.{none-some}
@@ -32,11 +30,10 @@ use Rattle.reuse_session.specs.declared.plan.target.Target.TheVariants.{Inside, 
 use Rattle.reuse_session.specs.declared.reply.Refusal.{Refusal}
 use Rattle.reuse_session.specs.declared.reply.Refusal.TheVariants as refusals
 use Rattle.reuse_session.proofs.lemmas.plan.Accepting.{not_clashing, free_of_clash}
-use Rattle.reuse_session.proofs.lemmas.plan.AnnotatedFiles.{ReplacesBlock, InsertsBlock, ReplacesNeighbour, InsertsNeighbour, pair_then, annotated_there}
-use Rattle.reuse_session.proofs.lemmas.plan.AnnotationPlaces.{no_kind, no_neighbour_too, one_style, comment_not_skipped, beside_not_skipped, style_or_unknown}
+use Rattle.reuse_session.proofs.lemmas.plan.AnnotatedFiles.{ReplacesBlock, InsertsBlock, ReplacesNeighbour, InsertsNeighbour, pair_then, annotated_there, Takes, aimed, is_read, no_neighbour, takes, unread}
+use Rattle.reuse_session.proofs.lemmas.plan.OneAnnotation.{no_kind, no_neighbour_too, one_style, comment_not_skipped, beside_not_skipped, style_or_unknown}
 use Rattle.reuse_session.proofs.lemmas.plan.Outcomes.{done}
 use Rattle.reuse_session.proofs.lemmas.Results.{err_or}
-use Rattle.reuse_session.proofs.lemmas.plan.TargetReasons.{Takes, aimed, is_read, no_neighbour, takes, unread}
 
 -- something is done, or nothing has to be
 abbrev pub IsDone : Result (Option Edit) Refusal → Type 0

@@ -1,6 +1,5 @@
 -- Where a download and a conversion are accepted.
-use Rattle.std.proofs.Common.{◌≡◌, ◌↔◌, inl, inr, ℕ, false, cond, nat_lt, List, [], ◌∷◌, length, map, Some, None, is_some, Result, Ok, Err, refl, sym, ap, ◌∙◌}
-use Rattle.std.specs.Prelude.{IsOk, is_ok}
+use Rattle.std.proofs.Common.{◌≡◌, ◌↔◌, inl, inr, ℕ, false, cond, nat_lt, List, [], ◌∷◌, length, map, Some, None, is_some, Result, Ok, Err, refl, sym, ap, ◌∙◌, IsOk, is_ok}
 use Rattle.std.specs.Option.{option_or}
 use Rattle.std.specs.FinMap.{get}
 use Rattle.std.proofs.lemmas.Bool.{false≢true, false_from_ne_true, le-ltb}
@@ -13,16 +12,15 @@ use Rattle.reuse_session.specs.plan.Accepted.{CanBeDownloaded, CanDownload, CanC
 use Rattle.reuse_tree.specs.Clash.{is_clash}
 use Rattle.reuse_session.specs.plan.Conversion.{dep5_path, toml_path, replaced_by, conversion_where, conversion_edits}
 use Rattle.reuse_session.specs.plan.Downloads.{text_for, refusal_of_found, id_refusal, ids_refusal, licence_edit, unless_refused}
-use Rattle.reuse_session.specs.plan.Edit.{Edit}
 use Rattle.reuse_session.specs.plan.Licence.{is_id, licence_path, licence_id}
-use Rattle.reuse_session.specs.plan.Outcome.{outcome_of, edits_of}
+use Rattle.reuse_session.specs.plan.Outcome.{Edit, outcome_of, edits_of}
 use Rattle.reuse_session.specs.declared.command.Command.TheVariants.{ConvertDep5, Download}
 use Rattle.reuse_session.specs.declared.plan.licence.LicenceText.{LicenceText}
 use Rattle.reuse_session.specs.declared.reply.Refusal.TheVariants as refusals
 use Rattle.reuse_session.proofs.lemmas.plan.Downloading.{IsMade, none_due}
 use Rattle.reuse_session.proofs.lemmas.plan.LicenceLemmas.{id_of_path}
 use Rattle.reuse_session.proofs.lemmas.plan.Outcomes.{ok_edits, edits_of_tree, edits_unless, held, tree_comes}
-use Rattle.reuse_session.proofs.lemmas.plan.TablePut.{both, by_file}
+use Rattle.reuse_session.proofs.lemmas.plan.Converting.{both, by_file}
 use Rattle.reuse_tree.proofs.Testing.{clashes_keys}
 use Rattle.reuse_session.proofs.lemmas.plan.TextsPut.{made_at_id}
 use Rattle.reuse_session.proofs.lemmas.plan.CommandEdits.{of_download, of_conversion}

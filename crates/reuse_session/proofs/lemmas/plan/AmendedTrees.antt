@@ -1,17 +1,14 @@
 -- Where an amend isn't refused, each file that is gone through is amended, and all else stays; that is one tree, with the files of the old.
-use Rattle.std.proofs.Common.{◌≡◌, ◌≢◌, ◌⊎◌, inl, inr, ℕ, not, ◌&&◌, List, Option, Some, is_some, Result, Ok, Err, refl, sym, ap, ap₂, subst, ◌∙◌}
-use Rattle.std.specs.List.{Contains}
-use Rattle.std.specs.FinMap.{get}
+use Rattle.std.proofs.Common.{◌≡◌, ◌≢◌, ◌⊎◌, inl, inr, ℕ, not, ◌&&◌, List, Option, Some, is_some, Result, Ok, Err, refl, sym, ap, ap₂, subst, ◌∙◌, Contains}
+use Rattle.reuse_session.specs.session.Reading.{get, Files}
 use Rattle.reuse_notice.specs.declared.amendments.Amendments.{Amendments}
 use Rattle.reuse_notice.proofs.SetLemmas.{In, In-from_contains, Contains-from_in}
-use Rattle.reuse_tree.specs.Files.{Files}
 use Rattle.reuse_session.specs.plan.Amend.{amended_at}
 use Rattle.reuse_session.specs.plan.Amended.{IsAmended, Amends, HaveSamePaths, IsTableAmended, IsCoveredAmended}
 use Rattle.reuse_session.specs.plan.Annotate.{neighbour_of}
 use Rattle.reuse_session.specs.plan.Annotated.{Pair, pair_at}
 use Rattle.reuse_session.specs.session.Command.{has_root}
-use Rattle.reuse_session.specs.plan.Edit.{Edit}
-use Rattle.reuse_session.specs.plan.Outcome.{edited, outcome_of, edits_of}
+use Rattle.reuse_session.specs.plan.Outcome.{Edit, edited, outcome_of, edits_of}
 use Rattle.reuse_session.specs.plan.TreeStyles.{OwnNames, styles_in}
 use Rattle.reuse_session.specs.plan.Selected.{amended_paths, with_table}
 use Rattle.reuse_session.specs.declared.command.Command.TheVariants.{Amend}

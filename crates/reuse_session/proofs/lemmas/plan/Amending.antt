@@ -1,7 +1,6 @@
 -- The edit of an amendment: it is of a covered file that is there, or of its neighbour that is, or of the `REUSE.toml`.
-use Rattle.std.proofs.Common.{◌≡◌, ◌⊎◌, inl, inr, ℕ, ◌≤◌, Bool, true, false, not, nat_lt, List, length, Option, Some, None, IsSome, is_some, Result, Ok, Err, refl, sym, ap, cond, ◌∙◌}
-use Rattle.std.specs.Str.{bytes_eq}
-use Rattle.std.specs.FinMap.{get}
+use Rattle.std.proofs.Common.{◌≡◌, ◌⊎◌, inl, inr, ℕ, ◌≤◌, Bool, true, false, not, nat_lt, List, length, Option, Some, None, IsSome, is_some, Result, Ok, Err, refl, sym, ap, cond, ◌∙◌, bytes_eq}
+use Rattle.reuse_session.specs.session.Reading.{get, Files}
 use Rattle.std.proofs.lemmas.Bool.{false≢true, ltb-false}
 use Rattle.std.proofs.lemmas.Slice.Eq.{bytes_eq-Decides}
 use Rattle.reuse_notice.specs.declared.amendments.Amendments.{Amendments}
@@ -12,7 +11,6 @@ use Rattle.reuse_header.specs.Amendment.{amendment_of, neighbour_amendment_of}
 use Rattle.reuse_header.specs.Annotation as header
 use Rattle.reuse_header.specs.Neighbour.{is_text}
 use Rattle.reuse_text.specs.declared.TheConstants.{LONGEST_FILE}
-use Rattle.reuse_tree.specs.Files.{Files}
 use Rattle.reuse_tree.specs.Listing.{is_folder}
 use Rattle.reuse_session.specs.plan.Amend.{style_for, amendment_edit, amend_neighbour, amend_inside, amend_covered, table_amendment, amend_table, amended_where, amended_at}
 use Rattle.reuse_session.specs.plan.Annotate.{neighbour_of, edit_by}

@@ -1,7 +1,6 @@
 -- The change of a place, by what an amendment makes of its bytes.
-use Rattle.std.proofs.Common.{◌≡◌, ℕ, ◌+◌, ◌≤◌, Bool, true, false, cond, not, List, length, nat_lt, take, drop, Option, Some, None, IsSome, Result, Ok, Err, refl, ap, ◌∙◌}
-use Rattle.std.specs.Str.{bytes_eq}
-use Rattle.std.specs.FinMap.{get}
+use Rattle.std.proofs.Common.{◌≡◌, ℕ, ◌+◌, ◌≤◌, Bool, true, false, cond, not, List, length, nat_lt, Option, Some, None, IsSome, Result, Ok, Err, refl, ap, ◌∙◌, bytes_eq}
+use Rattle.reuse_session.specs.session.Reading.{get, Files}
 use Rattle.std.proofs.lemmas.Bool.{false≢true}
 use Rattle.reuse_dep5.specs.TomlAmending.{toml_amendment_of}
 use Rattle.reuse_header.specs.declared.amendment.AmendHeaderRefusal.{AmendHeaderRefusal}
@@ -13,7 +12,6 @@ use Rattle.reuse_header.specs.Amendment.{amendment_of, neighbour_amendment_of, a
 use Rattle.reuse_header.specs.Annotation as header
 use Rattle.reuse_header.specs.Neighbour.{is_text}
 use Rattle.reuse_text.specs.declared.TheConstants.{LONGEST_FILE}
-use Rattle.reuse_tree.specs.Files.{Files}
 use Rattle.reuse_session.specs.plan.Amend.{amend_refused_by, amendment_edit, amend_covered, amended_where, amend_table, table_amendment}
 use Rattle.reuse_session.specs.plan.AmendmentPlan.{Due, Fits, names_of, amended_by, style_by, beside_by, inside_by, table_by}
 use Rattle.reuse_session.specs.plan.Annotate.{neighbour_of}
@@ -21,11 +19,10 @@ use Rattle.reuse_session.specs.plan.Conversion.{toml_path}
 use Rattle.reuse_session.specs.plan.Covered.{is_covered}
 use Rattle.reuse_session.specs.plan.Edit.{Edit}
 use Rattle.reuse_session.specs.plan.Plan.{IsRefusalOf}
-use Rattle.reuse_session.specs.plan.Steps.{short_file}
 use Rattle.reuse_session.specs.declared.plan.annotation.Amendment.{Amendment}
 use Rattle.reuse_session.specs.declared.reply.Refusal.{Refusal}
 use Rattle.reuse_session.specs.declared.reply.Refusal.TheVariants as refusals
-use Rattle.reuse_session.proofs.lemmas.plan.EditLemmas.{edited_to, refused, long_is}
+use Rattle.reuse_session.proofs.lemmas.plan.EditLemmas.{edited_to, refused}
 use Rattle.reuse_session.proofs.lemmas.plan.TableLemmas.{not_table}
 
 -- what is known of each edit is known of an amendment
@@ -38,17 +35,6 @@ fits_amendment bytes (Err refusal) each = tt
 
 abbrev answered : Option Splice → Result (Option Splice) AmendHeaderRefusal
 answered splice = Ok splice
-
--- where it answers no splice there is no edit
-pub none_made : (path at file : List ℕ) (due : Due) → amendment_answer file due ≡ answered None → amendment_edit path at file due ≡ edited_to None
-none_made path at file (Ok None) e = refl
-none_made path at file (Err refusal) e = absurd (cc)
-none_made path at file (Ok (Some edit)) e = by_test (bytes_eq (header.edited file edit) file) e
-  where
-    by_test : (b : Bool) → answered (cond b None (Some (record { at = edit.start; old = take edit.old_len (drop edit.start file); new = header.new_bytes edit }))) ≡ answered None
-        → cond b (edited_to None) (edited_to (Some (record { path = at; removed = take edit.old_len (drop edit.start file); written = header.new_bytes edit; file = Some (header.edited file edit) }))) ≡ edited_to None
-    by_test true h = refl
-    by_test false h = absurd (cc)
 
 -- where it answers one, that is the one of an edit
 pub some_made : (file : List ℕ) (due : Due) (splice : Splice) → amendment_answer file due ≡ answered (Some splice) → (edit : header.Edit) × (due ≡ Ok (Some edit))
@@ -79,24 +65,14 @@ module _ (asked : Amendment) (path bytes : List ℕ) where
   abbrev by_neighbour : Result (Option Edit) Refusal
   by_neighbour = amendment_edit path (neighbour_of path) bytes (neighbour_amendment_of asked.amendments.now bytes)
 
-  pub beside_long : nat_lt 4096 (length (neighbour_of path)) ≡ false → (refusal : Refusal) → short_file path bytes ≡ Err refusal → beside_by asked path bytes ≡ refused refusal
-  beside_long few refusal e =
-      ap (λ b. cond b (refused (refusals.TooLong path)) (cond (nat_lt LONGEST_FILE (length bytes)) (refused (refusals.TooLong path)) by_neighbour)) few ∙ long_is path bytes by_neighbour refusal e
-
   pub beside_is : nat_lt 4096 (length (neighbour_of path)) ≡ false → nat_lt LONGEST_FILE (length bytes) ≡ false
       → beside_by asked path bytes ≡ amendment_edit path (neighbour_of path) bytes (neighbour_amendment_of asked.amendments.now bytes)
   beside_is few short =
       ap (λ b. cond b (refused (refusals.TooLong path)) (cond (nat_lt LONGEST_FILE (length bytes)) (refused (refusals.TooLong path)) by_neighbour)) few
       ∙ ap (λ b. cond b (refused (refusals.TooLong path)) by_neighbour) short
 
-  pub beside_far : nat_lt 4096 (length (neighbour_of path)) ≡ true → beside_by asked path bytes ≡ refused (refusals.TooLong path)
-  beside_far far = ap (λ b. cond b (refused (refusals.TooLong path)) (cond (nat_lt LONGEST_FILE (length bytes)) (refused (refusals.TooLong path)) by_neighbour)) far
-
   abbrev by_table : Result (Option Edit) Refusal
   by_table = table_amendment path bytes (toml_amendment_of asked.amendments.now bytes)
-
-  pub table_long : (refusal : Refusal) → short_file path bytes ≡ Err refusal → table_by asked path bytes ≡ refused refusal
-  table_long refusal e = long_is path bytes by_table refusal e
 
   pub table_is : nat_lt LONGEST_FILE (length bytes) ≡ false → table_by asked path bytes ≡ table_amendment path bytes (toml_amendment_of asked.amendments.now bytes)
   table_is short = ap (λ b. cond b (refused (refusals.TooLong path)) by_table) short
@@ -104,9 +80,6 @@ module _ (asked : Amendment) (path bytes : List ℕ) where
   module _ (style : Style) where
     abbrev by_block : Result (Option Edit) Refusal
     by_block = amendment_edit path path bytes (amendment_of style asked.amendments.now bytes)
-
-    pub inside_long : (refusal : Refusal) → short_file path bytes ≡ Err refusal → inside_by asked path bytes (Some style) ≡ refused refusal
-    inside_long refusal e = long_is path bytes (cond (not (is_text bytes)) (edited_to None) by_block) refusal e
 
     pub inside_is : (text : Bool) → nat_lt LONGEST_FILE (length bytes) ≡ false → is_text bytes ≡ text
         → inside_by asked path bytes (Some style) ≡ cond (not text) (edited_to None) (amendment_edit path path bytes (amendment_of style asked.amendments.now bytes))

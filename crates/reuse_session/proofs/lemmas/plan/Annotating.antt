@@ -1,20 +1,13 @@
 -- What annotate does at the paths of its list, one after the other.
-use Rattle.std.proofs.Common.{◌≡◌, ◌⊎◌, inl, inr, ℕ, zero, suc, ◌+◌, ◌<◌, Bool, true, false, cond, not, ◌||◌, ◌&&◌, nat_lt, List, [], ◌∷◌, ◌++◌, codes, length, Less, Option, Some, None, IsSome, Result, Ok, Err, take, get_or, refl, sym, ap, subst, ◌∙◌, arith}
-use Rattle.std.specs.Ordering.{nat_cmp}
-use Rattle.std.specs.Cmp.Lexicographic.{slice_cmp}
+use Rattle.std.proofs.lemmas.Result.{err_from_is_err_and}
+use Rattle.std.proofs.Common.{IsErrAnd, ◌≡◌, ◌⊎◌, inl, inr, ℕ, ◌+◌, ◌<◌, Bool, true, false, cond, not, ◌||◌, ◌&&◌, nat_lt, List, [], ◌∷◌, ◌++◌, codes, length, Option, Some, None, IsSome, Result, Ok, Err, take, get_or, refl, sym, ap, subst, ◌∙◌, filter_map, bytes_eq, option_to_list}
 use Rattle.std.specs.List.{AllByRecursion, cons_option}
-use Rattle.std.specs.List.Sorted.{IsStrictlySortedBy}
-use Rattle.std.specs.Str.{bytes_eq}
-use Rattle.std.specs.Prelude.{filter_map}
-use Rattle.std.specs.Option.{option_to_list}
 use Rattle.std.proofs.lemmas.List.{take_more}
 use Rattle.std.proofs.lemmas.List.Elements.{filter_map-append}
-use Rattle.std.specs.FinMap.{get, keys}
+use Rattle.reuse_session.specs.session.Reading.{get, keys, Files}
 use Rattle.std.proofs.lemmas.Bool.{false≢true, false_from_ne_true, or_right}
-use Rattle.std.proofs.lemmas.Map.Keys.{sorted_head, sorted_tail}
 use Rattle.std.proofs.lemmas.Slice.Eq.{bytes_eq-Decides}
 use Rattle.reuse_tree.specs.Path.{lies_under, journal_folder}
-use Rattle.reuse_tree.specs.Files.{Files, AreFiles}
 use Rattle.reuse_tree.specs.declared.change.Change.{Change}
 use Rattle.reuse_session.specs.declared.reply.Refusal.{Refusal}
 use Rattle.reuse_session.specs.declared.failure.Failure.TheVariants as failures
@@ -22,7 +15,7 @@ use Rattle.reuse_session.specs.declared.reply.Refusal.TheVariants as refusals
 use Rattle.reuse_session.specs.declared.command.Place.TheVariants as place
 use Rattle.reuse_tree.specs.Tree.{is_of_tree}
 use Rattle.reuse_session.specs.plan.Covered.{is_in, is_covered}
-use Rattle.reuse_tree.specs.Listing.{ArePaths, is_among, is_folder_of}
+use Rattle.reuse_tree.specs.Listing.{is_among, is_folder_of}
 use Rattle.reuse_session.specs.plan.Outcome.{Edit, edited, tree_after}
 use Rattle.reuse_session.specs.plan.Amend.{amended_where, amended_at}
 use Rattle.reuse_session.specs.plan.Annotate.{annotated_where, annotated_at}
@@ -32,17 +25,21 @@ use Rattle.reuse_notice.specs.declared.adding.Additions.{Additions}
 use Rattle.reuse_notice.specs.declared.amendments.Amendments.{Amendments}
 use Rattle.reuse_session.specs.declared.command.Scope.{Scope}
 use Rattle.reuse_session.specs.plan.Shown.{ShowsPair}
-use Rattle.reuse_session.specs.plan.Plan.{IsPlan, IsRefusalOf, MakesEdits}
+use Rattle.reuse_session.specs.plan.Plan.{IsRefusalOf, MakesEdits}
 use Rattle.reuse_tree.proofs.ListingLemmas.{under_from_test}
-use Rattle.reuse_session.proofs.lemmas.plan.Outcomes.{ok_edits, no_edit, some_edit}
+use Rattle.reuse_session.proofs.lemmas.plan.Outcomes.{ok_edits}
 use Rattle.reuse_tree.proofs.TreeLemmas.{among_keys}
-use Rattle.reuse_session.proofs.lemmas.plan.Planning.{paths_at, AreEdits, same_many, plan_of_edits}
+use Rattle.reuse_session.proofs.lemmas.plan.Planning.{same_many}
 use Rattle.reuse_tree.specs.Entry.{entry_size}
 use Rattle.reuse_session.proofs.lemmas.Results.{none_from_test}
 use Rattle.reuse_session.specs.plan.PathEdits.{or_first}
 use Rattle.reuse_session.proofs.lemmas.plan.CommandEdits.{edits_at}
 
 -- ---- refusals
+
+-- the refusal that is passed on
+pub told_as : {A : Type 0} (answer : Result A Refusal) (refusal : Refusal) → IsErrAnd answer (λ told. told ≡ refusal) → answer ≡ Err refusal
+told_as answer refusal is = let p = err_from_is_err_and answer is in p.1 ∙ ap (λ r. Err r) p.2
 
 -- a refusal of one result is that of another
 pub refusal_passes : {A B : Type 0} (g : Result A Refusal) (h : Result B Refusal) → ((r : Refusal) → g ≡ Err r → h ≡ Err r) → (r : Refusal) → IsRefusalOf g r → IsRefusalOf h r
@@ -54,10 +51,6 @@ refusal_passes g h k refusal e = k refusal e
 
 abbrev refused : Refusal → Result (Option Edit) Refusal
 refused r = Err r
-
-some_or : (b : Bool) (edit e : Edit) → cond b no_edit (some_edit edit) ≡ some_edit e → edit ≡ e
-some_or true edit e h = absurd (cc)
-some_or false edit e h = cc
 
 pub both_err : {A : Type 0} (b : Bool) (r s : Refusal) (x : A) → cond b (Err r) (Err s) ≡ Ok x → ⊥
 both_err true r s x e = absurd (cc)
@@ -74,10 +67,7 @@ starts_reuse path h = of_tests (is_in (codes "LICENSES") path) (is_in (codes ".r
     of_tests false true c d h = absurd (false≢true h)
 
 pub and_all : (a b c : Bool) → a ≡ false → b ≡ false → c ≡ false → (not a && not b && not c) ≡ true
-and_all false false false e f g = refl
-and_all true b c e f g = absurd (false≢true (sym e))
-and_all false true c e f g = absurd (false≢true (sym f))
-and_all false false true e f g = absurd (false≢true (sym g))
+and_all a b c e f g = rw (e, f, g)
 
 pub covered_of_tree : (path : List ℕ) → is_covered path ≡ true → is_of_tree path ≡ true
 covered_of_tree path h =
@@ -100,14 +90,6 @@ first_is (Ok (Some e)) (Ok more) edits h = inr (e, more, refl, refl, cc)
 pub no_edits : (edits : List Edit) → ok_edits [] ≡ ok_edits edits → edits ≡ []
 no_edits edits h = cc
 
-sorted_cons : (x : List ℕ) (xs : List (List ℕ)) → AllByRecursion (λ y. slice_cmp nat_cmp x y ≡ Less) xs → ArePaths xs → ArePaths (x ∷ xs)
-unfolding IsStrictlySortedBy
-sorted_cons x xs b s = (b, s)
-
-sorted_nil : ArePaths []
-unfolding IsStrictlySortedBy
-sorted_nil = tt
-
 module _ (at : List ℕ → Result (Option Edit) Refusal) where
   -- what holds of the edit at each path holds of all
   pub all_edits : (P : Edit → Type 0) → ((p : List ℕ) (e : Edit) → at p ≡ Ok (Some e) → P e) → (ps : List (List ℕ)) (edits : List Edit) → edits_at at ps ≡ Ok edits → AllByRecursion P edits
@@ -118,29 +100,6 @@ module _ (at : List ℕ → Result (Option Edit) Refusal) where
         let rest : AllByRecursion P some.1 = all_edits P each ps some.1 some.3 in
         subst (AllByRecursion P) (sym some.4) (each p some.0 some.2, rest)
   ]
-
-  module _ (own : (p : List ℕ) (e : Edit) → at p ≡ Ok (Some e) → e.path ≡ p) where
-    above_edits : (x : List ℕ) (ps : List (List ℕ)) (edits : List Edit) → edits_at at ps ≡ Ok edits → AllByRecursion (λ y. slice_cmp nat_cmp x y ≡ Less) ps → AllByRecursion (λ y. slice_cmp nat_cmp x y ≡ Less) (paths_at edits)
-    above_edits x [] edits h above = subst (λ es. AllByRecursion (λ y. slice_cmp nat_cmp x y ≡ Less) (paths_at es)) (sym (no_edits edits h)) tt
-    above_edits x (p ∷ ps) edits h above = elim (first_is (at p) (edits_at at ps) edits h) [
-      | inl none ↦ above_edits x ps edits none.1 above.1
-      | inr some ↦
-          let rest : AllByRecursion (λ y. slice_cmp nat_cmp x y ≡ Less) (paths_at some.1) = above_edits x ps some.1 some.3 above.1 in
-          subst (λ es. AllByRecursion (λ y. slice_cmp nat_cmp x y ≡ Less) (paths_at es)) (sym some.4)
-          (ap (slice_cmp nat_cmp x) (own p some.0 some.2) ∙ above.0, rest)
-    ]
-
-    pub ascending_edits : (ps : List (List ℕ)) (edits : List Edit) → edits_at at ps ≡ Ok edits → ArePaths ps → ArePaths (paths_at edits)
-    ascending_edits [] edits h sorted = subst (λ es. ArePaths (paths_at es)) (sym (no_edits edits h)) sorted_nil
-    ascending_edits (p ∷ ps) edits h sorted = elim (first_is (at p) (edits_at at ps) edits h) [
-      | inl none ↦ ascending_edits ps edits none.1 (sorted_tail (slice_cmp nat_cmp) p ps sorted)
-      | inr some ↦
-          let rest : ArePaths (paths_at some.1) = ascending_edits ps some.1 some.3 (sorted_tail (slice_cmp nat_cmp) p ps sorted) in
-          let above = above_edits p ps some.1 some.3 (sorted_head (slice_cmp nat_cmp) p ps sorted) in
-          let here : some.0.path ≡ p = own p some.0 some.2 in
-          subst (λ es. ArePaths (paths_at es)) (sym some.4)
-          (sorted_cons some.0.path (paths_at some.1) (subst (λ x. AllByRecursion (λ y. slice_cmp nat_cmp x y ≡ Less) (paths_at some.1)) (sym here) above) rest)
-    ]
 
 -- ---- a path without a file
 
@@ -168,19 +127,9 @@ pub too_many : (tree : Files) (given : Result (List Edit) Refusal) (changes : Li
 too_many tree given changes made many =
     ap (tree_after tree) made.1 ∙ ap (λ b. cond b (Err refusals.TooMany) (Ok (edited tree made.0))) (sym (same_many tree changes made.0 made.2) ∙ many)
 
-pub a_plan : (tree : Files) (given : Result (List Edit) Refusal) (changes : List Change) → AreFiles tree → MakesEdits tree given changes → ((edits : List Edit) → given ≡ Ok edits → AreEdits tree edits)
-    → (nat_lt 100_000 (length changes) || nat_lt 268_435_456 (entry_size changes)) ≡ false → IsPlan (tree_after tree given) tree changes
-a_plan tree given changes are made fit few =
-    subst (λ r. IsPlan (tree_after tree r) tree changes) (sym made.1)
-    (plan_of_edits tree made.0 are (fit made.0 made.1) (sym (same_many tree changes made.0 made.2) ∙ few) changes made.2)
-
 pub if_not : {A : Type 0} (b : Bool) (r : Refusal) (rest : Result A Refusal) (x : A) → cond b (Err r) rest ≡ Ok x → rest ≡ Ok x
 if_not true r rest x e = absurd (cc)
 if_not false r rest x e = e
-
-pub some_length : (n : ℕ) → (n ≡ 0 → ⊥) → 0 < n
-some_length zero h = absurd (h refl)
-some_length (suc n) h = omega arith
 
 -- an option's value behind those of a part of a list
 pub one_more : {X Y : Type 0} (h : X → Option Y) (xs : List X) (i : ℕ) (d : X) (old new : List Y) → i < length xs → old ≡ filter_map h (take i xs)

@@ -1,48 +1,161 @@
--- The path outcomes of an annotation: which files are skipped, and what stays.
-use Rattle.std.proofs.Common.{◌≡◌, ◌⊎◌, inl, inr, ℕ, Bool, true, false, cond, not, ◌&&◌, nat_lt, List, [], ◌∷◌, length, zero, suc, map, Option, Some, None, is_some, Result, Ok, Err, refl, sym, ap, ap₂, subst, ◌∙◌, arith}
-use Rattle.std.specs.List.{Contains}
-use Rattle.std.proofs.lemmas.List.Elements.{Contains-append_cases, Contains-append_left}
-use Rattle.std.specs.FinMap.{get}
-use Rattle.std.proofs.lemmas.Option.{same_Some, none-some}
-use Rattle.std.proofs.lemmas.Bool.{and_parts, and_right}
+-- What an annotation gives on a whole tree, and path by path.
+use Rattle.std.proofs.Common.{◌≡◌, inl, inr, ℕ, not, ◌&&◌, List, Option, Some, Result, Ok, Err, refl, sym, ap₂, subst, ◌∙◌, ◌↔◌, Bool, true, false, cond, [], ◌∷◌, None, ap, ◌⊎◌, nat_lt, length, zero, suc, map, is_some, arith, Contains}
 use Rattle.reuse_notice.specs.declared.adding.Additions.{Additions}
 use Rattle.reuse_notice.proofs.SetLemmas.{In, In-from_contains, Contains-from_in}
 use Rattle.reuse_header.specs.declared.annotation.How.{How}
-use Rattle.reuse_header.specs.declared.style.Style.{Style}
-use Rattle.reuse_header.specs.Header.{header_of}
-use Rattle.reuse_tree.specs.Files.{Files}
-use Rattle.reuse_text.specs.declared.TheConstants.{LONGEST_FILE}
-use Rattle.reuse_session.specs.plan.Annotate.{neighbour_of, neighbour_is_tagged, goes_beside, target_of, edit_neighbour, edit_target, annotated_where, annotated_at}
-use Rattle.reuse_session.specs.plan.Annotated.{pair_at, IsSkipped, IsSkippedAt}
+use Rattle.reuse_session.specs.session.Reading.{get, Files}
+use Rattle.reuse_session.specs.plan.Annotate.{neighbour_of, annotated_at, neighbour_is_tagged, goes_beside, target_of, edit_neighbour, edit_target, annotated_where}
+use Rattle.reuse_session.specs.plan.Annotated.{pair_at, IsAnnotated, Annotates, IsSkipped, IsSkippedAt}
 use Rattle.reuse_session.specs.session.Command.{has_root}
-use Rattle.reuse_session.specs.plan.Covered.{is_covered}
-use Rattle.reuse_session.specs.plan.Edit.{Edit}
-use Rattle.reuse_session.specs.session.PathOutcomes.{path_outcome_by, path_outcome_of, limit_path_outcomes, path_outcomes_of}
-use Rattle.reuse_session.specs.plan.PathEdits.{refused_alone}
-use Rattle.reuse_tree.specs.Listing.{is_folder}
-use Rattle.reuse_session.specs.plan.Outcome.{edited, is_too_many, annotation_at, annotations_by, edits_of, outcome_of}
+use Rattle.reuse_tree.specs.Listing.{ArePaths, is_folder}
+use Rattle.reuse_session.specs.plan.Outcome.{Edit, edited, outcome_of, edits_of, is_too_many, annotation_at, annotations_by}
 use Rattle.reuse_session.specs.plan.TreeStyles.{OwnNames, styles_in}
 use Rattle.reuse_session.specs.plan.Selected.{selected_paths}
 use Rattle.reuse_session.specs.declared.command.Command.TheVariants.{Annotate}
 use Rattle.reuse_session.specs.declared.command.Place.{Place}
 use Rattle.reuse_session.specs.declared.command.Place.TheVariants as place
 use Rattle.reuse_session.specs.declared.command.Scope.{Scope}
-use Rattle.reuse_session.specs.declared.path_outcome.PathOutcome.{PathOutcome}
-use Rattle.reuse_session.specs.declared.path_outcome.PathOutcome.TheVariants as path_outcome
 use Rattle.reuse_session.specs.declared.reply.Refusal.{Refusal}
 use Rattle.reuse_session.specs.declared.reply.Refusal.TheVariants as refusals
+use Rattle.reuse_session.proofs.lemmas.plan.AnnotatedFiles.{ReplacesBlock, InsertsBlock, ReplacesNeighbour, InsertsNeighbour, annotated_there, pair, file_then, Takes, takes}
+use Rattle.reuse_session.proofs.lemmas.plan.Annotating.{if_not, both_err}
+use Rattle.reuse_session.proofs.lemmas.plan.Choosing.{selected_ascend}
+use Rattle.reuse_session.proofs.lemmas.plan.Fitting.{is_placed}
+use Rattle.reuse_session.proofs.lemmas.plan.PlacedEdits as placed_edits
+use Rattle.reuse_session.proofs.lemmas.plan.PlacedEdits.{IsPlaceOf, HoldsDone}
+use Rattle.reuse_session.proofs.lemmas.plan.TableLemmas.{IsWorkable}
+use Rattle.reuse_session.proofs.lemmas.plan.Outcomes.{edits_of_tree, held, tree_comes, done}
+use Rattle.reuse_session.proofs.lemmas.plan.CommandEdits.{edits_at, edits_by_names, of_annotation, annotation_edits}
+use Rattle.std.proofs.lemmas.Bool.{false≢true, and_parts, and_right}
+use Rattle.reuse_session.specs.plan.Accepted.{CanAnnotate, FitsEntry}
+use Rattle.reuse_session.proofs.lemmas.plan.AcceptedFiles.{IsDone, accepted_is_done, done_is_accepted}
+use Rattle.reuse_session.proofs.lemmas.Results.{err_or, same_Ok}
+use Rattle.reuse_session.specs.plan.PathEdits.{or_first, refused_alone}
+use Rattle.std.proofs.lemmas.List.Elements.{Contains-append_cases, Contains-append_left}
+use Rattle.std.proofs.lemmas.Option.{same_Some, none-some}
+use Rattle.reuse_header.specs.declared.style.Style.{Style}
+use Rattle.reuse_header.specs.Header.{header_of}
+use Rattle.reuse_text.specs.declared.TheConstants.{LONGEST_FILE}
+use Rattle.reuse_session.specs.plan.Covered.{is_covered}
+use Rattle.reuse_session.specs.session.PathOutcomes.{path_outcome_by, path_outcome_of, limit_path_outcomes, path_outcomes_of}
+use Rattle.reuse_session.specs.declared.path_outcome.PathOutcome.{PathOutcome}
+use Rattle.reuse_session.specs.declared.path_outcome.PathOutcome.TheVariants as path_outcome
 use Rattle.reuse_session.specs.declared.plan.target.Target.{Target}
 use Rattle.reuse_session.specs.declared.plan.target.Target.TheVariants.{Inside, Beside, Nowhere}
-use Rattle.reuse_session.proofs.lemmas.Results.{err_or, same_Ok}
-use Rattle.reuse_session.proofs.lemmas.plan.AnnotatedFiles.{ReplacesBlock, InsertsBlock, ReplacesNeighbour, InsertsNeighbour, file_then, pair}
-use Rattle.reuse_session.proofs.lemmas.plan.AnnotatedTrees.{each_done, all_done}
-use Rattle.reuse_session.proofs.lemmas.plan.Annotating.{both_err, if_not}
-use Rattle.reuse_session.proofs.lemmas.plan.AnnotationPlaces.{comment_not_skipped, beside_not_skipped}
-use Rattle.reuse_session.proofs.lemmas.plan.TargetReasons.{Takes, takes}
-use Rattle.reuse_session.proofs.lemmas.plan.Outcomes.{done, edits_of_tree}
-use Rattle.reuse_session.proofs.lemmas.plan.Choosing.{selected_ascend}
+use Rattle.reuse_session.proofs.lemmas.plan.OneAnnotation.{comment_not_skipped, beside_not_skipped}
 use Rattle.reuse_session.specs.plan.Skipped.{has_tagged, is_skipped_at, is_skipped_where, is_skipped}
-use Rattle.reuse_session.proofs.lemmas.plan.CommandEdits.{edits_at, edits_by_names, of_annotation}
+
+-- ---- where an annotate isn't refused, each file that is gone through is annotated, and all else stays
+
+module _ (replaces : ReplacesBlock) (inserts : InsertsBlock) (replaces_beside : ReplacesNeighbour) (inserts_beside : InsertsNeighbour)
+    (additions : Additions) (how : How) (scope : Scope) (own : OwnNames) (tree : Files) where
+  abbrev pub at : List ℕ → Result (Option Edit) Refusal
+  at = annotated_at how scope additions own tree
+
+  pub placed : (path : List ℕ) (edit : Edit) → at path ≡ Ok (Some edit) → IsPlaceOf path edit.path × IsWorkable path
+  placed path edit h = let is = is_placed how scope additions tree path edit own h in (elim is.placed [ inl here ↦ inl here | inr beside ↦ inr beside.0 ], is.workable)
+
+  pub workable_of : (path : List ℕ) (given : Option Edit) → at path ≡ Ok given → IsWorkable path
+  workable_of path given h = inl (annotated_there replaces inserts replaces_beside inserts_beside additions how scope own tree path given h).covered
+
+  -- what is done at each of the paths
+  pub each_done : (paths : List (List ℕ)) (edits : List Edit) → edits_at at paths ≡ Ok edits → (path : List ℕ) → In path paths → (given : Option Edit) × (at path ≡ Ok given)
+  each_done = placed_edits.each_done at tree placed workable_of
+
+  -- what a path holds that is gone through, and its neighbour
+  pub all_done : (paths : List (List ℕ)) (edits : List Edit) → edits_at at paths ≡ Ok edits → ArePaths paths → (path : List ℕ) → In path paths → HoldsDone at tree placed workable_of edits path
+  all_done = placed_edits.all_done at tree placed workable_of
+
+  annotated_tree : (places : List Place) (edits : List Edit) → styles_in tree ≡ Ok own → edits_at at (selected_paths scope places tree) ≡ Ok edits → Annotates places additions how scope tree (edited tree edits)
+  annotated_tree places edits styles h = record {
+    own = own;
+    styles = styles;
+    selected = λ path there.
+        let is = all_done (selected_paths scope places tree) edits h (selected_ascend scope places tree) path (In-from_contains (selected_paths scope places tree) path there) in
+        subst (IsAnnotated additions how scope own path (pair_at tree path)) (sym (ap₂ pair (is.2 path (inl refl)) (is.2 (neighbour_of path) (inr refl))))
+        (annotated_there replaces inserts replaces_beside inserts_beside additions how scope own tree path is.0 is.1);
+    others = λ other none. placed_edits.outside at tree placed workable_of (selected_paths scope places tree) edits h other (λ path there.
+        let apart = none path (Contains-from_in (selected_paths scope places tree) path there) in
+        λ place. elim place [ inl here ↦ apart.0 here | inr beside ↦ apart.1 beside ]);
+  }
+
+module _ (replaces : ReplacesBlock) (inserts : InsertsBlock) (replaces_beside : ReplacesNeighbour) (inserts_beside : InsertsNeighbour)
+    (places : List Place) (additions : Additions) (how : How) (scope : Scope) (tree : Files) where
+  by_names : (edits : List Edit) (styles : Result OwnNames Refusal) → styles_in tree ≡ styles → edits_by_names places additions how scope tree styles ≡ Ok edits
+      → Annotates places additions how scope tree (edited tree edits)
+  by_names edits (Err refusal) is h = absurd (cc)
+  by_names edits (Ok own) is h =
+      annotated_tree replaces inserts replaces_beside inserts_beside additions how scope own tree places edits is
+      (if_not (not scope.recursive && has_root places) (refusals.IsFolder place.Root) (edits_at (annotated_at how scope additions own tree) (selected_paths scope places tree)) edits h)
+
+  pub annotates : (after : Files) → outcome_of (Annotate places additions how scope) tree ≡ Ok after → Annotates places additions how scope tree after
+  unfolding outcome_of
+  annotates after h =
+      let given = edits_of_tree tree after (edits_of (Annotate places additions how scope) tree) h in
+      subst (Annotates places additions how scope tree) given.2 (by_names given.0 (styles_in tree) refl (sym (of_annotation places additions how scope tree) ∙ given.1))
+
+-- ---- where annotate is accepted on a tree
+
+-- where each is done they are done together
+pub all_at : (at : List ℕ → Result (Option Edit) Refusal) (paths : List (List ℕ)) → ((path : List ℕ) → In path paths → IsDone (at path)) → (edits : List Edit) × (edits_at at paths ≡ Ok edits)
+all_at at [] each = ([], refl)
+all_at at (path ∷ paths) each =
+    let first = each path (inl refl) in
+    let rest = all_at at paths (λ other there. each other (inr there)) in
+    let both = joined first.0 rest.0 in
+    (both.0, ap₂ or_first first.1 rest.1 ∙ both.1)
+  where
+    joined : (given : Option Edit) (edits : List Edit) → (all : List Edit) × (or_first (Ok given) (Ok edits) ≡ Ok all)
+    joined None edits = (edits, refl)
+    joined (Some edit) edits = (edit ∷ edits, refl)
+
+-- the root is given only where folders are gone through
+pub root_from_test : (recursive root : Bool) → (not recursive && root) ≡ false → root ≡ true → recursive ≡ true
+root_from_test true root e given = refl
+root_from_test false root e given = absurd (false≢true (sym e ∙ given))
+
+pub test_from_root : (recursive root : Bool) → (root ≡ true → recursive ≡ true) → (not recursive && root) ≡ false
+test_from_root true root through = refl
+test_from_root false false through = refl
+test_from_root false true through = absurd (false≢true (through refl))
+
+module _ (places : List Place) (additions : Additions) (how : How) (scope : Scope) (tree : Files) where
+  abbrev edits_named : Result OwnNames Refusal → Result (List Edit) Refusal
+  edits_named styles = edits_by_names places additions how scope tree styles
+
+  accepts : ReplacesBlock → InsertsBlock → ReplacesNeighbour → InsertsNeighbour → (edits : List Edit) (styles : Result OwnNames Refusal) → styles_in tree ≡ styles → edits_named styles ≡ Ok edits → FitsEntry (Annotate places additions how scope) tree
+      → CanAnnotate places additions how scope tree
+  accepts replaces inserts replaces_beside inserts_beside edits (Err refusal) is h fits = absurd (cc)
+  accepts replaces inserts replaces_beside inserts_beside edits (Ok own) is h fits =
+      let at = annotated_at how scope additions own tree in
+      let paths = selected_paths scope places tree in
+      let parts = err_or (not scope.recursive && has_root places) (refusals.IsFolder place.Root) (edits_at at paths) edits h in
+      record {
+        own = own;
+        styles = is;
+        root = root_from_test scope.recursive (has_root places) parts.0;
+        each = λ path there. done_is_accepted additions how scope own tree path replaces inserts replaces_beside inserts_beside
+            (each_done replaces inserts replaces_beside inserts_beside additions how scope own tree paths edits parts.1 path (In-from_contains paths path there));
+        fits = fits;
+      }
+
+  comes : CanAnnotate places additions how scope tree → (edits : List Edit) × (annotation_edits places additions how scope tree ≡ Ok edits)
+  comes can =
+      let at = annotated_at how scope additions can.own tree in
+      let paths = selected_paths scope places tree in
+      let all = all_at at paths (λ path there. accepted_is_done additions how scope can.own tree path (can.each path (Contains-from_in paths path there))) in
+      (all.0, ap edits_named can.styles ∙ ap (λ b. cond b (Err (refusals.IsFolder place.Root)) (edits_at at paths)) (test_from_root scope.recursive (has_root places) can.root) ∙ all.1)
+
+  pub annotation_accepted : ReplacesBlock → InsertsBlock → ReplacesNeighbour → InsertsNeighbour → ((after : Files) × (outcome_of (Annotate places additions how scope) tree ≡ Ok after)) ↔ CanAnnotate places additions how scope tree
+  unfolding outcome_of
+  annotation_accepted replaces inserts replaces_beside inserts_beside = (
+    λ given.
+        let of_tree = edits_of_tree tree given.0 (edits_of (Annotate places additions how scope) tree) given.1 in
+        accepts replaces inserts replaces_beside inserts_beside of_tree.0 (styles_in tree) refl (sym (of_annotation places additions how scope tree) ∙ of_tree.1) (held tree given.0 (edits_of (Annotate places additions how scope) tree) given.1),
+    λ can. let edits = comes can in tree_comes tree (edits_of (Annotate places additions how scope) tree) edits.0 (of_annotation places additions how scope tree ∙ edits.1) can.fits,
+  )
+
+-- ---- the path outcomes of an annotation: which files are skipped, and what stays
 
 -- ---- one path
 

@@ -15,9 +15,8 @@ use Rattle.reuse_session.specs.plan.Annotate.{annotated_at}
 use Rattle.reuse_session.specs.session.Command.{has_root}
 use Rattle.reuse_session.specs.plan.Conversion.{conversion_edits}
 use Rattle.reuse_session.specs.plan.Downloads.{id_refusal, ids_refusal, id_refusals, licence_edit, unless_refused, or_else, downloads_at, download_edits}
-use Rattle.reuse_session.specs.plan.Edit.{Edit}
 use Rattle.reuse_session.specs.plan.Licence.{licence_path}
-use Rattle.reuse_session.specs.plan.Outcome.{annotation_at, amendment_at, annotations_by, amendments_by, edits_of}
+use Rattle.reuse_session.specs.plan.Outcome.{Edit, annotation_at, amendment_at, annotations_by, amendments_by, edits_of}
 use Rattle.reuse_session.specs.plan.PathEdits.{PathEdit, refused_with, refused_alone, all_or_none, with_edit, or_first, edits_in}
 use Rattle.reuse_session.specs.plan.Reverting.{back_or_refused, reverted_at, taken_back_unless}
 use Rattle.reuse_session.specs.plan.TreeStyles.{OwnNames, styles_in}

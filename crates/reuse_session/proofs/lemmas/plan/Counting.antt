@@ -1,16 +1,15 @@
 -- What a call counts while it plans.
-use Rattle.std.proofs.Common.{◌≡◌, ◌∙◌, ℕ, suc, Bool, true, false, cond, List, [], ◌∷◌, ◌++◌, length, filter, map, Result, Ok, Err, OnOk, refl, sym, ap, subst}
-use Rattle.reuse_tree.specs.Files.{Files, tree_of}
+use Rattle.std.proofs.Common.{◌≡◌, ◌∙◌, ℕ, suc, Bool, true, false, cond, List, [], ◌∷◌, ◌++◌, map, Result, Ok, Err, OnOk, refl, sym, ap, subst}
+use Rattle.reuse_tree.specs.Files.{Files}
 use Rattle.reuse_tree.specs.declared.store.Store.{Ghosts}
 use Rattle.reuse_session.specs.session.Calls.{LeavesRun}
 use Rattle.reuse_session.specs.plan.Counted.{skipped_count, skipped_planned}
-use Rattle.reuse_session.specs.plan.Edit.{Edit}
 use Rattle.reuse_session.specs.session.PathOutcomes.{path_outcome_of, path_outcomes_of, limit_path_outcomes}
 use Rattle.reuse_session.specs.journal.Journal.{State}
-use Rattle.reuse_session.specs.plan.Outcome.{edits_of, path_edits_of, is_too_many}
+use Rattle.reuse_session.specs.plan.Outcome.{Edit, edits_of, path_edits_of, is_too_many}
 use Rattle.reuse_session.specs.plan.PathPlans.{ArePlansOf, path_outcome_planned}
 use Rattle.reuse_session.specs.session.Previews.{path_outcomes_alone}
-use Rattle.reuse_session.specs.session.Session.{store_of, StandsOn}
+use Rattle.reuse_session.specs.session.Session.{StandsOn}
 use Rattle.reuse_session.specs.declared.command.Command.{Command}
 use Rattle.reuse_session.specs.declared.plan.counts.Counts.{Counts}
 use Rattle.reuse_session.specs.declared.path_outcome.PathOutcome.{PathOutcome}

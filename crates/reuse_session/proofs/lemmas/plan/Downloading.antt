@@ -1,37 +1,44 @@
--- A download: the files that it makes, where no id is refused.
-use Rattle.std.proofs.Common.{◌≡◌, inl, inr, ℕ, ◌≤◌, Bool, true, false, cond, ◌||◌, nat_lt, List, [], ◌∷◌, length, map, Option, Some, None, is_some, unwrap_or, Ok, refl, sym, ap, ◌∙◌, subst}
-use Rattle.std.specs.List.{AllByRecursion}
-use Rattle.std.specs.Option.{option_or}
-use Rattle.std.specs.FinMap.{get}
+-- A download: what is found for its ids, and the files that it makes.
+use Rattle.std.proofs.Common.{◌≡◌, inl, inr, ℕ, ◌≤◌, Bool, true, false, cond, ◌||◌, nat_lt, List, [], ◌∷◌, length, map, Option, Some, None, IsSome, is_some, unwrap_or, Ok, refl, sym, ap, ◌∙◌, subst, arith, ◌++◌, append_assoc, bytes_eq}
+use Rattle.std.specs.List.{AllByRecursion, cons_option}
+use Rattle.std.specs.Option.{option_or, option_map}
+use Rattle.reuse_session.specs.session.Reading.{get, Files}
 use Rattle.std.proofs.lemmas.Bool.{false≢true, le-ltb, ltb-false}
-use Rattle.std.specs.Str.{bytes_eq}
 use Rattle.std.proofs.lemmas.Slice.Eq.{bytes_eq-Decides}
 use Rattle.reuse_notice.specs.Sets.{set_of}
 use Rattle.reuse_notice.proofs.SetLemmas.{In, In-set_of, sorted-set_of}
 use Rattle.reuse_tree.specs.Path.{is_path, lies_under}
 use Rattle.reuse_text.specs.declared.TheConstants.{LONGEST_FILE}
 use Rattle.reuse_tree.specs.Tree.{is_of_tree}
-use Rattle.reuse_tree.specs.Files.{Files}
 use Rattle.reuse_tree.specs.declared.change.Change.{Change}
 use Rattle.reuse_tree.specs.Clash.{is_clash, is_clash_of}
 use Rattle.reuse_session.specs.plan.Edit.{Edit}
 use Rattle.reuse_tree.specs.Listing.{ArePaths, is_among}
 use Rattle.reuse_session.specs.plan.Licence.{is_id, licence_path, licence_id}
-use Rattle.reuse_session.specs.plan.Downloads.{text_for, refusal_of_found, id_refusal, ids_refusal, licence_edit, unless_refused, download_of, download_edits}
-use Rattle.reuse_session.specs.plan.DownloadPlan.{made_at}
-use Rattle.reuse_session.specs.plan.Refused.{IsRefused}
+use Rattle.reuse_session.specs.plan.Downloads.{text_for, refusal_of_found, id_refusal, ids_refusal, licence_edit, unless_refused, download_of, download_edits, id_refusals}
+use Rattle.reuse_session.specs.plan.DownloadPlan.{made_at, HasText}
 use Rattle.reuse_session.specs.plan.Shown.{Shows}
 use Rattle.reuse_session.specs.plan.Plan.{CarriesOutEdit, MakesEach, MakesEdits, IsRefusalOf}
 use Rattle.reuse_session.specs.declared.plan.licence.LicenceText.{LicenceText}
 use Rattle.reuse_session.specs.declared.reply.Refusal.{Refusal}
-use Rattle.reuse_session.specs.declared.failure.Failure.TheVariants as failures
 use Rattle.reuse_session.specs.declared.reply.Refusal.TheVariants as refusals
 use Rattle.reuse_tree.proofs.Testing.{clashes_keys}
-use Rattle.reuse_session.proofs.lemmas.plan.LicenceLemmas.{id_of_path, id_bytes, path_is_good, path_of_tree, paths_apart}
+use Rattle.reuse_session.proofs.lemmas.plan.LicenceLemmas.{name_length, id_of_path, id_bytes, path_is_good, path_of_tree, paths_apart}
 use Rattle.reuse_tree.proofs.TreeLemmas.{among_keys}
 use Rattle.reuse_session.proofs.lemmas.plan.Outcomes.{edits_unless}
 use Rattle.reuse_session.proofs.lemmas.plan.Planning.{paths_at, IsFit, AreEdits}
 use Rattle.reuse_session.proofs.lemmas.Results.{none_from_test}
+use Rattle.reuse_session.specs.plan.PathEdits.{PathEdit, refused_with, edits_in}
+use Rattle.reuse_session.specs.plan.PathPlans.{IsPlanOf, EndsWalk}
+use Rattle.reuse_session.specs.session.Previews.{IsTold}
+use Rattle.reuse_session.specs.plan.Refused.{IsRefused}
+use Rattle.reuse_session.specs.declared.plan.path_plan.PathPlan.{PathPlan}
+use Rattle.reuse_session.specs.declared.plan.path_plan.Policy.{Policy}
+use Rattle.reuse_session.specs.declared.failure.Failure.TheVariants.{Fault, Memory}
+use Rattle.reuse_session.specs.declared.reply.Refusal.TheVariants.{Failed}
+use Rattle.reuse_session.proofs.lemmas.plan.PathPlanning.{WalkedSoFar, after_plan, at_refusal, is_refusal_of}
+
+-- ---- a download: the files that it makes, where no id is refused
 
 -- ---- an id that isn't refused
 
@@ -84,6 +91,25 @@ module _ (tree : Files) (texts : List LicenceText) (id : List ℕ) where
 
 -- ---- several ids
 
+all_of_each : (P : List ℕ → Type 0) (paths : List (List ℕ)) → ((path : List ℕ) → In path paths → P path) → AllByRecursion P paths
+all_of_each P [] each = tt
+all_of_each P (path ∷ paths) each = (each path (inl refl), all_of_each P paths (λ p h. each p (inr h)))
+
+each_of_all : (P : List ℕ → Type 0) (paths : List (List ℕ)) → AllByRecursion P paths → (path : List ℕ) → In path paths → P path
+each_of_all P [] all path h = absurd h
+each_of_all P (first ∷ paths) all path (inl e) = subst P (sym e) all.0
+each_of_all P (first ∷ paths) all path (inr h) = each_of_all P paths all.1 path h
+
+-- the text that was found for an id is found again by the path of its file
+pub has_text : (texts : List LicenceText) (id path : List ℕ) → path ≡ licence_path id → IsSome (text_for texts id) → HasText texts path
+has_text texts id path here some =
+    let n = name_length id in
+    let long : 13 ≤ length (licence_path id) = omega (arith, n) in
+    (subst (λ p. 13 ≤ length p) (sym here) long, subst (λ i. IsSome (text_for texts i)) (sym (ap licence_id here ∙ id_of_path id)) some)
+
+pub sorted_have_texts : (texts : List LicenceText) (paths : List (List ℕ)) → AllByRecursion (HasText texts) paths → AllByRecursion (HasText texts) (set_of paths)
+sorted_have_texts texts paths all = all_of_each (HasText texts) (set_of paths) (λ p h. each_of_all (HasText texts) paths all p (In-set_of paths p h))
+
 abbrev AreMade : Files → List LicenceText → List (List ℕ) → Type 0
 AreMade tree texts paths = AllByRecursion (IsMade tree texts) paths
 
@@ -97,12 +123,8 @@ module _ (tree : Files) (texts : List LicenceText) where
   each_made (id ∷ ids) none path (inl e) = subst (IsMade tree texts) (sym e) (made_of tree texts id (or_none (id_refusal tree texts id) (ids_refusal tree texts ids) none).0)
   each_made (id ∷ ids) none path (inr h) = each_made ids (or_none (id_refusal tree texts id) (ids_refusal tree texts ids) none).1 path h
 
-  all_made : (paths : List (List ℕ)) → ((path : List ℕ) → In path paths → IsMade tree texts path) → AreMade tree texts paths
-  all_made [] each = tt
-  all_made (path ∷ paths) each = (each path (inl refl), all_made paths (λ p h. each p (inr h)))
-
   pub are_made : (ids : List (List ℕ)) → ids_refusal tree texts ids ≡ None → AreMade tree texts (set_of (map licence_path ids))
-  are_made ids none = all_made (set_of (map licence_path ids)) (λ p h. each_made ids none p (In-set_of (map licence_path ids) p h))
+  are_made ids none = all_of_each (IsMade tree texts) (set_of (map licence_path ids)) (λ p h. each_made ids none p (In-set_of (map licence_path ids) p h))
 
   -- ---- the changes
 
@@ -181,30 +203,16 @@ download_makes ids texts tree changes none are = (
   subst (λ cs. MakesEach tree cs (map (licence_edit texts) (set_of (map licence_path ids)))) (sym are) (makes_each tree texts (set_of (map licence_path ids)) (are_made tree texts ids none)),
 )
 
--- a refusal of the ids is that of the download
-pub refusal_due : (given : Option Refusal) (edits : List Edit) (r : Refusal) → IsRefused given r → IsRefusalOf (unless_refused given edits) r
-refusal_due given edits (refusals.Failed failures.Memory) e = tt
-refusal_due given edits (refusals.Failed (failures.Fault fault)) e = tt
-refusal_due given edits refusal e = ap (λ g. unless_refused g edits) e
-
 -- ---- one id
 
 second_due : (a b c : Bool) (x y z : Refusal) → a ≡ false → b ≡ true → cond a (due x) (cond b (due y) (cond c (due z) None)) ≡ due y
-second_due false true c x y z e f = refl
-second_due true b c x y z e f = absurd (false≢true (sym e))
-second_due false false c x y z e f = absurd (false≢true f)
+second_due a b c x y z e f = rw (e, f)
 
 third_due : (a b c : Bool) (x y z : Refusal) → a ≡ false → b ≡ false → c ≡ true → cond a (due x) (cond b (due y) (cond c (due z) None)) ≡ due z
-third_due false false true x y z e f g = refl
-third_due true b c x y z e f g = absurd (false≢true (sym e))
-third_due false true c x y z e f g = absurd (false≢true (sym f))
-third_due false false false x y z e f g = absurd (false≢true g)
+third_due a b c x y z e f g = rw (e, f, g)
 
 pub none_due : (a b c : Bool) (x y z : Refusal) → a ≡ false → b ≡ false → c ≡ false → cond a (due x) (cond b (due y) (cond c (due z) None)) ≡ None
-none_due false false false x y z e f g = refl
-none_due true b c x y z e f g = absurd (false≢true (sym e))
-none_due false true c x y z e f g = absurd (false≢true (sym f))
-none_due false false true x y z e f g = absurd (false≢true (sym g))
+none_due a b c x y z e f g = rw (e, f, g)
 
 -- what was found for the id is a text that isn't too long; these paths show what stands at its path
 module _ (tree : Files) (id path text : List ℕ) (paths : List (List ℕ)) (found : Option (List ℕ))
@@ -229,7 +237,55 @@ module _ (tree : Files) (id path text : List ℕ) (paths : List (List ℕ)) (fou
   made_answer e f =
       ap (refusal_of_found tree id) is ∙ none_due _ _ _ (refusals.TooLong (licence_path id)) (refusals.Exists (licence_path id)) (refusals.Clash (licence_path id)) (le-ltb LONGEST_FILE (length text) short) (there false e) (clashes false f)
 
--- the first refusal stands
-pub first_refused : (given more : Option Refusal) (r : Refusal) → IsRefused given r → IsRefused (option_or given more) r
-first_refused given more (refusals.Failed failures.Memory) e = tt
-first_refused given more refusal e = ap (λ g. option_or g more) e
+-- ---- what is found for the ids of a download, one after the other
+
+-- one path more whose text was found
+pub one_text_more : (texts : List LicenceText) (paths : List (List ℕ)) (path : List ℕ) → AllByRecursion (HasText texts) paths → HasText texts path → AllByRecursion (HasText texts) (paths ++ path ∷ [])
+one_text_more texts [] path all is = (is, tt)
+one_text_more texts (first ∷ paths) path all is = (all.0, one_text_more texts paths path all.1 is)
+
+-- a refusal that is told is the one that is due
+is_due : (due : Option Refusal) (refusal : Refusal) → IsTold refusal → IsRefused due refusal → due ≡ Some refusal
+is_due due (Failed failure) told is = absurd told
+is_due due refusal told is = is
+
+none_after : {A : Type 0} (done : List A) (x : A) (rest : List A) → done ++ x ∷ rest ≡ [] → ⊥
+none_after [] x rest e = cc
+none_after (y ∷ done) x rest e = cc
+
+module _ (policy : Policy) (tree : Files) (texts : List LicenceText) (all : List PathEdit) (id : List ℕ) (rest : List (List ℕ)) (plans : List PathPlan)
+    (so : WalkedSoFar policy tree all (id_refusals tree texts (id ∷ rest)) plans) where
+  unrefused : id_refusal tree texts id ≡ None → id_refusals tree texts (id ∷ rest) ≡ id_refusals tree texts rest
+  unrefused none = ap (λ o. cons_option (option_map refused_with o) (id_refusals tree texts rest)) none
+
+  is_refused : (refusal : Refusal) → id_refusal tree texts id ≡ Some refusal → id_refusals tree texts (id ∷ rest) ≡ refused_with refusal ∷ id_refusals tree texts rest
+  is_refused refusal some = ap (λ o. cons_option (option_map refused_with o) (id_refusals tree texts rest)) some
+
+  -- an id of which a file is made
+  pub after_made : id_refusal tree texts id ≡ None → WalkedSoFar policy tree all (id_refusals tree texts rest) plans
+  after_made none = subst (λ left. WalkedSoFar policy tree all left plans) (unrefused none) so
+
+  -- one that is refused
+  pub after_refused : (refusal : Refusal) (one : PathPlan) → IsTold refusal → IsRefused (id_refusal tree texts id) refusal → IsPlanOf policy tree (refused_with refusal) one
+      → WalkedSoFar policy tree all (id_refusals tree texts rest) (plans ++ one ∷ [])
+  after_refused refusal one told is planned =
+      after_plan policy tree all (refused_with refusal) (id_refusals tree texts rest) plans one
+      (subst (λ left. WalkedSoFar policy tree all left plans) (is_refused refusal (is_due (id_refusal tree texts id) refusal told is)) so) planned
+
+  pub some_refused : (refusal : Refusal) → IsTold refusal → IsRefused (id_refusal tree texts id) refusal → all ≡ [] → ⊥
+  some_refused refusal told is none =
+      none_after so.done (refused_with refusal) (id_refusals tree texts rest) (ap (λ left. so.done ++ left) (sym (is_refused refusal (is_due (id_refusal tree texts id) refusal told is))) ∙ so.same ∙ none)
+
+  -- one at which the walk ends
+  pub ended : (refusal : Refusal) → EndsWalk policy refusal → IsRefused (id_refusal tree texts id) refusal → IsRefusalOf (edits_in all) refusal
+  ended (Failed Memory) ends is = tt
+  ended (Failed (Fault fault)) ends is = tt
+  ended refusal ends is =
+      at_refusal policy tree all (refused_with refusal) (id_refusals tree texts rest) plans refusal (subst (λ left. WalkedSoFar policy tree all left plans) (is_refused refusal is) so) ends
+      (is_refusal_of (refused_with refusal).edit refusal refl)
+
+-- the paths so far, and those of the ids that are left
+pub paths_after : (made paths : List (List ℕ)) (id path : List ℕ) (rest all : List (List ℕ)) → path ≡ licence_path id → paths ≡ made ++ path ∷ [] → made ++ map licence_path (id ∷ rest) ≡ all
+    → paths ++ map licence_path rest ≡ all
+paths_after made paths id path rest all here pushed so =
+    ap (λ ps. ps ++ map licence_path rest) pushed ∙ append_assoc made (path ∷ []) (map licence_path rest) ∙ ap (λ p. made ++ p ∷ map licence_path rest) here ∙ so

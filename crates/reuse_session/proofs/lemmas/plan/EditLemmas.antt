@@ -1,9 +1,7 @@
--- The change of a place, by what an annotation makes of its bytes.
-use Rattle.std.proofs.Common.{◌≡◌, ℕ, zero, suc, ◌+◌, ◌≤◌, Bool, true, false, cond, not, ◌&&◌, List, [], ◌++◌, length, take, drop, Option, Some, None, IsSome, is_some, nat_lt, Result, Ok, Err, refl, sym, ap, ap₂, subst, ◌∙◌}
-use Rattle.std.specs.Option.{option_map}
-use Rattle.std.specs.Str.{bytes_eq}
-use Rattle.std.specs.FinMap.{get}
-use Rattle.std.proofs.lemmas.Bool.{false≢true}
+-- The edit of a file, and whether the file is skipped.
+use Rattle.std.proofs.Common.{◌≡◌, ℕ, zero, suc, ◌+◌, ◌≤◌, Bool, true, false, cond, not, ◌&&◌, List, [], ◌++◌, length, take, drop, Option, Some, None, IsSome, is_some, nat_lt, Result, Ok, Err, refl, sym, ap, ap₂, subst, ◌∙◌, bytes_eq, option_map}
+use Rattle.reuse_session.specs.session.Reading.{get, Files}
+use Rattle.std.proofs.lemmas.Bool.{false≢true, and_right}
 use Rattle.std.proofs.lemmas.List.{append-nil}
 use Rattle.reuse_header.specs.declared.style.Style.{Style}
 use Rattle.reuse_header.specs.declared.annotation.HeaderRefusal.{HeaderRefusal}
@@ -11,14 +9,13 @@ use Rattle.reuse_header.specs.declared.annotation.Splice.{Splice}
 use Rattle.reuse_header.specs.Annotation as header
 use Rattle.reuse_header.specs.Header.{header_of}
 use Rattle.reuse_header.specs.Splices.{answer_of}
-use Rattle.reuse_tree.specs.Files.{Files}
 use Rattle.reuse_tree.specs.Change.{sealed_make, sealed_splice}
 use Rattle.sha2.specs.Sha256.{sha256}
 use Rattle.reuse_text.specs.declared.TheConstants.{LONGEST_FILE}
 use Rattle.reuse_session.specs.plan.Edit.{Edit}
 use Rattle.reuse_header.specs.Neighbour.{neighbour_annotation_of}
 use Rattle.reuse_session.specs.plan.Annotate.{neighbour_of, neighbour_is_tagged, goes_beside, target_of, edit_by, annotated_where}
-use Rattle.reuse_session.specs.plan.AnnotationPlan.{own_of, annotated_by, beside_by, neighbour_by, inside_by, place_by, edit_by_place}
+use Rattle.reuse_session.specs.plan.AnnotationPlan.{own_of, annotated_by, beside_by, neighbour_by, inside_by, place_by, edit_by_place, path_by, path_beside_by, path_by_place, path_inside_by, path_neighbour_by}
 use Rattle.reuse_tree.specs.Clash.{is_clash}
 use Rattle.reuse_session.specs.plan.Covered.{is_covered}
 use Rattle.reuse_session.specs.declared.reply.Refusal.TheVariants as refusals
@@ -29,7 +26,11 @@ use Rattle.reuse_session.specs.plan.Steps.{short_file}
 use Rattle.reuse_session.specs.declared.plan.annotation.Annotation.{Annotation}
 use Rattle.reuse_session.specs.declared.reply.Refusal.{Refusal}
 use Rattle.reuse_session.proofs.lemmas.plan.SpliceLemmas.{makes_splice}
-use Rattle.reuse_session.proofs.lemmas.plan.TargetReasons.{aimed}
+use Rattle.reuse_session.proofs.lemmas.plan.AnnotatedFiles.{aimed}
+use Rattle.reuse_session.specs.plan.Skipped.{has_tagged, is_skipped, is_skipped_at, is_skipped_where}
+use Rattle.reuse_session.specs.plan.PathEdits.{PathEdit}
+
+-- ---- the change of a place, by what an annotation makes of its bytes
 
 -- what is known of each edit is known of an annotation
 pub fits_by : (bytes : List ℕ) (due : Due) → ((edit : header.Edit) → due ≡ Ok edit → (edit.start + edit.old_len ≤ length bytes) × (length (header.edited bytes edit) ≤ LONGEST_FILE)) → Fits bytes due
@@ -42,12 +43,6 @@ answered splice = Ok splice
 abbrev pub edited_to : Option Edit → Result (Option Edit) Refusal
 edited_to edit = Ok edit
 
-refused_is_none : (refusal : HeaderRefusal) (splice : Splice) → Err refusal ≡ answered (Some splice) → ⊥
-refused_is_none refusal splice e = cc
-
-none_is_some : (splice : Splice) → answered None ≡ answered (Some splice) → ⊥
-none_is_some splice e = cc
-
 same_splice : (one other : Splice) → answered (Some one) ≡ answered (Some other) → one ≡ other
 same_splice one other e = cc
 
@@ -55,7 +50,7 @@ same_splice one other e = cc
 pub change_made : (tree : Files) (path at clone bytes : List ℕ) (due : Due) (splice : Splice) → get tree at ≡ Some bytes → length bytes ≤ LONGEST_FILE → Fits bytes due
     → answer_of bytes due ≡ answered (Some splice) → clone ≡ at
     → MakesEdit tree (edit_by path at bytes due) (Some (sealed_splice clone bytes splice.at splice.old splice.new))
-change_made tree path at clone bytes (Err refusal) splice here short fits answer same = absurd (refused_is_none refusal splice answer)
+change_made tree path at clone bytes (Err refusal) splice here short fits answer same = absurd (cc)
 change_made tree path at clone bytes (Ok edit) splice here short fits answer same = by_test (bytes_eq (header.edited bytes edit) bytes) refl answer
   where
     it : Edit
@@ -69,7 +64,7 @@ change_made tree path at clone bytes (Ok edit) splice here short fits answer sam
 
     by_test : (b : Bool) → bytes_eq (header.edited bytes edit) bytes ≡ b → answered (cond b None (Some made)) ≡ answered (Some splice)
         → (x : Edit) × (cond b (edited_to None) (edited_to (Some it)) ≡ edited_to (Some x)) × CarriesOutEdit tree (sealed_splice clone bytes splice.at splice.old splice.new) x
-    by_test true e h = absurd (none_is_some splice h)
+    by_test true e h = absurd (cc)
     by_test false e h = (
       it,
       refl,
@@ -88,7 +83,7 @@ drop_none (suc n) = refl
 -- the change that makes a file
 pub making_made : (tree : Files) (path at clone : List ℕ) (due : Due) (splice : Splice) → get tree at ≡ None → Fits [] due → answer_of [] due ≡ answered (Some splice) → clone ≡ at
     → MakesEdit tree (edit_by path at [] due) (Some (sealed_make clone splice.new))
-making_made tree path at clone (Err refusal) splice here fits answer same = absurd (refused_is_none refusal splice answer)
+making_made tree path at clone (Err refusal) splice here fits answer same = absurd (cc)
 making_made tree path at clone (Ok edit) splice here fits answer same = by_test (bytes_eq (header.edited [] edit) []) answer
   where
     it : Edit
@@ -113,7 +108,7 @@ making_made tree path at clone (Ok edit) splice here fits answer same = by_test 
 
     by_test : (b : Bool) → answered (cond b None (Some made)) ≡ answered (Some splice)
         → (x : Edit) × (cond b (edited_to None) (edited_to (Some it)) ≡ edited_to (Some x)) × CarriesOutEdit tree (sealed_make clone splice.new) x
-    by_test true h = absurd (none_is_some splice h)
+    by_test true h = absurd (cc)
     by_test false h = (
       it,
       refl,
@@ -194,3 +189,39 @@ module _ (asked : Annotation) (tree : Files) (path : List ℕ) where
       ap (annotated_where asked.how.now asked.scope.now asked.additions.now (own_of asked) tree path) here
       ∙ ap (λ t. cond (not t) (refused (refusals.NotCovered path)) (edit_by_place asked tree path bytes (target_of asked.scope.now (own_of asked) tree path bytes))) covered
       ∙ ap (λ t. edit_by_place asked tree path bytes (cond t (aimed Beside) (place_by asked path bytes))) beside
+
+-- ---- files that annotate goes through: whether they are skipped, by the place that is chosen
+
+module _ (asked : Annotation) (tree : Files) (path : List ℕ) where
+  skipped_is : (bytes : List ℕ) (b : Bool) → get tree path ≡ Some bytes → goes_beside asked.scope.now (own_of asked) tree path ≡ b
+      → is_skipped asked.scope.now (own_of asked) tree path ≡ is_skipped_at asked.scope.now tree path bytes (cond b (aimed Beside) (place_by asked path bytes))
+  skipped_is bytes b here beside =
+      ap (is_skipped_where asked.scope.now (own_of asked) tree path) here ∙ ap (λ t. is_skipped_at asked.scope.now tree path bytes (cond t (aimed Beside) (place_by asked path bytes))) beside
+
+  -- what is done at a covered file, by the place
+  pub path_is : (bytes : List ℕ) (b : Bool) → get tree path ≡ Some bytes → is_covered path ≡ true → goes_beside asked.scope.now (own_of asked) tree path ≡ b
+      → path_by asked tree path ≡ path_by_place asked tree path bytes (cond b (aimed Beside) (place_by asked path bytes))
+  path_is bytes b here covered beside =
+      ap₂ (λ s e. record { path = path; skipped = s; edit = e }) (skipped_is bytes b here beside) (covered_is asked tree path bytes b here covered beside)
+
+  -- where the neighbour is the place, by what it holds
+  pub path_beside_is : (file : Option (List ℕ)) → nat_lt 4096 (length (neighbour_of path)) ≡ false → get tree (neighbour_of path) ≡ file → path_beside_by asked tree path ≡ path_neighbour_by asked tree path file
+  path_beside_is file short is =
+      ap₂ (λ s e. record { path = path; skipped = s; edit = e }) (ap (λ f. asked.scope.now.skip_existing && has_tagged f) is) (beside_is asked tree path file short is)
+
+  -- no file is skipped for a neighbour that isn't there
+  pub new_is_unskipped : path_neighbour_by asked tree path None ≡ record { path = path; skipped = false; edit = neighbour_by asked tree path None }
+  new_is_unskipped = ap (λ s. record { path = path; skipped = s; edit = neighbour_by asked tree path None }) (and_right asked.scope.now.skip_existing false refl)
+
+-- a file that isn't skipped
+abbrev pub unskipped : List ℕ → Result (Option Edit) Refusal → PathEdit
+unskipped path edit = record { path = path; skipped = false; edit = edit }
+
+module _ (asked : Annotation) (path : List ℕ) where
+  pub inside_unskipped : (bytes : List ℕ) (style : Style) → (asked.scope.now.skip_existing && is_some (header_of style bytes)) ≡ false
+      → path_inside_by asked path bytes style ≡ unskipped path (edit_by path path bytes (header.annotation_of style asked.how.now asked.additions.now bytes))
+  inside_unskipped bytes style kept = ap₂ (λ s e. record { path = path; skipped = s; edit = e }) kept (inside_is asked path bytes style kept)
+
+  pub beside_unskipped : (tree : Files) (bytes : List ℕ) → nat_lt LONGEST_FILE (length bytes) ≡ false → (asked.scope.now.skip_existing && neighbour_is_tagged bytes) ≡ false
+      → path_neighbour_by asked tree path (Some bytes) ≡ unskipped path (edit_by path (neighbour_of path) bytes (neighbour_annotation_of asked.how.now asked.additions.now bytes))
+  beside_unskipped tree bytes short kept = ap₂ (λ s e. record { path = path; skipped = s; edit = e }) kept (neighbour_is asked tree path bytes short kept)

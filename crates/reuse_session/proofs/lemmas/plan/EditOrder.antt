@@ -1,17 +1,14 @@
 -- Changes in another order make the same tree.
-use Rattle.std.proofs.Common.{◌≡◌, ◌≢◌, ◌⊎◌, inl, inr, ℕ, zero, suc, ◌+◌, ◌<◌, Bool, true, false, cond, ◌||◌, nat_lt, List, [], ◌∷◌, ◌++◌, length, map, take, drop, get_or, Less, Equal, Greater, Ordering, Option, Some, None, Result, Ok, Err, refl, sym, ap, ap₂, subst, ◌∙◌, arith, length-append, append_assoc}
-use Rattle.std.specs.Ordering.{nat_cmp, is_lt, ordering_reverse}
-use Rattle.std.specs.Prelude.{Contains}
-use Rattle.std.specs.Cmp.Lexicographic.{slice_cmp, nat_list_cmp_total}
+use Rattle.std.proofs.Common.{◌≡◌, ◌⊎◌, inl, inr, ℕ, zero, suc, ◌+◌, ◌<◌, Bool, true, false, cond, ◌||◌, nat_lt, List, [], ◌∷◌, ◌++◌, length, map, take, drop, get_or, Less, Equal, Greater, Ordering, Option, Some, None, Result, Ok, Err, refl, sym, ap, ap₂, subst, ◌∙◌, arith, length-append, append_assoc, Contains, bytes_eq, IsPermutation, IsSortedBy}
+use Rattle.std.specs.Ordering.{nat_cmp, is_lt, ordering_reverse, is_eq}
+use Rattle.std.specs.Cmp.Lexicographic.{slice_cmp, nat_list_cmp_total, nat_list_eq_equiv}
 use Rattle.std.specs.List.{All, AllByRecursion, IsDistinct}
-use Rattle.std.specs.List.Sorted.{IsPermutation, IsSortedBy}
-use Rattle.std.specs.Str.{bytes_eq}
 use Rattle.std.specs.FinMap.{get}
 use Rattle.std.proofs.lemmas.Bool.{false≢true, or_cases}
 use Rattle.std.proofs.lemmas.List.{length-map, get_or-map}
-use Rattle.std.proofs.lemmas.List.Elements.{All-cons, All-nil}
+use Rattle.std.proofs.lemmas.List.Elements.{All-from_recursion, recursion_from_All}
 use Rattle.std.proofs.lemmas.List.Sorted.{IsPermutation-map, All-permutation, Contains-permutation, length_permutation, sum_by-IsPermutation, list_any-IsPermutation}
-use Rattle.std.proofs.lemmas.Map.Keys.{IsDistinct-IsPermutation, sorted_from_all_adjacent}
+use Rattle.std.proofs.lemmas.Map.Keys.{IsDistinct-head, IsDistinct-tail, IsDistinct-IsPermutation, sorted_from_all_adjacent}
 use Rattle.std.proofs.lemmas.Map.Text.{is_eq-slice_cmp}
 use Rattle.std.proofs.lemmas.Slice.Eq.{bytes_eq-Decides}
 use Rattle.reuse_tree.specs.Path.{lies_under}
@@ -26,10 +23,7 @@ use Rattle.reuse_session.specs.declared.reply.Refusal.TheVariants.{TooMany}
 use Rattle.reuse_tree.specs.Listing.{ArePaths, is_among}
 use Rattle.reuse_session.specs.plan.Outcome.{Edit, edited, edit_size, is_too_many, tree_after}
 use Rattle.reuse_session.specs.plan.Plan.{IsPlan, is_before, CarriesOutEdit, MakesEach, MakesEdits}
-use Rattle.reuse_session.proofs.lemmas.plan.Planning.{paths_at, with_same, with_other, edited_other, EachHas, IsFit, AreEdits, same_many, plan_of_edits}
-use Rattle.reuse_session.specs.plan.Outcome.{with_file}
-use Rattle.std.specs.Ordering.{is_eq}
-use Rattle.std.specs.Cmp.Lexicographic.{nat_list_eq_equiv}
+use Rattle.reuse_session.proofs.lemmas.plan.Planning.{paths_at, edited_other, EachHas, AreDistinct, each_has, IsFit, AreEdits, all_do, same_many, plan_of_edits}
 use Rattle.std.proofs.Math.Seq.{take-append_seam}
 
 -- ---- the edit that a change makes
@@ -75,51 +69,20 @@ made_is tree c e makes =
 
 list_made : (tree : Files) (changes : List Change) (edits : List Edit) → MakesEach tree changes edits → edits ≡ map (edit_made tree) changes
 list_made tree [] [] each = refl
-list_made tree [] (e ∷ edits) each = absurd each
-list_made tree (c ∷ changes) [] each = absurd each
 list_made tree (c ∷ changes) (e ∷ edits) each = ap₂ (λ x xs. x ∷ xs) (made_is tree c e each.0) (list_made tree changes edits each.1)
+list_made tree changes edits each = absurd each
 
 abbrev MakesIts : Files → Change → Type 0
 MakesIts tree c = CarriesOutEdit tree c (edit_made tree c)
 
 all_made : (tree : Files) (changes : List Change) (edits : List Edit) → MakesEach tree changes edits → All (MakesIts tree) changes
-all_made tree [] [] each = All-nil (MakesIts tree)
-all_made tree [] (e ∷ edits) each = absurd each
-all_made tree (c ∷ changes) [] each = absurd each
-all_made tree (c ∷ changes) (e ∷ edits) each =
-    All-cons (MakesIts tree) c changes (subst (CarriesOutEdit tree c) (made_is tree c e each.0) each.0) (all_made tree changes edits each.1)
+all_made tree = all_do tree (MakesIts tree) (λ c e makes. subst (CarriesOutEdit tree c) (made_is tree c e makes) makes)
 
 each_made : (tree : Files) (changes : List Change) → All (MakesIts tree) changes → MakesEach tree changes (map (edit_made tree) changes)
 each_made tree [] all = tt
 each_made tree (c ∷ changes) all = (all 0 c (omega arith), each_made tree changes (λ k d h. all (suc k) d (omega arith)))
 
 -- ---- edits of distinct paths
-
-abbrev pub AreDistinct : List Edit → Type 0
-AreDistinct edits = IsDistinct bytes_eq (paths_at edits)
-
-distinct_head : (p : List ℕ) (ps : List (List ℕ)) → IsDistinct bytes_eq (p ∷ ps) → AllByRecursion (λ q. bytes_eq p q ≡ false) ps
-unfolding IsDistinct
-distinct_head p ps h = h.0
-
-distinct_tail : (p : List ℕ) (ps : List (List ℕ)) → IsDistinct bytes_eq (p ∷ ps) → IsDistinct bytes_eq ps
-unfolding IsDistinct
-distinct_tail p ps h = h.1
-
-other_path : (p q : List ℕ) → bytes_eq p q ≡ false → q ≢ p
-other_path p q h same = false≢true (sym h ∙ (bytes_eq-Decides p q).1 (sym same))
-
-still_has : (files : Files) (path : List ℕ) (file : Option (List ℕ)) (edits : List Edit) → AllByRecursion (λ p. bytes_eq path p ≡ false) (paths_at edits) → EachHas files edits → EachHas (with_file files path file) edits
-still_has files path file [] others each = tt
-still_has files path file (e ∷ edits) others each =
-    (with_other files path file e.path (other_path path e.path others.0) ∙ each.0, still_has files path file edits others.1 each.1)
-
-each_has : (tree : Files) (edits : List Edit) → AreDistinct edits → EachHas (edited tree edits) edits
-each_has tree [] distinct = tt
-each_has tree (e ∷ edits) distinct = (
-  with_same (edited tree edits) e.path e.file,
-  still_has (edited tree edits) e.path e.file edits (distinct_head e.path (paths_at edits) distinct) (each_has tree edits (distinct_tail e.path (paths_at edits) distinct)),
-)
 
 has_at : (files : Files) (edits : List Edit) → EachHas files edits → (k : ℕ) (e : Edit) → k < length edits → get_or edits k e ≡ e → get files e.path ≡ e.file
 has_at files [] each k e low is = absurd (omega arith)
@@ -163,8 +126,8 @@ module _ (tree : Files) (edits others : List Edit) (moved : IsPermutation edits 
 distinct_next : (ks : List (List ℕ)) (k : ℕ) (d : List ℕ) → IsDistinct bytes_eq ks → suc k < length ks → bytes_eq (get_or ks k d) (get_or ks (suc k) d) ≡ false
 distinct_next [] k d h low = absurd (omega arith)
 distinct_next (x ∷ []) k d h low = absurd (omega arith)
-distinct_next (x ∷ y ∷ ks) zero d h low = (distinct_head x (y ∷ ks) h).0
-distinct_next (x ∷ y ∷ ks) (suc k) d h low = distinct_next (y ∷ ks) k d (distinct_tail x (y ∷ ks) h) (omega arith)
+distinct_next (x ∷ y ∷ ks) zero d h low = (IsDistinct-head bytes_eq x (y ∷ ks) h).0
+distinct_next (x ∷ y ∷ ks) (suc k) d h low = distinct_next (y ∷ ks) k d (IsDistinct-tail bytes_eq x (y ∷ ks) h) (omega arith)
 
 below_next : (x y : List ℕ) → is_lt (slice_cmp nat_cmp y x) ≡ false → bytes_eq x y ≡ false → slice_cmp nat_cmp x y ≡ Less
 below_next x y up other = of_order (slice_cmp nat_cmp x y) refl
@@ -187,19 +150,11 @@ pub record AreFit (tree : Files) (edits : List Edit) : Type 0 where
   pub apart : (path other : List ℕ) → is_among (paths_at edits) path ≡ true → is_among (paths_at edits) other ≡ true → (lies_under other path || lies_under path other) ≡ false
   pub each : AllByRecursion (IsFit tree) edits
 
-to_all : {X : Type 0} (P : X → Type 0) (xs : List X) → AllByRecursion P xs → All P xs
-to_all P [] each = All-nil P
-to_all P (x ∷ xs) each = All-cons P x xs each.0 (to_all P xs each.1)
-
-from_all : {X : Type 0} (P : X → Type 0) (xs : List X) → All P xs → AllByRecursion P xs
-from_all P [] all = tt
-from_all P (x ∷ xs) all = (all 0 x (omega arith), from_all P xs (λ k d h. all (suc k) d (omega arith)))
-
 fit_sorted : (tree : Files) (edits others : List Edit) → IsPermutation edits others → ArePaths (paths_at others) → AreFit tree edits → AreEdits tree others
 fit_sorted tree edits others moved ascending fit = record {
   ascending = ascending;
   apart = λ p q h k. fit.apart p q (same_among tree edits others moved fit.distinct p ∙ h) (same_among tree edits others moved fit.distinct q ∙ k);
-  each = from_all (IsFit tree) others (All-permutation (IsFit tree) edits others moved (to_all (IsFit tree) edits fit.each));
+  each = recursion_from_All (IsFit tree) others (All-permutation (IsFit tree) edits others moved (All-from_recursion (IsFit tree) edits fit.each));
 }
 
 paths_made : (tree : Files) (changes : List Change) → paths_at (map (edit_made tree) changes) ≡ map path_of changes

@@ -1,16 +1,13 @@
 -- The edits of an annotation: each at a file of the tree or its neighbour, of distinct paths, none a folder of another.
-use Rattle.std.proofs.Common.{◌≡◌, ◌⊎◌, inl, inr, ℕ, ◌+◌, ◌-◌, ◌≤◌, Bool, true, false, cond, not, ◌||◌, ◌&&◌, ◌==◌, nat_eq, nat_lt, List, [], ◌∷◌, ◌++◌, codes, length, reverse, take, drop, Less, Option, Some, None, IsSome, is_some, Result, Ok, Err, refl, sym, ap, ap₂, subst, ◌∙◌, arith, length-append, length-drop, drop_at}
+use Rattle.std.proofs.Common.{◌≡◌, ◌⊎◌, inl, inr, ℕ, ◌+◌, ◌-◌, ◌≤◌, Bool, true, false, cond, not, ◌||◌, ◌&&◌, ◌==◌, nat_eq, nat_lt, List, [], ◌∷◌, ◌++◌, codes, length, reverse, take, drop, Less, Option, Some, None, IsSome, is_some, Result, Ok, Err, refl, sym, ap, ap₂, subst, ◌∙◌, arith, length-append, length-drop, drop_at, flat_map, bytes_eq}
 use Rattle.std.specs.Ordering.{nat_cmp}
 use Rattle.std.specs.Cmp.Lexicographic.{slice_cmp, pointwise}
 use Rattle.std.specs.List.{AllByRecursion, IsDistinct, list_any, ends_with, suffix_len, prefix_len}
-use Rattle.std.specs.Prelude.{flat_map}
-use Rattle.std.specs.Str.{bytes_eq}
 use Rattle.std.specs.FinMap.{get}
-use Rattle.std.proofs.lemmas.Bool.{false≢true, false_from_ne_true, or_parts, or_right, ltb-false}
+use Rattle.std.proofs.lemmas.Bool.{false≢true, false_from_ne_true, not-false, or_cases, or_from, or_parts, or_right, ltb-false}
 use Rattle.std.proofs.lemmas.List.{drop-drop, reverse-append}
 use Rattle.std.proofs.lemmas.List.Sums.{suffix_len-le-length}
-use Rattle.std.proofs.lemmas.Map.Keys.{IsDistinct-cons, IsDistinct-from_sorted, sorted_head, sorted_tail}
-use Rattle.std.proofs.lemmas.Map.Text.{is_eq-slice_cmp}
+use Rattle.std.proofs.lemmas.Map.Keys.{IsDistinct-cons, sorted_head, sorted_tail}
 use Rattle.std.proofs.lemmas.Slice.Eq.{bytes_eq-Decides}
 use Rattle.reuse_notice.specs.declared.adding.Additions.{Additions}
 use Rattle.reuse_notice.specs.declared.amendments.Amendments.{Amendments}
@@ -23,7 +20,6 @@ use Rattle.reuse_header.specs.Neighbour.{neighbour_annotation_of}
 use Rattle.reuse_tree.specs.Path.{is_path, lies_under, journal_folder}
 use Rattle.reuse_tree.specs.Files.{Files, AreFiles}
 use Rattle.reuse_text.specs.declared.TheConstants.{LONGEST_FILE}
-use Rattle.reuse_session.specs.plan.Edit.{Edit}
 use Rattle.reuse_session.specs.plan.Amend.{amended_at}
 use Rattle.reuse_session.specs.plan.Annotate.{neighbour_of, neighbour_is_tagged, target_of, edit_by, edit_inside, edit_neighbour, edit_beside, edit_target, annotated_where, annotated_at}
 use Rattle.reuse_session.specs.plan.Annotations.{Due}
@@ -31,7 +27,7 @@ use Rattle.reuse_tree.specs.Clash.{is_clash}
 use Rattle.reuse_session.specs.session.Command.{has_root, paths_among, HoldsEntry}
 use Rattle.reuse_session.specs.plan.Covered.{last_part, is_in, is_outside, has_stem, is_covered}
 use Rattle.reuse_tree.specs.Listing.{ArePaths, is_among, is_folder}
-use Rattle.reuse_session.specs.plan.Outcome.{edits_of}
+use Rattle.reuse_session.specs.plan.Outcome.{Edit, edits_of}
 use Rattle.reuse_tree.specs.Tree.{is_of_tree}
 use Rattle.reuse_session.specs.plan.TreeStyles.{OwnNames, styles_in}
 use Rattle.reuse_session.specs.plan.Selected.{expanded, with_table, selected_paths}
@@ -48,13 +44,13 @@ use Rattle.reuse_session.proofs.lemmas.plan.Amending.{IsInside, IsBeside, IsTabl
 use Rattle.reuse_session.proofs.lemmas.plan.Annotating.{starts_reuse, and_all, covered_of_tree, first_is, no_edits, all_edits, both_err, if_not}
 use Rattle.reuse_session.proofs.lemmas.plan.Converting.{conversion_fits}
 use Rattle.reuse_session.proofs.lemmas.plan.Downloading.{download_fits}
-use Rattle.reuse_session.proofs.lemmas.plan.EditOrder.{AreDistinct, AreFit}
+use Rattle.reuse_session.proofs.lemmas.plan.EditOrder.{AreFit}
 use Rattle.reuse_tree.proofs.ListingLemmas.{under_from_test, test_from_under}
 use Rattle.reuse_tree.proofs.NeighbourLemmas.{good_neighbour}
-use Rattle.reuse_session.proofs.lemmas.plan.Planning.{paths_at, IsFit, AreEdits, not_itself}
-use Rattle.reuse_session.proofs.lemmas.plan.RevertFitting.{revert_fits}
+use Rattle.reuse_session.proofs.lemmas.plan.Planning.{paths_at, IsFit, AreEdits, AreDistinct, distinct_of, not_itself}
+use Rattle.reuse_session.proofs.lemmas.plan.RevertPlanning.{revert_fits}
 use Rattle.reuse_tree.proofs.Testing.{clashes_keys}
-use Rattle.reuse_session.proofs.lemmas.plan.Outcomes.{no_edit, some_edit, same_edit, unskipped}
+use Rattle.reuse_session.proofs.lemmas.plan.Outcomes.{some_edit, same_edit, unskipped}
 use Rattle.std.proofs.Math.Seq.{take-append_seam}
 use Rattle.reuse_session.proofs.lemmas.Results.{err_or}
 use Rattle.reuse_session.proofs.lemmas.plan.CommandEdits.{edits_at, edits_by_names, amendments_by_names, of_annotation, of_amendment, of_conversion, of_download, of_revert}
@@ -157,24 +153,11 @@ pub record IsPlaced (tree : Files) (path : List ℕ) (edit : Edit) : Type 0 wher
   pub workable : IsWorkable path
   pub placed : (edit.path ≡ path) ⊎ ((edit.path ≡ path ++ ending) × (length edit.path ≤ 4096) × (get tree edit.path ≡ None → is_clash tree edit.path ≡ false))
 
-none_is_some : (edit : Edit) → no_edit ≡ some_edit edit → ⊥
-none_is_some edit e = cc
-
-err_is_some : (refusal : Refusal) (edit : Edit) → Err refusal ≡ some_edit edit → ⊥
-err_is_some refusal edit e = cc
-
 edit_at : (path at bytes : List ℕ) (due : Due) (edit : Edit) → edit_by path at bytes due ≡ some_edit edit → edit.path ≡ at
-edit_at path at bytes (Err refusal) edit e = absurd (err_is_some _ edit e)
+edit_at path at bytes (Err refusal) edit e = absurd (cc)
 edit_at path at bytes (Ok one) edit e =
     let made = (unskipped (bytes_eq (header.edited bytes one) bytes) _ edit e).1 in
     ap (λ (x : Edit). x.path) (sym (same_edit _ edit made))
-
-some_is_none : (bytes : List ℕ) → Some bytes ≡ None → ⊥
-some_is_none bytes e = cc
-
-not_false : (b : Bool) → not b ≡ false → b ≡ true
-not_false true e = refl
-not_false false e = absurd (false≢true (sym e))
 
 module _ (how : How) (scope : Scope) (additions : Additions) (tree : Files) (path : List ℕ) (edit : Edit) where
   inside_at : (bytes : List ℕ) (style : Style) → edit_inside how scope additions path bytes style ≡ some_edit edit → edit.path ≡ path
@@ -187,7 +170,7 @@ module _ (how : How) (scope : Scope) (additions : Additions) (tree : Files) (pat
   neighbour_at (Some bytes) e =
       let h = err_or (nat_lt LONGEST_FILE (length bytes)) (refusals.TooLong path) _ (Some edit) e in (
         edit_at path (neighbour_of path) bytes (neighbour_annotation_of how additions bytes) edit (unskipped (scope.skip_existing && neighbour_is_tagged bytes) _ edit h.1).1,
-        λ none. absurd (some_is_none bytes none),
+        λ none. absurd (cc),
       )
 
   beside_at : edit_beside how scope additions tree path ≡ some_edit edit → (edit.path ≡ path ++ ending) × (length edit.path ≤ 4096) × (get tree edit.path ≡ None → is_clash tree edit.path ≡ false)
@@ -201,8 +184,8 @@ module _ (how : How) (scope : Scope) (additions : Additions) (tree : Files) (pat
 
   target_at : (bytes : List ℕ) (target : Result Target Refusal) → edit_target how scope additions tree path bytes target ≡ some_edit edit
       → (edit.path ≡ path) ⊎ ((edit.path ≡ path ++ ending) × (length edit.path ≤ 4096) × (get tree edit.path ≡ None → is_clash tree edit.path ≡ false))
-  target_at bytes (Err refusal) e = absurd (err_is_some refusal edit e)
-  target_at bytes (Ok Nowhere) e = absurd (none_is_some edit e)
+  target_at bytes (Err refusal) e = absurd (cc)
+  target_at bytes (Ok Nowhere) e = absurd (cc)
   target_at bytes (Ok Beside) e = inr (beside_at e)
   target_at bytes (Ok (Inside style)) e = inl (inside_at bytes style e)
 
@@ -213,7 +196,7 @@ module _ (how : How) (scope : Scope) (additions : Additions) (tree : Files) (pat
       of_file None is h = absurd (both_err (is_folder tree path) (refusals.IsFolder (place.Path path)) (refusals.NoSuchPath path) (Some edit) h)
       of_file (Some bytes) is h =
           let k = err_or (not (is_covered path)) (refusals.NotCovered path) _ (Some edit) h in
-          record { there = ap is_some is; workable = inl (not_false (is_covered path) k.0); placed = target_at bytes (target_of scope own tree path bytes) k.1 }
+          record { there = ap is_some is; workable = inl (not-false (is_covered path) k.0); placed = target_at bytes (target_of scope own tree path bytes) k.1 }
 
 -- an amendment is of a file that is there
 pub amendment_placed : (amendments : Amendments) (scope : Scope) (own : OwnNames) (tree : Files) (path : List ℕ) (edit : Edit) → amended_at amendments scope own tree path ≡ some_edit edit → IsPlaced tree path edit
@@ -223,7 +206,7 @@ amendment_placed amendments scope own tree path edit e =
     record { there = h.is_file; workable = h.workable; placed = of_place h same h.placed }
   where
     there : (h : AmendsThere amendments scope own tree path edit) → edit.path ≡ h.at → get tree edit.path ≡ None → is_clash tree edit.path ≡ false
-    there h same none = absurd (some_is_none h.bytes (sym h.here ∙ ap (get tree) (sym same) ∙ none))
+    there h same none = let no : Some h.bytes ≡ None = sym h.here ∙ ap (get tree) (sym same) ∙ none in absurd (cc)
 
     of_place : (h : AmendsThere amendments scope own tree path edit) → edit.path ≡ h.at → IsInside amendments scope own tree path h.at h.bytes h.one ⊎ IsBeside amendments path h.at h.bytes h.one ⊎ IsTable path h.at
         → (edit.path ≡ path) ⊎ ((edit.path ≡ path ++ ending) × (length edit.path ≤ 4096) × (get tree edit.path ≡ None → is_clash tree edit.path ≡ false))
@@ -266,10 +249,6 @@ stands tree path edit h = of_place h.placed
     of_place (inl e) = inl (ap (λ p. is_some (get tree p)) e ∙ h.there)
     of_place (inr n) = of_file (get tree edit.path) refl n.0 n.2
 
-or_none : (a b : Bool) → a ≡ false → b ≡ false → (a || b) ≡ false
-or_none false b e f = f
-or_none true b e f = absurd (false≢true (sym e))
-
 module _ (tree : Files) where
   no_clash : (path other : List ℕ) → is_clash tree path ≡ false → IsSome (get tree other) → (lies_under other path || lies_under path other) ≡ false
   no_clash path other free some = false_from_ne_true _ (λ nested. false≢true (sym free ∙ (clashes_keys tree path).1 (record { other = other; is_file = some; nested = nested })))
@@ -282,9 +261,9 @@ module _ (tree : Files) where
   are_apart : AreFiles tree → (path other : List ℕ) → Stands tree path → Stands tree other → (lies_under other path || lies_under path other) ≡ false
   are_apart are path other (inl a) (inl b) = false_from_ne_true _ (λ nested. are.apart path a (record { other = other; is_file = b; nested = nested }))
   are_apart are path other (inl a) (inr b) =
-      let n = or_parts (lies_under path other) (lies_under other path) (no_clash other path b.3 a) in or_none (lies_under other path) (lies_under path other) n.1 n.0
+      let n = or_parts (lies_under path other) (lies_under other path) (no_clash other path b.3 a) in or_from (lies_under other path) (lies_under path other) n.1 n.0
   are_apart are path other (inr a) (inl b) = no_clash path other a.3 b
-  are_apart are path other (inr a) (inr b) = or_none (lies_under other path) (lies_under path other) (not_under path other b.0 a.3 b.1 b.2) (not_under other path a.0 b.3 a.1 a.2)
+  are_apart are path other (inr a) (inr b) = or_from (lies_under other path) (lies_under path other) (not_under path other b.0 a.3 b.1 b.2) (not_under other path a.0 b.3 a.1 a.2)
 
   -- the edits of two paths are of two paths
   differ : (path other : List ℕ) (one two : Edit) → IsPlaced tree path one → IsPlaced tree other two → (path ≡ other → ⊥) → bytes_eq one.path two.path ≡ false
@@ -302,13 +281,9 @@ distinct_nil : IsDistinct bytes_eq []
 unfolding IsDistinct
 distinct_nil = tt
 
-or_either : (a b : Bool) → (a || b) ≡ true → (a ≡ true) ⊎ (b ≡ true)
-or_either true b e = inl refl
-or_either false b e = inr e
-
 among_all : (P : List ℕ → Type 0) (edits : List Edit) → AllByRecursion (λ (e : Edit). P e.path) edits → (q : List ℕ) → is_among (paths_at edits) q ≡ true → P q
 among_all P [] each q h = absurd (false≢true h)
-among_all P (e ∷ edits) each q h = by_case (or_either (bytes_eq q e.path) (is_among (paths_at edits) q) h) (among_all P edits each.1 q)
+among_all P (e ∷ edits) each q h = by_case (or_cases (bytes_eq q e.path) (is_among (paths_at edits) q) h) (among_all P edits each.1 q)
   where
     by_case : (bytes_eq q e.path ≡ true) ⊎ (is_among (paths_at edits) q ≡ true) → (is_among (paths_at edits) q ≡ true → P q) → P q
     by_case (inl same) rest = subst P (sym ((bytes_eq-Decides q e.path).0 same)) each.0
@@ -345,10 +320,6 @@ module _ (at : List ℕ → Result (Option Edit) Refusal) (tree : Files) (placed
         apart = λ p q in_p in_q. are_apart tree are p q (among_all (Stands tree) edits all p in_p) (among_all (Stands tree) edits all q in_q);
         each = all_edits at (IsFit tree) (λ p e k. is_fit tree are p e (placed p e k)) ps edits h;
       }
-
--- edits in byte order are of distinct paths
-distinct_of : (paths : List (List ℕ)) → ArePaths paths → IsDistinct bytes_eq paths
-distinct_of paths sorted = subst (λ e. IsDistinct e paths) (λ i x y. is_eq-slice_cmp x y i) (IsDistinct-from_sorted (slice_cmp nat_cmp) paths sorted)
 
 fit_of : (tree : Files) (edits : List Edit) → AreEdits tree edits → AreFit tree edits
 fit_of tree edits are = record { distinct = distinct_of (paths_at edits) are.ascending; apart = are.apart; each = are.each }

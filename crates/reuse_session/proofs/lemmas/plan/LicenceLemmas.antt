@@ -83,7 +83,7 @@ no_id bytes other = of_test (is_id bytes) refl
 
 -- ---- the name of the file
 
-name_length : (id : List ℕ) → length (id ++ codes ".txt") ≡ length id + 4
+pub name_length : (id : List ℕ) → length (id ++ codes ".txt") ≡ length id + 4
 name_length id = length-append id (codes ".txt")
 
 -- the id stands in the path

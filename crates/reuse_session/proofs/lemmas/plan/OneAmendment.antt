@@ -1,7 +1,6 @@
 -- What amend makes of a tree, said in other words, is one tree.
-use Rattle.std.proofs.Common.{◌≡◌, ◌≢◌, ◌⊎◌, inl, inr, ℕ, List, Some, None, sym, ap, subst, ◌∙◌, true}
-use Rattle.std.specs.List.{Contains}
-use Rattle.std.specs.FinMap.{get}
+use Rattle.std.proofs.Common.{◌≡◌, ◌≢◌, ◌⊎◌, inl, inr, ℕ, List, Some, None, sym, ap, subst, ◌∙◌, true, Contains}
+use Rattle.reuse_session.specs.session.Reading.{get, Files}
 use Rattle.std.proofs.lemmas.Bool.{false≢true}
 use Rattle.std.proofs.lemmas.Option.{same_Some, none-some}
 use Rattle.reuse_notice.specs.declared.amendments.Amendments.{Amendments}
@@ -11,7 +10,6 @@ use Rattle.reuse_header.specs.declared.style.Kind.{Kind}
 use Rattle.reuse_header.specs.declared.style.Kind.TheVariants as kind
 use Rattle.reuse_header.specs.declared.style.Style.{Style}
 use Rattle.reuse_header.specs.Amendment.{amended_file, amendment_of, neighbour_amendment_of}
-use Rattle.reuse_tree.specs.Files.{Files}
 use Rattle.reuse_tree.proofs.FileMaps.{same_files}
 use Rattle.reuse_session.specs.plan.Amended.{IsNeighbourAmended, IsFileAmended, HasNoPlace, IsTableAmended, IsCoveredAmended, IsAmended, Amends}
 use Rattle.reuse_session.specs.plan.Amend.{amended_table}
@@ -23,8 +21,7 @@ use Rattle.reuse_session.specs.plan.TreeStyles.{OwnNames}
 use Rattle.reuse_session.specs.plan.Selected.{amended_paths}
 use Rattle.reuse_session.specs.declared.command.Place.{Place}
 use Rattle.reuse_session.specs.declared.command.Scope.{Scope}
-use Rattle.reuse_session.proofs.lemmas.plan.AnnotationPlaces.{one_style}
-use Rattle.reuse_session.proofs.lemmas.plan.OneAnnotation.{Found, Lacking, sought}
+use Rattle.reuse_session.proofs.lemmas.plan.OneAnnotation.{one_style, Found, Lacking, sought}
 use Rattle.reuse_session.proofs.lemmas.Results.{same_Ok}
 
 -- ---- one file

@@ -1,11 +1,9 @@
 -- The tree that a command gives, and the edits that make it.
-use Rattle.std.proofs.Common.{◌≡◌, ◌+◌, ◌≤◌, Bool, true, false, cond, ◌||◌, nat_lt, List, length, Option, Some, None, Result, Ok, Err, refl, sym, ap, ap₂, subst, ◌∙◌}
-use Rattle.std.specs.List.{sum_by}
+use Rattle.std.proofs.Common.{◌≡◌, ◌+◌, ◌≤◌, Bool, true, false, cond, ◌||◌, nat_lt, List, length, Option, Some, None, Result, Ok, Err, refl, sym, ap, ap₂, subst, ◌∙◌, sum_by}
 use Rattle.std.proofs.lemmas.Bool.{le-ltb, ltb-false, or_parts}
 use Rattle.reuse_tree.specs.Files.{Files}
 use Rattle.reuse_session.specs.plan.Downloads.{unless_refused}
-use Rattle.reuse_session.specs.plan.Edit.{Edit}
-use Rattle.reuse_session.specs.plan.Outcome.{edit_count, edit_size, edited, is_too_many, recorded_size, tree_after}
+use Rattle.reuse_session.specs.plan.Outcome.{Edit, edit_count, edit_size, edited, is_too_many, recorded_size, tree_after}
 use Rattle.reuse_session.specs.declared.reply.Refusal.{Refusal}
 use Rattle.reuse_session.specs.declared.reply.Refusal.TheVariants.{TooMany}
 use Rattle.reuse_session.proofs.lemmas.Results.{err_or, same_Ok}

@@ -1,38 +1,91 @@
--- Plans of paths: what a walk has planned so far, and what is made of its plans.
-use Rattle.std.proofs.Common.{◌≡◌, Bool, true, false, ◌||◌, cond, List, [], ◌∷◌, ◌++◌, map, Option, Some, None, Result, Ok, Err, refl, sym, ap, ap₂, subst, ◌∙◌, append_assoc, length, arith, ◌⊎◌, inl, inr, IfOk, IfErr}
+-- Plans of paths: what a walk has planned so far, and what a run and a preview make of its plans.
+use Rattle.std.proofs.Common.{◌≡◌, ◌↔◌, ℕ, Bool, true, false, cond, List, [], ◌∷◌, ◌++◌, map, Option, Some, None, Result, Ok, Err, refl, sym, ap, ◌∙◌, ◌||◌, ap₂, subst, append_assoc, length, arith, ◌⊎◌, inl, inr, IfOk, IfErr, Vec}
+use Rattle.std.specs.Option.{option_or, option_to_list}
+use Rattle.reuse_tree.specs.Files.{Files}
+use Rattle.reuse_session.specs.session.PathOutcomes.{path_outcome_by, path_outcome_of, limit_path_outcomes, path_outcomes_of, first_refusal}
+use Rattle.reuse_session.specs.plan.Outcome.{Edit, edited, is_too_many, path_edits_of, edits_of, tree_after, outcome_of}
+use Rattle.reuse_session.specs.plan.PathEdits.{PathEdit, or_first, edits_in, edited_at, refused_alone, all_or_none}
+use Rattle.reuse_session.specs.declared.command.Command.{Command}
+use Rattle.reuse_session.specs.declared.path_outcome.PathOutcome.{PathOutcome}
+use Rattle.reuse_session.specs.declared.path_outcome.PathOutcome.TheVariants as path_outcome
+use Rattle.reuse_session.specs.declared.reply.Refusal.{Refusal}
+use Rattle.reuse_session.specs.declared.reply.Refusal.TheVariants as refusals
 use Rattle.std.specs.List.{cons_option, list_any}
-use Rattle.std.specs.Option.{option_to_list}
 use Rattle.std.proofs.lemmas.Bool.{false≢true}
 use Rattle.std.proofs.lemmas.List.{append-nil}
 use Rattle.std.proofs.lemmas.List.Elements.{filter_map-append}
-use Rattle.reuse_tree.specs.Files.{Files}
 use Rattle.reuse_tree.specs.declared.change.Change.{Change}
-use Rattle.reuse_session.specs.plan.Edit.{Edit}
-use Rattle.reuse_session.specs.session.PathOutcomes.{path_outcome_by, path_outcome_of, limit_path_outcomes}
-use Rattle.std.specs.declared.vec.Vec.{Vec}
-use Rattle.reuse_session.specs.plan.PathEdits.{PathEdit, edited_at, refused_alone, all_or_none, with_edit, or_first, edits_in}
-use Rattle.reuse_session.specs.plan.PathPlans.{IsPlanOf, ArePlansOf, AnswersPlans, EndsWalk, change_planned, changes_planned, path_outcome_planned, is_refusal, limit_planned}
-use Rattle.reuse_session.specs.session.Answer.{IsEarlyFailure}
+use Rattle.reuse_session.specs.plan.PathPlans.{IsPlanOf, ArePlansOf, AnswersPlans, EndsWalk, change_planned, changes_planned, path_outcome_planned, is_refusal, limit_planned, are_too_many}
 use Rattle.reuse_session.specs.session.Previews.{IsTold}
 use Rattle.reuse_session.specs.plan.Plan.{MakesEach, MakesEdits, IsRefusalOf}
-use Rattle.reuse_session.specs.declared.path_outcome.PathOutcome.TheVariants as path_outcome
 use Rattle.reuse_session.specs.declared.plan.path_plan.PathPlan.{PathPlan}
 use Rattle.reuse_session.specs.declared.plan.path_plan.PathPlan.TheVariants as plan
 use Rattle.reuse_session.specs.declared.plan.path_plan.Policy.{Policy}
 use Rattle.reuse_session.specs.declared.plan.path_plan.Policy.TheVariants.{Stop, Collect}
-use Rattle.reuse_session.specs.declared.reply.Refusal.{Refusal}
 use Rattle.reuse_session.specs.declared.failure.Failure.TheVariants as failures
-use Rattle.reuse_session.specs.declared.reply.Refusal.TheVariants as refusals
 use Rattle.reuse_session.proofs.lemmas.plan.Planning.{same_many}
+use Rattle.reuse_session.specs.declared.reply.Refusal.TheVariants.{TooMany}
+
+-- ---- a command is refused as the first of its paths' path outcomes is
+
+-- the refusal of a result, if it is one
+abbrev refusal_in : {A : Type 0} → Result A Refusal → Option Refusal
+refusal_in (Ok x) = None
+refusal_in (Err refusal) = Some refusal
+
+first_append : (xs ys : List PathOutcome) → first_refusal (xs ++ ys) ≡ option_or (first_refusal xs) (first_refusal ys)
+first_append [] ys = refl
+first_append (path_outcome.Refused refusal ∷ xs) ys = refl
+first_append (path_outcome.Changes path ∷ xs) ys = first_append xs ys
+first_append (path_outcome.Unchanged path ∷ xs) ys = first_append xs ys
+first_append (path_outcome.Skipped path ∷ xs) ys = first_append xs ys
+
+first_one : (path : List ℕ) (skipped : Bool) (edit : Result (Option Edit) Refusal) (path_outcomes : List PathOutcome) (rest : Result (List Edit) Refusal) → first_refusal path_outcomes ≡ refusal_in rest
+    → first_refusal (path_outcome_by path skipped edit ∷ path_outcomes) ≡ refusal_in (or_first edit rest)
+first_one path skipped (Err refusal) path_outcomes rest h = refl
+first_one path skipped (Ok (Some e)) path_outcomes (Err refusal) h = h
+first_one path skipped (Ok (Some e)) path_outcomes (Ok edits) h = h
+first_one path true (Ok None) path_outcomes (Err refusal) h = h
+first_one path true (Ok None) path_outcomes (Ok edits) h = h
+first_one path false (Ok None) path_outcomes (Err refusal) h = h
+first_one path false (Ok None) path_outcomes (Ok edits) h = h
+
+first_of_paths : (all : List PathEdit) → first_refusal (map path_outcome_of all) ≡ refusal_in (edits_in all)
+first_of_paths [] = refl
+first_of_paths (here ∷ all) = first_one here.path here.skipped here.edit (map path_outcome_of all) (edits_in all) (first_of_paths all)
+
+first_of_limit : (tree : Files) (given : Result (List Edit) Refusal) → option_or (refusal_in given) (first_refusal (limit_path_outcomes given)) ≡ refusal_in (tree_after tree given)
+first_of_limit tree (Err refusal) = refl
+first_of_limit tree (Ok edits) = by_size (is_too_many edits)
+  where
+    by_size : (b : Bool) → first_refusal (cond b (path_outcome.Refused refusals.TooMany ∷ []) []) ≡ refusal_in (cond b (Err refusals.TooMany) (Ok (edited tree edits)))
+    by_size true = refl
+    by_size false = refl
+
+first_of_all : (command : Command) (tree : Files) → first_refusal (path_outcomes_of command tree) ≡ refusal_in (outcome_of command tree)
+unfolding path_outcomes_of outcome_of
+first_of_all command tree =
+    first_append (map path_outcome_of (path_edits_of command tree)) (limit_path_outcomes (edits_of command tree))
+    ∙ ap (λ o. option_or o (first_refusal (limit_path_outcomes (edits_of command tree)))) (first_of_paths (path_edits_of command tree))
+    ∙ first_of_limit tree (edits_of command tree)
+
+is_err : (given : Result Files Refusal) (refusal : Refusal) → refusal_in given ≡ Some refusal → given ≡ Err refusal
+is_err (Ok after) refusal e = absurd (cc)
+is_err (Err other) refusal e = cc
+
+is_tree : (given : Result Files Refusal) → refusal_in given ≡ None → (after : Files) × (given ≡ Ok after)
+is_tree (Ok after) e = (after, refl)
+is_tree (Err other) e = absurd (cc)
+
+pub refused_by_first : (command : Command) (tree : Files) (refusal : Refusal) → (outcome_of command tree ≡ Err refusal) ↔ (first_refusal (path_outcomes_of command tree) ≡ Some refusal)
+refused_by_first command tree refusal = (λ e. first_of_all command tree ∙ ap refusal_in e, λ e. is_err (outcome_of command tree) refusal (sym (first_of_all command tree) ∙ e))
+
+pub accepted_without : (command : Command) (tree : Files) → (first_refusal (path_outcomes_of command tree) ≡ None) ↔ ((after : Files) × (outcome_of command tree ≡ Ok after))
+accepted_without command tree = (λ e. is_tree (outcome_of command tree) (sym (first_of_all command tree) ∙ e), λ got. first_of_all command tree ∙ ap refusal_in got.1)
+
+-- ---- plans of paths: what a walk has planned so far, and what is made of its plans
 
 -- ---- one path
-
--- a plan that isn't a refusal is one under each policy
-pub each_policy : (policy : Policy) (tree : Files) (here : PathEdit) (one : PathPlan) → IsPlanOf Stop tree here one → IsPlanOf policy tree here one
-each_policy policy tree here (plan.Change change) is = is
-each_policy policy tree here (plan.Unchanged path) is = is
-each_policy policy tree here (plan.Skipped path) is = is
-each_policy policy tree here (plan.Refused refusal) is = absurd (cc is.2)
 
 -- ---- one path after the other
 
@@ -40,8 +93,7 @@ pub one_more : (policy : Policy) (tree : Files) (done : List PathEdit) (plans : 
     → ArePlansOf policy tree (done ++ here ∷ []) (plans ++ one ∷ [])
 one_more policy tree [] [] here one are is = (is, tt)
 one_more policy tree (first ∷ done) (p ∷ plans) here one are is = (are.0, one_more policy tree done plans here one are.1 is)
-one_more policy tree [] (p ∷ plans) here one are is = absurd are
-one_more policy tree (first ∷ done) [] here one are is = absurd are
+one_more policy tree done plans here one are is = absurd are
 
 -- the plans so far are of the paths that are done; these are left
 pub record WalkedSoFar (policy : Policy) (tree : Files) (all left : List PathEdit) (plans : List PathPlan) : Type 0 where
@@ -53,15 +105,9 @@ pub record WalkedSoFar (policy : Policy) (tree : Files) (all left : List PathEdi
 stops_at : (tree : Files) (done : List PathEdit) (plans : List PathPlan) (here : PathEdit) (rest : List PathEdit) (refusal : Refusal) → ArePlansOf Stop tree done plans → here.edit ≡ Err refusal
     → edits_in (done ++ here ∷ rest) ≡ Err refusal
 stops_at tree [] [] here rest refusal are e = ap (λ r. or_first r (edits_in rest)) e
-stops_at tree (first ∷ done) (plan.Change change ∷ plans) here rest refusal are e =
-    ap₂ or_first are.0.1 (stops_at tree done plans here rest refusal are.1 e)
-stops_at tree (first ∷ done) (plan.Unchanged path ∷ plans) here rest refusal are e =
-    ap₂ or_first are.0.1 (stops_at tree done plans here rest refusal are.1 e)
-stops_at tree (first ∷ done) (plan.Skipped path ∷ plans) here rest refusal are e =
-    ap₂ or_first are.0.1 (stops_at tree done plans here rest refusal are.1 e)
 stops_at tree (first ∷ done) (plan.Refused other ∷ plans) here rest refusal are e = absurd (cc are.0.2)
-stops_at tree [] (p ∷ plans) here rest refusal are e = absurd are
-stops_at tree (first ∷ done) [] here rest refusal are e = absurd are
+stops_at tree (first ∷ done) (one ∷ plans) here rest refusal are e = ap₂ or_first are.0.1 (stops_at tree done plans here rest refusal are.1 e)
+stops_at tree done plans here rest refusal are e = absurd are
 
 ends_at : (policy : Policy) (tree : Files) (done : List PathEdit) (plans : List PathPlan) (here : PathEdit) (rest : List PathEdit) (refusal : Refusal) → ArePlansOf policy tree done plans
     → EndsWalk policy refusal → IsRefusalOf here.edit refusal → IsRefusalOf (edits_in (done ++ here ∷ rest)) refusal
@@ -71,9 +117,6 @@ ends_at Stop tree done plans here rest refusal are ends is = stops_at tree done 
 ends_at Collect tree done plans here rest refusal are ends is = absurd ends
 
 module _ (policy : Policy) (tree : Files) (all : List PathEdit) where
-  pub at_start : WalkedSoFar policy tree all all []
-  at_start = record { done = []; are = tt; same = refl }
-
   pub after_plan : (here : PathEdit) (left : List PathEdit) (plans : List PathPlan) (one : PathPlan) → WalkedSoFar policy tree all (here ∷ left) plans → IsPlanOf policy tree here one
       → WalkedSoFar policy tree all left (plans ++ one ∷ [])
   after_plan here left plans one so is = record {
@@ -90,17 +133,6 @@ module _ (policy : Policy) (tree : Files) (all : List PathEdit) where
   at_end plans so = subst (λ es. ArePlansOf policy tree es plans) (sym (append-nil so.done) ∙ so.same) so.are
 
 -- ---- what ends each walk
-
-pub look_refusal : {A : Type 0} (given : Result A Refusal) (refusal : Refusal) → IsEarlyFailure refusal → IsRefusalOf given refusal
-look_refusal given (refusals.Failed failures.Memory) is = tt
-look_refusal given (refusals.Failed (failures.Fault fault)) is = tt
-look_refusal given refusal is = absurd is
-
-pub look_ends : (policy : Policy) (refusal : Refusal) → IsEarlyFailure refusal → EndsWalk policy refusal
-look_ends Stop (refusals.Failed failures.Memory) is = tt
-look_ends Stop (refusals.Failed (failures.Fault fault)) is = tt
-look_ends Stop refusal is = absurd is
-look_ends Collect refusal is = is
 
 pub is_refusal_of : {A : Type 0} (given : Result A Refusal) (refusal : Refusal) → given ≡ Err refusal → IsRefusalOf given refusal
 is_refusal_of given (refusals.Failed failures.Memory) e = tt
@@ -131,8 +163,7 @@ alone_as policy tree given all refusal (Err ended) is alone told (inr same) answ
 pub all_are : (policy : Policy) (tree : Files) (changes : List Change) (edits : List Edit) → MakesEach tree changes edits → ArePlansOf policy tree (map edited_at edits) (map plan.Change changes)
 all_are policy tree [] [] each = tt
 all_are policy tree (c ∷ changes) (e ∷ edits) each = ((e, refl, each.0), all_are policy tree changes edits each.1)
-all_are policy tree [] (e ∷ edits) each = absurd each
-all_are policy tree (c ∷ changes) [] each = absurd each
+all_are policy tree changes edits each = absurd each
 
 pub all_made : (policy : Policy) (tree : Files) (given : Result (List Edit) Refusal) (changes : List Change) → MakesEdits tree given changes → ArePlansOf policy tree (all_or_none given) (map plan.Change changes)
 all_made policy tree given changes made = subst (λ g. ArePlansOf policy tree (all_or_none g) (map plan.Change changes)) (sym made.1) (all_are policy tree changes made.0 made.2)
@@ -141,12 +172,9 @@ all_made policy tree given changes made = subst (λ g. ArePlansOf policy tree (a
 
 pub none_refused : (tree : Files) (all : List PathEdit) (plans : List PathPlan) → ArePlansOf Stop tree all plans → list_any is_refusal plans ≡ false
 none_refused tree [] [] are = refl
-none_refused tree (here ∷ all) (plan.Change change ∷ plans) are = none_refused tree all plans are.1
-none_refused tree (here ∷ all) (plan.Unchanged path ∷ plans) are = none_refused tree all plans are.1
-none_refused tree (here ∷ all) (plan.Skipped path ∷ plans) are = none_refused tree all plans are.1
 none_refused tree (here ∷ all) (plan.Refused refusal ∷ plans) are = absurd (cc are.0.2)
-none_refused tree [] (p ∷ plans) are = absurd are
-none_refused tree (here ∷ all) [] are = absurd are
+none_refused tree (here ∷ all) (one ∷ plans) are = none_refused tree all plans are.1
+none_refused tree all plans are = absurd are
 
 module _ (policy : Policy) (tree : Files) where
   -- where nothing is refused, the changes are those of the edits
@@ -155,25 +183,16 @@ module _ (policy : Policy) (tree : Files) where
   changes_made (here ∷ all) (plan.Change change ∷ plans) are none =
       let rest = changes_made all plans are.1 none in
       (are.0.0 ∷ rest.0, ap₂ or_first are.0.1 rest.1, (are.0.2, rest.2))
-  changes_made (here ∷ all) (plan.Unchanged path ∷ plans) are none = let rest = changes_made all plans are.1 none in (rest.0, ap₂ or_first are.0.1 rest.1, rest.2)
-  changes_made (here ∷ all) (plan.Skipped path ∷ plans) are none = let rest = changes_made all plans are.1 none in (rest.0, ap₂ or_first are.0.1 rest.1, rest.2)
   changes_made (here ∷ all) (plan.Refused refusal ∷ plans) are none = absurd (false≢true (sym none))
-  changes_made [] (p ∷ plans) are none = absurd are
-  changes_made (here ∷ all) [] are none = absurd are
-
-  behind : (first : Option Edit) (rest : Result (List Edit) Refusal) → ((refusal : Refusal) × (rest ≡ Err refusal)) → (refusal : Refusal) × (with_edit first rest ≡ Err refusal)
-  behind first rest is = (is.0, ap (with_edit first) is.1)
+  changes_made (here ∷ all) (one ∷ plans) are none = let rest = changes_made all plans are.1 none in (rest.0, ap₂ or_first are.0.1 rest.1, rest.2)
+  changes_made all plans are none = absurd are
 
   -- where one is refused, so are the edits
   pub edits_refused : (all : List PathEdit) (plans : List PathPlan) → ArePlansOf policy tree all plans → list_any is_refusal plans ≡ true → (refusal : Refusal) × (edits_in all ≡ Err refusal)
   edits_refused [] [] are some = absurd (false≢true some)
-  edits_refused (here ∷ all) (plan.Change change ∷ plans) are some =
-      let rest = edits_refused all plans are.1 some in (rest.0, ap₂ or_first are.0.1 rest.1)
-  edits_refused (here ∷ all) (plan.Unchanged path ∷ plans) are some = let rest = edits_refused all plans are.1 some in (rest.0, ap₂ or_first are.0.1 rest.1)
-  edits_refused (here ∷ all) (plan.Skipped path ∷ plans) are some = let rest = edits_refused all plans are.1 some in (rest.0, ap₂ or_first are.0.1 rest.1)
   edits_refused (here ∷ all) (plan.Refused refusal ∷ plans) are some = (refusal, ap (λ r. or_first r (edits_in all)) are.0.0)
-  edits_refused [] (p ∷ plans) are some = absurd are
-  edits_refused (here ∷ all) [] are some = absurd are
+  edits_refused (here ∷ all) (one ∷ plans) are some = let rest = edits_refused all plans are.1 some in (rest.0, ap₂ or_first are.0.1 rest.1)
+  edits_refused all plans are some = absurd are
 
   path_outcome_is : (here : PathEdit) (one : PathPlan) → IsPlanOf policy tree here one → path_outcome_planned one ≡ path_outcome_of here
   path_outcome_is here (plan.Change change) is = ap path_outcome.Changes is.2.path ∙ sym (ap (path_outcome_by here.path here.skipped) is.1)
@@ -184,8 +203,7 @@ module _ (policy : Policy) (tree : Files) where
   pub path_outcomes_are : (all : List PathEdit) (plans : List PathPlan) → ArePlansOf policy tree all plans → map path_outcome_planned plans ≡ map path_outcome_of all
   path_outcomes_are [] [] are = refl
   path_outcomes_are (here ∷ all) (one ∷ plans) are = ap₂ (λ f fs. f ∷ fs) (path_outcome_is here one are.0) (path_outcomes_are all plans are.1)
-  path_outcomes_are [] (p ∷ plans) are = absurd are
-  path_outcomes_are (here ∷ all) [] are = absurd are
+  path_outcomes_are all plans are = absurd are
 
   pub limit_is : (all : List PathEdit) (plans : List PathPlan) → ArePlansOf policy tree all plans → limit_planned (list_any is_refusal plans) (changes_planned plans) ≡ limit_path_outcomes (edits_in all)
   limit_is all plans are = by_refusal (list_any is_refusal plans) refl
@@ -230,3 +248,49 @@ none_of policy tree (here ∷ all) (p ∷ plans) are none = absurd (cc none)
 pub no_plans : (plans : List PathPlan) → length plans ≡ 0 → plans ≡ []
 no_plans [] e = refl
 no_plans (p ∷ plans) e = absurd (omega (arith, e))
+
+-- ---- what a preview plans where it refuses nothing is what a run plans
+
+-- edits, and a refusal, as what is given
+abbrev some : List Edit → Result (List Edit) Refusal
+some edits = Ok edits
+
+abbrev refused : Refusal → Result (List Edit) Refusal
+refused refusal = Err refusal
+
+-- what leaves a tree has edits, and not too many
+has_edits : (tree : Files) (given : Result (List Edit) Refusal) (after : Files) → tree_after tree given ≡ Ok after → (edits : List Edit) × (given ≡ Ok edits) × (is_too_many edits ≡ false)
+has_edits tree (Err refusal) after is = absurd (cc)
+has_edits tree (Ok edits) after is = by_size (is_too_many edits) refl is
+  where
+    by_size : (b : Bool) → is_too_many edits ≡ b → cond b (Err TooMany) (Ok (edited tree edits)) ≡ Ok after → (es : List Edit) × (some edits ≡ Ok es) × (is_too_many es ≡ false)
+    by_size true size is = absurd (cc)
+    by_size false size is = (edits, refl, size)
+
+same_edits : (given : Result (List Edit) Refusal) (one other : List Edit) → given ≡ Ok one → given ≡ Ok other → one ≡ other
+same_edits given one other is was = cc
+
+not_refused : (given : Result (List Edit) Refusal) (edits : List Edit) (refusal : Refusal) → given ≡ Ok edits → given ≡ Err refusal → ⊥
+not_refused given edits refusal is was = cc
+
+-- where no path outcome is a refusal
+module _ (command : Command) (tree : Files) (plans : List PathPlan) (are : ArePlansOf Collect tree (path_edits_of command tree) plans) (accepted : first_refusal (path_outcomes_of command tree) ≡ None) where
+  given : (edits : List Edit) × (edits_of command tree ≡ Ok edits) × (is_too_many edits ≡ false)
+  unfolding outcome_of
+  given = let left = (accepted_without command tree).0 accepted in has_edits tree (edits_of command tree) left.0 left.1
+
+  none_is_refused : (b : Bool) → list_any is_refusal plans ≡ b → list_any is_refusal plans ≡ false
+  none_is_refused true is =
+      let refused = edits_refused Collect tree (path_edits_of command tree) plans are is in
+      absurd (not_refused (edits_of command tree) given.0 refused.0 given.1 refused.1)
+  none_is_refused false is = is
+
+  -- the changes are those of the command's edits
+  pub accepted_made : MakesEdits tree (edits_of command tree) (changes_planned plans)
+  accepted_made = changes_made Collect tree (path_edits_of command tree) plans are (none_is_refused (list_any is_refusal plans) refl)
+
+  -- and not too many
+  pub accepted_few : are_too_many (changes_planned plans) ≡ false
+  accepted_few =
+      same_many tree (changes_planned plans) accepted_made.0 accepted_made.2
+      ∙ ap is_too_many (same_edits (edits_of command tree) accepted_made.0 given.0 accepted_made.1 given.1) ∙ given.2

@@ -1,14 +1,12 @@
 -- The paths that a command goes through, one place after the other.
-use Rattle.std.proofs.Common.{◌≡◌, ℕ, ◌+◌, ◌<◌, Bool, true, false, cond, ◌||◌, List, [], ◌∷◌, ◌++◌, length, take, get_or, filter, ◌==◌, refl, sym, ap, ◌∙◌, arith, append_assoc}
-use Rattle.std.specs.Prelude.{flat_map}
+use Rattle.std.proofs.Common.{◌≡◌, ℕ, ◌+◌, ◌<◌, Bool, true, false, cond, ◌||◌, List, [], ◌∷◌, ◌++◌, length, take, get_or, filter, ◌==◌, refl, sym, ap, ◌∙◌, arith, append_assoc, flat_map}
 use Rattle.std.specs.List.{list_any}
-use Rattle.std.specs.FinMap.{keys}
+use Rattle.reuse_session.specs.session.Reading.{keys, Files}
 use Rattle.std.proofs.lemmas.Bool.Decides.{nat_tests}
 use Rattle.std.proofs.lemmas.List.{append-nil, take_more}
 use Rattle.std.proofs.lemmas.List.Concat.{flat_map-append}
 use Rattle.std.proofs.lemmas.List.Elements.{filter-append}
 use Rattle.reuse_tree.specs.Path.{lies_under}
-use Rattle.reuse_tree.specs.Files.{Files}
 use Rattle.reuse_session.specs.plan.Choice.{is_chosen}
 use Rattle.reuse_tree.specs.Listing.{is_folder}
 use Rattle.reuse_session.specs.plan.Shown.{ShowsBeneath}

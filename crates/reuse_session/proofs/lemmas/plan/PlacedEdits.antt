@@ -1,19 +1,16 @@
 -- Edits that are each of a file that is worked or its neighbour: what the paths then hold.
-use Rattle.std.proofs.Common.{◌≡◌, ◌≢◌, ◌⊎◌, inl, inr, ℕ, Bool, true, false, cond, List, [], ◌∷◌, Less, Option, Some, None, Result, Ok, refl, sym, ap, subst, ◌∙◌}
+use Rattle.std.proofs.Common.{◌≡◌, ◌≢◌, ◌⊎◌, inl, inr, ℕ, Bool, true, false, cond, List, [], ◌∷◌, Less, Option, Some, None, Result, Ok, refl, sym, ap, subst, ◌∙◌, bytes_eq}
 use Rattle.std.specs.Ordering.{nat_cmp}
 use Rattle.std.specs.Cmp.Lexicographic.{slice_cmp}
 use Rattle.std.specs.List.{AllByRecursion}
-use Rattle.std.specs.Str.{bytes_eq}
-use Rattle.std.specs.FinMap.{get}
+use Rattle.reuse_session.specs.session.Reading.{get, Files}
 use Rattle.std.proofs.lemmas.Bool.{false≢true}
 use Rattle.std.proofs.lemmas.Map.Keys.{sorted_head, sorted_tail}
 use Rattle.std.proofs.lemmas.Slice.Eq.{bytes_eq-Decides}
 use Rattle.reuse_notice.proofs.SetLemmas.{In}
-use Rattle.reuse_tree.specs.Files.{Files}
 use Rattle.reuse_tree.specs.Listing.{ArePaths}
 use Rattle.reuse_session.specs.plan.Annotate.{neighbour_of}
-use Rattle.reuse_session.specs.plan.Edit.{Edit}
-use Rattle.reuse_session.specs.plan.Outcome.{with_file, edited}
+use Rattle.reuse_session.specs.plan.Outcome.{Edit, with_file, edited}
 use Rattle.reuse_session.specs.declared.reply.Refusal.{Refusal}
 use Rattle.reuse_session.proofs.lemmas.plan.AnnotatedFiles.{file_then}
 use Rattle.reuse_session.proofs.lemmas.plan.Annotating.{first_is, no_edits}

@@ -1,11 +1,9 @@
 -- What a revert gives where files are as a step left them, and below a range that is put back.
-use Rattle.std.proofs.Common.{◌≡◌, ◌≢◌, ℕ, ◌+◌, ◌-◌, ◌≤◌, Bool, true, false, cond, not, ◌&&◌, ◌||◌, nat_eq, nat_le, List, [], ◌∷◌, ◌++◌, length, take, drop, sum_by, get_or, Option, Some, None, is_some, Ok, Err, refl, sym, ap, ap₂, subst, ◌∙◌, arith, length-append, append_assoc, le-leb}
+use Rattle.std.proofs.Common.{◌≡◌, ◌≢◌, ℕ, ◌+◌, ◌-◌, ◌≤◌, Bool, true, false, cond, not, ◌&&◌, ◌||◌, nat_eq, nat_le, List, [], ◌∷◌, ◌++◌, length, take, drop, sum_by, get_or, Option, Some, None, is_some, Ok, Err, refl, sym, ap, ap₂, subst, ◌∙◌, arith, length-append, append_assoc, le-leb, bytes_eq, option_map}
 use Rattle.sha2.specs.Sha256.{sha256}
-use Rattle.std.specs.Option.{option_map}
 use Rattle.std.specs.FinMap.{empty, get}
 use Rattle.std.proofs.lemmas.Option.{same_Some, cond_some}
 use Rattle.std.specs.List.{AllByRecursion, cons_option, starts_with}
-use Rattle.std.specs.Str.{bytes_eq}
 use Rattle.std.proofs.Math.Seq.{drop-append_seam, take-append_seam}
 use Rattle.std.proofs.lemmas.Bool.{false≢true, and_from}
 use Rattle.std.proofs.lemmas.Bool.Decides.{Decides-eqb}
@@ -32,8 +30,7 @@ use Rattle.reuse_session.specs.declared.command.Command.TheVariants.{Revert}
 use Rattle.reuse_tree.specs.declared.direction.Direction.TheVariants.{Backward}
 use Rattle.reuse_session.specs.declared.reply.Refusal.TheVariants.{TooMany}
 use Rattle.reuse_session.proofs.lemmas.plan.Planning.{paths_at, EachHas, edited_other, edited_has}
-use Rattle.reuse_session.proofs.lemmas.plan.RevertFitting.{backs, still_ascend, still_among}
-use Rattle.reuse_session.proofs.lemmas.plan.RevertPlanning.{and_first, and_second, within, spliced_len, where_free}
+use Rattle.reuse_session.proofs.lemmas.plan.RevertPlanning.{backs, still_ascend, still_among, and_first, and_second, within, spliced_len, where_free}
 use Rattle.reuse_tree.proofs.Testing.{clashes_keys}
 use Rattle.reuse_tree.proofs.Walk.{can_lead, leads_back}
 use Rattle.reuse_session.proofs.lemmas.plan.Outcomes.{few_held}

@@ -1,7 +1,6 @@
 -- A revert path by path: one that is as the step left it holds again what it held before the step.
-use Rattle.std.proofs.Common.{◌≡◌, ◌⊎◌, inl, inr, ℕ, Bool, true, false, cond, not, ◌&&◌, ◌||◌, List, [], ◌∷◌, Option, Some, None, is_some, Ok, refl, sym, ap, subst, ◌∙◌}
+use Rattle.std.proofs.Common.{◌≡◌, ◌⊎◌, inl, inr, ℕ, Bool, true, false, cond, not, ◌&&◌, ◌||◌, List, [], ◌∷◌, Option, Some, None, is_some, Ok, refl, sym, ap, subst, ◌∙◌, bytes_eq}
 use Rattle.std.specs.List.{AllByRecursion, cons_option}
-use Rattle.std.specs.Str.{bytes_eq}
 use Rattle.std.specs.FinMap.{get}
 use Rattle.std.proofs.lemmas.Bool.{false≢true}
 use Rattle.std.proofs.lemmas.List.Elements.{recursion_from_All}
@@ -10,17 +9,15 @@ use Rattle.reuse_tree.specs.Files.{Files, Clashes}
 use Rattle.reuse_tree.specs.Change.{path_of, Applies}
 use Rattle.reuse_tree.specs.declared.change.Change.{Change}
 use Rattle.reuse_tree.specs.Clash.{is_clash}
-use Rattle.reuse_session.specs.plan.Edit.{Edit}
 use Rattle.reuse_tree.specs.Entry.{makes, touches, IsEntry, IsSmall, LeadsAll}
 use Rattle.reuse_tree.specs.Listing.{is_among}
-use Rattle.reuse_session.specs.plan.Outcome.{edited, outcome_of, edits_of, tree_after}
+use Rattle.reuse_session.specs.plan.Outcome.{Edit, edited, outcome_of, edits_of, tree_after}
 use Rattle.reuse_session.specs.plan.Reverting.{taken_back, taken_back_on, taken_back_unless}
 use Rattle.reuse_session.specs.declared.command.Command.TheVariants.{Revert}
 use Rattle.reuse_tree.specs.declared.direction.Direction.TheVariants.{Backward}
 use Rattle.reuse_session.proofs.lemmas.plan.Planning.{paths_at, EachHas, edited_other, edited_has}
-use Rattle.reuse_session.proofs.lemmas.plan.RevertFitting.{backs, back_on, path_unless, edits_are, still_ascend, still_among}
+use Rattle.reuse_session.proofs.lemmas.plan.RevertPlanning.{backs, back_on, path_unless, edits_are, still_ascend, still_among, where_free, where_untouched, untouched_back}
 use Rattle.reuse_session.proofs.lemmas.plan.RevertLaws.{takes_to, not_both}
-use Rattle.reuse_session.proofs.lemmas.plan.RevertPlanning.{where_free, where_untouched, untouched_back}
 use Rattle.reuse_tree.proofs.Testing.{clashes_keys}
 use Rattle.reuse_session.proofs.lemmas.plan.Outcomes.{edits_of_tree}
 use Rattle.reuse_session.proofs.lemmas.plan.CommandEdits.{stuck_on, unless_stuck, revert_edits, of_revert}

@@ -1,12 +1,11 @@
 -- What a listing of some folders shows of the paths at them and beneath them.
 use Rattle.std.proofs.lemmas.List.{append-nil, take_more}
 use Rattle.std.proofs.lemmas.List.Concat.{flat_map-append}
-use Rattle.std.proofs.Common.{◌≡◌, ◌⊎◌, inl, inr, ℕ, ◌+◌, take, ◌<◌, Bool, true, false, cond, not, ◌&&◌, ◌||◌, ◌==◌, List, [], ◌∷◌, ◌++◌, length, get_or, map, filter, nat_eq, nat_lt, nat_le, codes, refl, sym, ap, subst, ◌∙◌, append_assoc, arith}
+use Rattle.std.proofs.Common.{◌≡◌, ◌⊎◌, inl, inr, ℕ, ◌+◌, take, ◌<◌, Bool, true, false, cond, not, ◌&&◌, ◌||◌, ◌==◌, List, [], ◌∷◌, ◌++◌, length, get_or, map, filter, nat_eq, nat_lt, nat_le, codes, refl, sym, ap, subst, ◌∙◌, append_assoc, arith, bytes_eq}
 use Rattle.std.specs.FinMap.{keys}
 use Rattle.std.specs.List.{list_any}
 use Rattle.std.specs.Ordering.{nat_cmp}
 use Rattle.std.specs.Cmp.Lexicographic.{slice_cmp}
-use Rattle.std.specs.Str.{bytes_eq}
 use Rattle.std.proofs.lemmas.Bool.{false≢true, false_from_ne_true, and_from, and_parts, or_cases, or_parts, or_right}
 use Rattle.std.proofs.lemmas.Bool.Decides.{nat_tests}
 use Rattle.std.proofs.lemmas.List.Kept.{IsStrictlySortedBy-filter}
@@ -14,7 +13,7 @@ use Rattle.std.proofs.lemmas.Slice.Eq.{bytes_eq-Decides}
 use Rattle.reuse_notice.proofs.ClassLemmas.{In-left, In-right}
 use Rattle.reuse_notice.proofs.SetLemmas.{In}
 use Rattle.reuse_tree.specs.Files.{Files, AreFiles, tree_of}
-use Rattle.reuse_tree.specs.Listing.{ArePaths, is_among, is_asked, is_folder, is_folder_of, is_pruned, is_wanted, listed_paths}
+use Rattle.reuse_tree.specs.Listing.{is_among, is_asked, is_folder, is_folder_of, is_pruned, is_wanted, listed_paths}
 use Rattle.reuse_tree.specs.Path.{lies_under, folders_above, has_no_nul, has_good_parts, journal_folder}
 use Rattle.reuse_tree.proofs.ListingLemmas.{under_from_test, test_from_under}
 use Rattle.reuse_tree.proofs.NeedLemmas.{none_pruned}
@@ -119,15 +118,6 @@ shows_licences tree = record {
 }
 
 -- ---- pairs of a path and its neighbour
-
--- all paths of the tree show each
-pub shows_all : (tree : Files) (paths : List (List ℕ)) → paths ≡ keys tree → (path : List ℕ) → ShowsPair paths tree path
-shows_all tree paths are path = record {
-  ordered = subst ArePaths (sym are) (keys_ascend tree);
-  there = ap (λ ps. is_among ps path) are;
-  beside = ap (λ ps. is_among ps (neighbour_of path)) are;
-  folder = λ absent. ap (λ ps. is_folder_of ps path) are;
-}
 
 -- what is shown of each is shown of this one
 pub one_of_each : (listing : Listing) (tree : Files) (paths : List (List ℕ)) → ShowsEach listing tree paths → (i : ℕ) (path : List ℕ) → i < length paths → path ≡ get_or paths i path → ShowsOne listing tree path

@@ -1,7 +1,6 @@
 -- The `REUSE.toml` at the root: its path, and what amending makes of it.
-use Rattle.std.proofs.Common.{◌≡◌, ◌⊎◌, ℕ, ◌≤◌, true, false, cond, List, [], length, take, drop, Option, Some, None, Result, Ok, Err, refl, sym, ap, ◌∙◌}
-use Rattle.std.specs.Str.{bytes_eq}
-use Rattle.std.specs.FinMap.{get}
+use Rattle.std.proofs.Common.{◌≡◌, ◌⊎◌, ℕ, ◌≤◌, true, false, cond, List, [], length, take, drop, Option, Some, None, Result, Ok, Err, refl, sym, ap, ◌∙◌, bytes_eq}
+use Rattle.reuse_session.specs.session.Reading.{get, Files}
 use Rattle.std.proofs.lemmas.Bool.{false≢true, false_from_ne_true}
 use Rattle.std.proofs.lemmas.Slice.Eq.{bytes_eq-Decides}
 use Rattle.reuse_text.specs.Text.{spliced}
@@ -14,7 +13,6 @@ use Rattle.reuse_dep5.specs.TomlAmending.{toml_amendment_of}
 use Rattle.reuse_dep5.specs.TomlAnswers.{IsTomlAnswer}
 use Rattle.reuse_dep5.proofs.TomlLawLemmas as toml
 use Rattle.reuse_header.specs.Annotation as header
-use Rattle.reuse_tree.specs.Files.{Files}
 use Rattle.reuse_tree.specs.Change.{sealed_splice}
 use Rattle.reuse_session.specs.plan.Amend.{table_refused_by, table_edit, table_amendment}
 use Rattle.reuse_session.specs.plan.AmendmentPlan.{IsWithin}

@@ -1,18 +1,15 @@
 -- Where a download isn't refused, each text stands at its path.
-use Rattle.std.proofs.Common.{◌≡◌, ◌≢◌, inl, inr, ℕ, Bool, true, false, ◌||◌, List, [], ◌∷◌, map, Option, Some, None, is_some, unwrap_or, Ok, refl, sym, ap, subst, ◌∙◌}
+use Rattle.std.proofs.Common.{◌≡◌, ◌≢◌, inl, inr, ℕ, Bool, true, false, ◌||◌, List, [], ◌∷◌, map, Option, Some, None, is_some, unwrap_or, Ok, refl, sym, ap, subst, ◌∙◌, bytes_eq}
 use Rattle.std.specs.List.{AllByRecursion, Contains}
-use Rattle.std.specs.Str.{bytes_eq}
-use Rattle.std.specs.FinMap.{get}
+use Rattle.reuse_session.specs.session.Reading.{get, Files}
 use Rattle.std.proofs.lemmas.Bool.{false≢true}
 use Rattle.std.proofs.lemmas.Slice.Eq.{bytes_eq-Decides}
 use Rattle.reuse_notice.specs.Sets.{set_of}
 use Rattle.reuse_notice.proofs.SetLemmas.{In, In-from_contains, Contains-from_in, In-set_of, set_of-has}
-use Rattle.reuse_tree.specs.Files.{Files}
 use Rattle.reuse_session.specs.plan.Downloads.{text_for, ids_refusal, licence_edit, unless_refused}
-use Rattle.reuse_session.specs.plan.Edit.{Edit}
 use Rattle.reuse_session.specs.plan.Licence.{licence_path, licence_id}
 use Rattle.reuse_tree.specs.Listing.{is_among}
-use Rattle.reuse_session.specs.plan.Outcome.{edited, outcome_of, edits_of}
+use Rattle.reuse_session.specs.plan.Outcome.{Edit, edited, outcome_of, edits_of}
 use Rattle.reuse_session.specs.plan.TextsPut.{PutsTexts}
 use Rattle.reuse_session.specs.declared.command.Command.TheVariants.{Download}
 use Rattle.reuse_session.specs.declared.plan.licence.LicenceText.{LicenceText}

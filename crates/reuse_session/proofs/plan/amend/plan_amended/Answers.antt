@@ -1,6 +1,5 @@
 use Rattle.std.proofs.Common.{◌≡◌, ◌∙◌, List, ℕ, Some, None, IsSome, sym, ap, subst, Err}
-use Rattle.std.specs.FinMap.{get}
-use Rattle.reuse_tree.specs.Files.{tree_of}
+use Rattle.reuse_session.specs.session.Reading.{get, tree_of}
 use Rattle.reuse_tree.specs.Listing.{is_among}
 use Rattle.reuse_session.specs.plan.AmendmentPlan.{amended_by, names_of}
 use Rattle.reuse_session.specs.plan.Annotate.{neighbour_of}

@@ -1,7 +1,6 @@
 use Rattle.std.proofs.Common.{◌≡◌, ◌∙◌, false, nat_lt, length, IfSome, ap, subst}
-use Rattle.std.specs.FinMap.{get}
+use Rattle.reuse_session.specs.session.Reading.{get, tree_of}
 use Rattle.reuse_text.specs.declared.TheConstants.{LONGEST_FILE}
-use Rattle.reuse_tree.specs.Files.{tree_of}
 use Rattle.reuse_tree.proofs.TreeLemmas.{read_there}
 use Rattle.reuse_session.specs.plan.Annotate.{neighbour_of}
 use Rattle.reuse_session.proofs.plan.amend.plan_beside.Goals as goal

@@ -1,7 +1,5 @@
-use Rattle.std.proofs.Common.{◌∙◌, ◌&&◌, sym, ap, subst}
-use Rattle.std.specs.Prelude.{is_some}
-use Rattle.std.specs.FinMap.{get}
-use Rattle.reuse_tree.specs.Files.{tree_of}
+use Rattle.std.proofs.Common.{◌∙◌, ◌&&◌, sym, ap, subst, is_some}
+use Rattle.reuse_session.specs.session.Reading.{get, tree_of}
 use Rattle.reuse_tree.specs.Listing.{is_among}
 use Rattle.reuse_tree.proofs.TreeLemmas.{among_keys}
 use Rattle.reuse_session.specs.plan.Conversion.{toml_path}

@@ -1,6 +1,5 @@
 use Rattle.std.proofs.Common.{◌≡◌, ◌∙◌, Bool, cond, List, ℕ, Some, IsSome, sym, ap, subst, true, false, Ok, Err}
-use Rattle.std.specs.FinMap.{get}
-use Rattle.reuse_tree.specs.Files.{tree_of}
+use Rattle.reuse_session.specs.session.Reading.{get, tree_of, IsOfPlan}
 use Rattle.reuse_text.specs.declared.TheConstants.{LONGEST_FILE}
 use Rattle.reuse_session.specs.declared.reply.Refusal.TheVariants as refusals
 use Rattle.reuse_session.specs.plan.AnnotationPlan.{own_of, path_by, path_beside_by, path_by_place, place_by}
@@ -11,15 +10,12 @@ use Rattle.reuse_session.specs.plan.Shown.{ShowsPair}
 use Rattle.reuse_session.specs.plan.PathPlans.{AnswersPlan, IsPlanOf}
 use Rattle.reuse_session.specs.plan.Plan.{IsRefusalOf}
 use Rattle.reuse_session.specs.plan.Steps.{StepsTo}
-use Rattle.std.proofs.lemmas.Result.{err_from_is_err_and}
 use Rattle.reuse_tree.proofs.AskedLemmas.{reads_none}
-use Rattle.reuse_session.specs.session.Answer.{IsOfPlan}
 use Rattle.reuse_session.proofs.lemmas.Asking.{no_fault, short, failed, later, plan_faults}
 use Rattle.reuse_tree.proofs.TreeLemmas.{read_there}
-use Rattle.reuse_session.proofs.lemmas.plan.Annotating.{some_file}
-use Rattle.reuse_session.proofs.lemmas.plan.EditLemmas.{some_bytes, uncovered_is}
+use Rattle.reuse_session.proofs.lemmas.plan.Annotating.{told_as, some_file}
+use Rattle.reuse_session.proofs.lemmas.plan.EditLemmas.{some_bytes, uncovered_is, path_is}
 use Rattle.reuse_session.proofs.lemmas.plan.PathPlanning.{is_refusal_of}
-use Rattle.reuse_session.proofs.lemmas.plan.Skipping.{path_is}
 use Rattle.reuse_session.specs.declared.plan.path_plan.Policy.TheVariants.{Stop}
 use Rattle.reuse_session.proofs.plan.annotate.plan_annotated.Given.{Over}
 use Rattle.reuse_session.proofs.plan.annotate.plan_annotated.Goals.{After-is_covered, In_ok-goes_beside}
@@ -107,27 +103,19 @@ pub returns-then-not-is_among-clause-asks : goal.returns-then-not-is_among-claus
 returns-then-not-is_among-clause-asks g c = no_fault g.S.Store _ _ (Err c.in_ok-absent_refusal.field-0) c.in_ok-absent_refusal.ensures.no_fault (reads_none g.S.Store _)
 
 pub returns-in_err-absent_refusal-clause-asks : goal.returns-in_err-absent_refusal-clause-asks
-returns-in_err-absent_refusal-clause-asks g c =
-    let p = err_from_is_err_and c.from_residual.result c.from_residual.ensures.1 in
-    short g.S.Store IsOfPlan _ _ _ (p.1 ∙ ap (λ r. Err r) p.2) tt (reads_none g.S.Store _)
+returns-in_err-absent_refusal-clause-asks g c = short g.S.Store IsOfPlan _ _ _ (told_as c.from_residual.result _ c.from_residual.ensures.1) tt (reads_none g.S.Store _)
 
 pub returns-then-not-is_covered-clause-asks : goal.returns-then-not-is_covered-clause-asks
 returns-then-not-is_covered-clause-asks g c = no_fault g.S.Store _ _ (Err (refusals.NotCovered c.in_ok-try_clone.field-0)) tt (reads_none g.S.Store _)
 
 pub returns-in_err-try_clone-clause-asks : goal.returns-in_err-try_clone-clause-asks
-returns-in_err-try_clone-clause-asks g c =
-    let p = err_from_is_err_and c.from_residual-in_err-try_clone.result c.from_residual-in_err-try_clone.ensures.1 in
-    short g.S.Store IsOfPlan _ _ _ (p.1 ∙ ap (λ r. Err r) p.2) tt (reads_none g.S.Store _)
+returns-in_err-try_clone-clause-asks g c = short g.S.Store IsOfPlan _ _ _ (told_as c.from_residual-in_err-try_clone.result _ c.from_residual-in_err-try_clone.ensures.1) tt (reads_none g.S.Store _)
 
 pub returns-in_err-goes_beside-clause-asks : goal.returns-in_err-goes_beside-clause-asks
-returns-in_err-goes_beside-clause-asks g c =
-    let p = err_from_is_err_and c.from_residual-in_err-goes_beside.result c.from_residual-in_err-goes_beside.ensures.1 in
-    short g.S.Store IsOfPlan _ _ _ (p.1 ∙ ap (λ r. Err r) p.2) tt (reads_none g.S.Store _)
+returns-in_err-goes_beside-clause-asks g c = short g.S.Store IsOfPlan _ _ _ (told_as c.from_residual-in_err-goes_beside.result _ c.from_residual-in_err-goes_beside.ensures.1) tt (reads_none g.S.Store _)
 
 pub returns-in_err-reading-clause-asks : goal.returns-in_err-reading-clause-asks
-returns-in_err-reading-clause-asks g c =
-    let p = err_from_is_err_and c.from_residual-in_err-reading.result c.from_residual-in_err-reading.ensures.1 in
-    failed g.S.Store IsOfPlan _ _ c.in_err-reading.field-0.0 _ (p.1 ∙ ap (λ r. Err r) p.2) (plan_faults c.in_err-reading.field-0.0) c.in_err-reading.ensures.fails c.in_err-reading.ensures.reads
+returns-in_err-reading-clause-asks g c = failed g.S.Store IsOfPlan _ _ c.in_err-reading.field-0.0 _ (told_as c.from_residual-in_err-reading.result _ c.from_residual-in_err-reading.ensures.1) (plan_faults c.in_err-reading.field-0.0) c.in_err-reading.ensures.fails c.in_err-reading.ensures.reads
 
 pub returns-then-branch-clause-asks : goal.returns-then-branch-clause-asks
 returns-then-branch-clause-asks g c = c.plan_beside.ensures.asks

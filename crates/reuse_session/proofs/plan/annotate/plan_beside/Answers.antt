@@ -1,8 +1,6 @@
 use Rattle.std.proofs.Common.{◌≡◌, ◌∙◌, true, false, nat_lt, length, Some, None, IfSome, sym, ap, subst, Err, Ok}
-use Rattle.std.specs.FinMap.{get, keys}
+use Rattle.reuse_session.specs.session.Reading.{get, keys, tree_of, reading_of, IsOfPlan}
 use Rattle.std.proofs.lemmas.Result.{err_from_is_err_and}
-use Rattle.reuse_tree.specs.Files.{tree_of}
-use Rattle.reuse_tree.specs.Store.{reading_of}
 use Rattle.reuse_text.specs.declared.TheConstants.{LONGEST_FILE}
 use Rattle.reuse_session.specs.plan.Annotate.{neighbour_of}
 use Rattle.reuse_session.specs.plan.AnnotationPlan.{beside_by, neighbour_by, path_beside_by}
@@ -11,14 +9,12 @@ use Rattle.reuse_session.specs.plan.PathEdits.{PathEdit}
 use Rattle.reuse_session.specs.plan.PathPlans.{AnswersPlan}
 use Rattle.reuse_session.specs.plan.Plan.{IsRefusalOf}
 use Rattle.reuse_session.specs.declared.plan.path_plan.Policy.TheVariants.{Stop}
-use Rattle.reuse_session.proofs.lemmas.plan.Skipping.{path_beside_is, new_is_unskipped}
+use Rattle.reuse_session.proofs.lemmas.plan.EditLemmas.{path_beside_is, new_is_unskipped, some_bytes}
 use Rattle.reuse_tree.proofs.AskedLemmas.{reads_none}
 use Rattle.reuse_session.specs.declared.reply.Refusal.TheVariants as refusals
-use Rattle.reuse_session.specs.session.Answer.{IsOfPlan}
 use Rattle.reuse_session.proofs.lemmas.Asking.{no_fault, short, failed, plan_faults}
 use Rattle.reuse_tree.proofs.TreeLemmas.{of_store}
-use Rattle.reuse_session.proofs.lemmas.plan.Annotating.{is_absent, some_file}
-use Rattle.reuse_session.proofs.lemmas.plan.EditLemmas.{some_bytes}
+use Rattle.reuse_session.proofs.lemmas.plan.Annotating.{told_as, is_absent, some_file}
 use Rattle.reuse_session.proofs.plan.annotate.plan_beside.Goals as goal
 
 pub returns-in_err-neighbour-clause-plan : goal.returns-in_err-neighbour-clause-plan
@@ -63,9 +59,7 @@ pub returns-then-not-is_among-clause-asks : goal.returns-then-not-is_among-claus
 returns-then-not-is_among-clause-asks g c = no_fault g.S.Store _ _ (Ok c.in_ok-of_change.field-0) tt c.plan_new_neighbour.ensures.asks.reads
 
 pub returns-in_err-reading-clause-asks : goal.returns-in_err-reading-clause-asks
-returns-in_err-reading-clause-asks g c =
-    let p = err_from_is_err_and c.from_residual-in_err-reading.result c.from_residual-in_err-reading.ensures.1 in
-    failed g.S.Store IsOfPlan _ _ c.in_err-reading.field-0.0 _ (p.1 ∙ ap (λ r. Err r) p.2) (plan_faults c.in_err-reading.field-0.0) c.in_err-reading.ensures.fails c.in_err-reading.ensures.reads
+returns-in_err-reading-clause-asks g c = failed g.S.Store IsOfPlan _ _ c.in_err-reading.field-0.0 _ (told_as c.from_residual-in_err-reading.result _ c.from_residual-in_err-reading.ensures.1) (plan_faults c.in_err-reading.field-0.0) c.in_err-reading.ensures.fails c.in_err-reading.ensures.reads
 
 pub returns-clause-asks : goal.returns-clause-asks
 returns-clause-asks g c = no_fault g.S.Store _ _ c.plan_neighbour.result c.plan_neighbour.ensures.no_fault c.in_ok-reading.ensures.reads

@@ -1,6 +1,5 @@
-use Rattle.std.proofs.Common.{◌≡◌, ◌∙◌, ◌<◌, ℕ, List, false, get_or, length, take, sym, ap, subst, arith}
+use Rattle.std.proofs.Common.{◌≡◌, ◌∙◌, ◌<◌, ℕ, List, false, get_or, length, take, sym, ap, subst, arith, chars}
 use Rattle.std.specs.List.{slice_range}
-use Rattle.std.specs.Str.{chars}
 use borrow.Author.Count.{below_more}
 use Rattle.reuse_dep5.specs.GlobMatch.{matches_glob}
 use Rattle.reuse_tree.proofs.NeedLemmas.{slash_found, no_slash_found}

@@ -1,5 +1,4 @@
-use Rattle.std.proofs.Common.{◌≡◌, ℕ, ◌<◌, false, get_or, take}
-use Rattle.std.specs.Str.{chars}
+use Rattle.std.proofs.Common.{◌≡◌, ℕ, ◌<◌, false, get_or, take, chars}
 use Rattle.reuse_dep5.specs.GlobMatch.{matches_glob}
 use Rattle.reuse_session.proofs.plan.choice.matches_above.Given as goal
 

@@ -1,7 +1,5 @@
 use Rattle.std.proofs.Common.{◌∙◌, sym, ap, subst}
-use Rattle.std.specs.FinMap.{get}
-use Rattle.reuse_tree.specs.Files.{tree_of}
-use Rattle.reuse_tree.specs.Store.{reading_of}
+use Rattle.reuse_session.specs.session.Reading.{get, tree_of, reading_of}
 use Rattle.reuse_text.specs.declared.TheConstants.{LONGEST_FILE}
 use Rattle.reuse_session.specs.plan.Conversion.{dep5_path, toml_path}
 use Rattle.reuse_session.specs.plan.Shown.{Shows}

@@ -1,15 +1,20 @@
 use Rattle.std.proofs.Common.{◌≡◌, ◌∙◌, [], length, map, sym, ap, subst, arith}
+use Rattle.std.specs.List.{AllByRecursion}
 use Rattle.std.proofs.lemmas.Bool.Decides.{nat_tests}
 use Rattle.reuse_notice.specs.Sets.{set_of}
-use Rattle.reuse_session.specs.plan.DownloadPlan.{made_at}
+use Rattle.reuse_session.specs.plan.DownloadPlan.{made_at, HasText}
 use Rattle.reuse_session.specs.plan.Downloads.{download_edits, id_refusals, or_else}
 use Rattle.reuse_session.specs.plan.Licence.{licence_path}
 use Rattle.reuse_session.specs.plan.PathEdits.{all_or_none}
 use Rattle.reuse_session.specs.plan.PathPlans.{ArePlansOf}
 use Rattle.reuse_session.proofs.lemmas.plan.CommandEdits.{none_due}
-use Rattle.reuse_session.proofs.lemmas.plan.Downloading.{download_makes}
+use Rattle.reuse_session.proofs.lemmas.plan.Downloading.{download_makes, sorted_have_texts}
 use Rattle.reuse_session.proofs.lemmas.plan.PathPlanning.{all_made, none_of, no_plans}
 use Rattle.reuse_session.proofs.plan.download.download_on.Goals as goal
+
+pub made_files-requires : goal.made_files-requires
+made_files-requires c =
+    subst (AllByRecursion (HasText c.args.texts.now)) (sym c.sorted.ensures) (sorted_have_texts c.args.texts.now c.in-Ok.found.made.items c.in-Ok.ensures.texts)
 
 pub returns-clause-plans : goal.returns-clause-plans
 returns-clause-plans c tree are =

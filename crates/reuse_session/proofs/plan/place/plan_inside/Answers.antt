@@ -9,8 +9,7 @@ use Rattle.reuse_session.specs.plan.PathEdits.{PathEdit}
 use Rattle.reuse_session.specs.plan.PathPlans.{IsPlanOf}
 use Rattle.reuse_session.specs.plan.Plan.{IsRefusalOf}
 use Rattle.reuse_session.specs.declared.plan.path_plan.Policy.TheVariants.{Stop}
-use Rattle.reuse_session.proofs.lemmas.plan.EditLemmas.{fits_by, same_some}
-use Rattle.reuse_session.proofs.lemmas.plan.Skipping.{unskipped, inside_unskipped}
+use Rattle.reuse_session.proofs.lemmas.plan.EditLemmas.{fits_by, same_some, unskipped, inside_unskipped}
 use Rattle.reuse_session.proofs.plan.place.plan_inside.Goals as goal
 use Rattle.reuse_session.proofs.plan.place.plan_inside.Goals.{After-annotate_file-made, else-asked-via-then-asked+else-is_some, else-asked-via-else-asked}
 

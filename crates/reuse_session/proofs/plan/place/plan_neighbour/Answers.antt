@@ -2,20 +2,17 @@ use Rattle.std.proofs.Common.{◌≡◌, ◌∙◌, ℕ, false, ◌&&◌, nat_lt
 use Rattle.std.proofs.lemmas.Result.{err_from_is_err_and}
 use Rattle.reuse_header.specs.Neighbour.{neighbour_annotation_of}
 use Rattle.reuse_header.specs.Splices.{IsDue, answer_of}
-use Rattle.std.specs.FinMap.{get}
+use Rattle.reuse_session.specs.session.Reading.{get, Files, reading_of}
 use Rattle.reuse_text.specs.declared.TheConstants.{LONGEST_FILE}
-use Rattle.reuse_tree.specs.Files.{Files}
-use Rattle.reuse_tree.specs.Store.{reading_of}
 use Rattle.reuse_session.specs.plan.Annotate.{neighbour_of, neighbour_is_tagged, edit_by}
 use Rattle.reuse_session.specs.plan.AnnotationPlan.{neighbour_by, path_neighbour_by}
 use Rattle.reuse_session.specs.plan.PathEdits.{PathEdit}
 use Rattle.reuse_session.specs.plan.PathPlans.{AnswersPlan, IsPlanOf}
 use Rattle.reuse_session.specs.declared.plan.path_plan.Policy.TheVariants.{Stop}
-use Rattle.reuse_session.proofs.lemmas.plan.Skipping.{unskipped, beside_unskipped}
+use Rattle.reuse_session.proofs.lemmas.plan.EditLemmas.{unskipped, beside_unskipped, fits_by, short_is, long_is}
 use Rattle.reuse_session.specs.plan.Plan.{IsRefusalOf, AnswersEdit}
 use Rattle.reuse_session.specs.plan.Steps.{short_file}
 use Rattle.reuse_session.proofs.lemmas.plan.Annotating.{refusal_passes}
-use Rattle.reuse_session.proofs.lemmas.plan.EditLemmas.{fits_by, short_is, long_is}
 use Rattle.reuse_session.proofs.plan.place.plan_neighbour.Goals as goal
 use Rattle.reuse_session.proofs.plan.place.plan_neighbour.Goals.{After-change_by, else-asked-via-then-asked+else-neighbour_has_tag, else-asked-via-else-asked}
 

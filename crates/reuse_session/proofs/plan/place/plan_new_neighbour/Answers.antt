@@ -1,9 +1,8 @@
 use Rattle.std.proofs.Common.{◌≡◌, ◌∙◌, true, Err, sym, ap}
-use Rattle.std.proofs.lemmas.Result.{err_from_is_err_and}
+use Rattle.reuse_session.proofs.lemmas.plan.Annotating.{told_as}
 use Rattle.reuse_tree.specs.Clash.{is_clash}
-use Rattle.reuse_tree.specs.Files.{tree_of}
+use Rattle.reuse_session.specs.session.Reading.{tree_of, IsOfPlan}
 use Rattle.reuse_tree.specs.Tree.{is_of_tree}
-use Rattle.reuse_session.specs.session.Answer.{IsOfPlan}
 use Rattle.reuse_session.specs.declared.reply.Refusal.TheVariants as refusals
 use Rattle.reuse_session.proofs.lemmas.Asking.{no_fault, failed, plan_faults}
 use Rattle.reuse_session.proofs.lemmas.AtTree.{clash_of_tree}
@@ -27,9 +26,7 @@ returns-clause-edit g c honest covered is none =
     (sym (clash_of_tree files c.args.neighbour of_tree) ∙ sym (c.in_ok-is_clash_at.ensures.clash honest) ∙ c.if-branch.false)
 
 pub returns-in_err-is_clash_at-clause-asks : goal.returns-in_err-is_clash_at-clause-asks
-returns-in_err-is_clash_at-clause-asks g c =
-    let p = err_from_is_err_and c.from_residual.result c.from_residual.ensures.1 in
-    failed g.S.Store IsOfPlan _ _ c.in_err-is_clash_at.field-0.0 _ (p.1 ∙ ap (λ r. Err r) p.2) (plan_faults c.in_err-is_clash_at.field-0.0) c.in_err-is_clash_at.ensures.fails c.in_err-is_clash_at.ensures.reads
+returns-in_err-is_clash_at-clause-asks g c = failed g.S.Store IsOfPlan _ _ c.in_err-is_clash_at.field-0.0 _ (told_as c.from_residual.result _ c.from_residual.ensures.1) (plan_faults c.in_err-is_clash_at.field-0.0) c.in_err-is_clash_at.ensures.fails c.in_err-is_clash_at.ensures.reads
 
 pub returns-then-branch-clause-asks : goal.returns-then-branch-clause-asks
 returns-then-branch-clause-asks g c = no_fault g.S.Store _ _ (Err (refusals.Clash _)) tt c.is_clash_at.ensures.reads

@@ -1,5 +1,4 @@
-use Rattle.std.proofs.Common.{◌≡◌, ◌∙◌, ◌++◌, ◌+◌, ◌||◌, nat_lt, List, length, sym, ap, ap₂, subst}
-use Rattle.std.specs.List.Sorted.{IsPermutation}
+use Rattle.std.proofs.Common.{◌≡◌, ◌∙◌, ◌++◌, ◌+◌, ◌||◌, nat_lt, List, length, sym, ap, ap₂, subst, IsPermutation}
 use Rattle.std.proofs.lemmas.List.Sorted.{length_permutation, sum_by-IsPermutation}
 use Rattle.reuse_tree.specs.Entry.{change_size, entry_size}
 use Rattle.reuse_tree.specs.Files.{tree_of}
@@ -14,8 +13,7 @@ use Rattle.reuse_session.specs.declared.plan.path_plan.Policy.TheVariants.{Colle
 use Rattle.reuse_session.proofs.lemmas.plan.Counting.{skips_are}
 use Rattle.reuse_session.proofs.lemmas.plan.EditOrder.{sorted_plan}
 use Rattle.reuse_session.proofs.lemmas.plan.Fitting.{command_fits}
-use Rattle.reuse_session.proofs.lemmas.plan.PathPlanning.{path_outcomes_are, limit_is}
-use Rattle.reuse_session.proofs.lemmas.plan.PreviewPlanning.{accepted_few, accepted_made}
+use Rattle.reuse_session.proofs.lemmas.plan.PathPlanning.{path_outcomes_are, limit_is, accepted_few, accepted_made}
 use Rattle.reuse_session.proofs.plan.run.plan_preview.Goals as goal
 
 -- as many in another order

@@ -1,8 +1,5 @@
-use Rattle.std.proofs.Common.{◌≡◌, take}
-use Rattle.std.specs.Prelude.{flat_map}
-use Rattle.std.specs.List.{All}
-use Rattle.reuse_tree.specs.Asked.{OnlyReads}
-use Rattle.reuse_tree.specs.Files.{tree_of}
+use Rattle.std.proofs.Common.{◌≡◌, take, flat_map, All}
+use Rattle.reuse_session.specs.session.Reading.{OnlyReads, tree_of}
 use Rattle.reuse_tree.specs.Listing.{ArePaths}
 use Rattle.reuse_session.specs.plan.Shown.{ShowsPlace}
 use Rattle.reuse_session.specs.plan.Selected.{expanded}

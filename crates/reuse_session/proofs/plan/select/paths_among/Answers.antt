@@ -1,5 +1,4 @@
-use Rattle.std.proofs.Common.{◌++◌, ◌∙◌, ap}
-use Rattle.std.specs.Option.{option_to_list}
+use Rattle.std.proofs.Common.{◌++◌, ◌∙◌, ap, option_to_list}
 use Rattle.reuse_session.specs.session.Command.{path_in}
 use Rattle.reuse_session.proofs.lemmas.plan.Annotating.{one_more}
 use Rattle.reuse_session.proofs.plan.select.paths_among.Goals as goal

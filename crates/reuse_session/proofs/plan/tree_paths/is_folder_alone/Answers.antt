@@ -1,9 +1,8 @@
 use Rattle.std.proofs.Common.{◌∙◌, ◌∷◌, [], false, sym, ap, subst}
-use Rattle.std.specs.FinMap.{keys}
+use Rattle.reuse_session.specs.session.Reading.{keys, tree_of}
 use Rattle.std.specs.Ordering.{nat_cmp}
 use Rattle.std.specs.Cmp.Lexicographic.{slice_cmp}
 use Rattle.std.proofs.lemmas.List.Kept.{IsStrictlySortedBy-filter}
-use Rattle.reuse_tree.specs.Files.{tree_of}
 use Rattle.reuse_tree.specs.Listing.{ArePaths, is_folder_of, is_wanted, listed_paths}
 use Rattle.reuse_tree.proofs.NeedLemmas.{folder_listed}
 use Rattle.reuse_tree.proofs.TreeLemmas.{keys_ascend}

@@ -6,6 +6,7 @@ use Rattle.reuse_tree.proofs.AskedLemmas.{reads_none}
 use Rattle.reuse_tree.proofs.TreeLemmas.{tree_are_files}
 use Rattle.reuse_session.specs.session.Answer.{IsEarlyFailure}
 use Rattle.reuse_session.specs.plan.Shown.{with_neighbours, ShowsPair}
+use Rattle.reuse_session.proofs.lemmas.plan.Annotating.{told_as}
 use Rattle.reuse_session.proofs.lemmas.Asking.{told, short, failed, look_faults}
 use Rattle.reuse_session.proofs.lemmas.plan.ShownLemmas.{shows_alone}
 use Rattle.reuse_session.proofs.plan.tree_paths.pair_paths.Goals as goal
@@ -28,6 +29,4 @@ returns-in_err-folders-clause-asks g c =
     short g.S.Store IsEarlyFailure _ _ _ (p.1 ∙ ap (λ r. Err r) (p.2 ∙ c.in_err-folders.ensures.memory)) tt (reads_none g.S.Store _)
 
 pub returns-in_err-tree_paths-clause-asks : goal.returns-in_err-tree_paths-clause-asks
-returns-in_err-tree_paths-clause-asks g c =
-    let p = err_from_is_err_and c.from_residual-in_err-tree_paths.result c.from_residual-in_err-tree_paths.ensures.1 in
-    failed g.S.Store IsEarlyFailure _ _ c.in_err-tree_paths.field-0.0 _ (p.1 ∙ ap (λ r. Err r) p.2) (look_faults c.in_err-tree_paths.field-0.0) c.in_err-tree_paths.ensures.fails c.in_err-tree_paths.ensures.reads
+returns-in_err-tree_paths-clause-asks g c = failed g.S.Store IsEarlyFailure _ _ c.in_err-tree_paths.field-0.0 _ (told_as c.from_residual-in_err-tree_paths.result _ c.from_residual-in_err-tree_paths.ensures.1) (look_faults c.in_err-tree_paths.field-0.0) c.in_err-tree_paths.ensures.fails c.in_err-tree_paths.ensures.reads

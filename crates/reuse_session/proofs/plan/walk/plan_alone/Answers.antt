@@ -1,6 +1,5 @@
 use Rattle.std.proofs.Common.{subst, sym}
-use Rattle.reuse_tree.specs.Files.{tree_of}
-use Rattle.reuse_session.specs.session.Answer.{IsOfPlan}
+use Rattle.reuse_session.specs.session.Reading.{tree_of, IsOfPlan}
 use Rattle.reuse_session.specs.plan.Asked.{at_by}
 use Rattle.reuse_session.specs.plan.PathPlans.{AnswersPlan}
 use Rattle.reuse_session.specs.plan.Shown.{ShowsPair}

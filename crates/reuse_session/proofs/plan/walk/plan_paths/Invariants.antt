@@ -1,7 +1,6 @@
 use Rattle.std.proofs.Common.{drop, map}
 use Rattle.reuse_session.specs.plan.Shown.{ShowsEach}
-use Rattle.reuse_tree.specs.Files.{tree_of}
-use Rattle.reuse_tree.specs.Asked.{OnlyReads}
+use Rattle.reuse_session.specs.session.Reading.{OnlyReads, tree_of}
 use Rattle.reuse_session.specs.plan.Asked.{at_by}
 use Rattle.reuse_session.proofs.lemmas.plan.PathPlanning.{WalkedSoFar}
 use Rattle.reuse_session.proofs.plan.walk.plan_paths.Given as goal

@@ -1,5 +1,4 @@
-use Rattle.std.proofs.Common.{◌∙◌, ◌++◌, ◌∷◌, [], ◌||◌, sym, ap}
-use Rattle.std.specs.Option.{option_to_list}
+use Rattle.std.proofs.Common.{◌∙◌, ◌++◌, ◌∷◌, [], ◌||◌, sym, ap, option_to_list}
 use Rattle.reuse_session.specs.plan.PathPlans.{change_planned, path_outcome_planned, is_refusal}
 use Rattle.reuse_session.proofs.lemmas.plan.PathPlanning.{changes_more, path_outcomes_more, refused_more}
 use Rattle.reuse_session.proofs.plan.planned.Planned.of.Goals as goal

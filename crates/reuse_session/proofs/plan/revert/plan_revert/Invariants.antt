@@ -1,16 +1,14 @@
 use Rattle.std.proofs.Common.{drop, map}
-use Rattle.reuse_tree.specs.Files.{tree_of}
-use Rattle.reuse_tree.specs.Asked.{OnlyReads}
-use Rattle.reuse_tree.specs.Entry.{IsEntry}
+use Rattle.reuse_session.specs.session.Reading.{OnlyReads, tree_of}
 use Rattle.reuse_session.specs.plan.Reverting.{reverted_at}
 use Rattle.reuse_session.proofs.lemmas.plan.PathPlanning.{WalkedSoFar}
-use Rattle.reuse_session.proofs.plan.revert.plan_each.Given as goal
+use Rattle.reuse_session.proofs.plan.revert.plan_revert.Given as goal
 
 -- the store is read alone, and the plans so far are of the changes gone through
 abbrev pub invariant-loop-change : goal.invariant-loop-change
 invariant-loop-change g l = record {
   reads : OnlyReads g.S.Store l.initial.store l.store;
-  so_far : g.S.Store.honest l.store → IsEntry l.changes
+  so_far : g.S.Store.honest l.store
       → WalkedSoFar l.policy (tree_of (g.S.Store.files l.initial.store)) (map (reverted_at l.touched l.skip_moved (tree_of (g.S.Store.files l.initial.store))) l.changes)
       (map (reverted_at l.touched l.skip_moved (tree_of (g.S.Store.files l.initial.store))) (drop l.change-index l.changes)) l.plans.items;
 }
