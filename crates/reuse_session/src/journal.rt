@@ -1,6 +1,6 @@
-//! The journal: the head and the entries in `.reuse/undo`, and the steps that they tell of.
+//! The journal: the head and the entries in `.reuse/undo`, and the steps that they record.
 //!
-//! A change of the tree is made between two heads: the first tells it as pending, the last lists
+//! A change of the tree is made between two heads: the first names it as pending, the last lists
 //! it. So after a stop the files are those before the step or those after it, or an opening rolls
 //! it back. Sessions call this room, and `recover` is for callers outside. `tests/sessions` stops
 //! each call of a store, and takes each file away.

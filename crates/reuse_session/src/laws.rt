@@ -205,12 +205,12 @@ pub fn seals_tell_of_whole_files()
         ↔ All (IsUntouched direction (tree_for direction first second) now) run.step.changes }
 {}
 
-/// Where folders are gone through, a path is worked exactly where it is given and no folder, or is
+/// If folders are gone through, a path is selected exactly where it is given and no folder, or is
 /// a file beneath a folder that is given, and is covered, listed, where there is a list, and
 /// matched by no glob that is excluded. Without a list and globs all covered files are chosen.
-/// Where folders aren't gone through, a path is worked exactly where it is given. The paths are
-/// worked in byte order, and none twice. Amend, and no other command, works the `REUSE.toml` at the
-/// root like a covered file.
+/// If folders aren't gone through, a path is selected exactly where it is given. The paths are
+/// selected in byte order, and none twice. Amend, and no other command, selects the `REUSE.toml`
+/// at the root like a covered file.
 pub fn selected_paths_are_asked_for()
     ensures asked { (scope : Scope) (places : List Place) (tree : Files) (path : List ℕ) → scope.recursive ≡ true
         → Contains (selected_paths scope places tree) path

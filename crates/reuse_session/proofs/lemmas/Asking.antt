@@ -54,17 +54,6 @@ later store MayBe old mid new answer before asks = record {
   kinds = asks.kinds;
 }
 
--- a refusal behind some readings, which is passed on
-pub refused_later : {S A B : Type 0} (store : Ghosts S) (MayBe : Refusal → Type 0) (old mid new : S) (refusal : Refusal) → OnlyReads store old mid → ReadsAlone {A = A} store MayBe mid new (Err refusal) → ReadsAlone {A = B} store MayBe old new (Err refusal)
-refused_later {S} {A} {B} store MayBe old mid new refusal before asks = record {
-  reads = reads_more store old mid new before asks.reads;
-  fails = record {
-    device = λ e. omega (arith, before.failures, asks.fails.device (cc));
-    clash = λ h e. asks.fails.clash h (cc);
-  };
-  kinds = asks.kinds;
-}
-
 -- ---- of a plan
 
 pub of_plan : (refusal : Refusal) → IsNoFault refusal → IsOfPlan refusal

@@ -17,6 +17,8 @@ pub mod OnlyReading
 pub mod Peeking
 pub mod Previewing
 pub mod Recording
+pub mod ReplayAnswers
+pub mod Replaying
 pub mod RevertAnswers
 pub mod RunAnswers
 pub mod RunDoubt
@@ -26,4 +28,3 @@ pub mod SafeAnswers
 pub mod SafeDriving
 pub mod StepPathOutcomes
 pub mod StepsByNumber
-pub mod Replaying

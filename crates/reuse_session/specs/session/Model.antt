@@ -6,7 +6,7 @@ use Rattle.std.specs.List.{All}
 use Rattle.reuse_tree.specs.Entry.{paths_of}
 use Rattle.reuse_tree.specs.declared.change.Change.{Change}
 use Rattle.reuse_session.specs.session.Machine.{Kept, Snapshots, Step, ran_by, undone, redone, rows_of, run_path_outcomes, undo_path_outcomes, redo_path_outcomes}
-use Rattle.reuse_session.specs.session.Requests.{replied}
+use Rattle.reuse_session.specs.session.Requests.{as_answer}
 use Rattle.reuse_session.specs.session.RevertCalls.{changed_later, left_of}
 use Rattle.reuse_session.specs.session.Showing.{LedTo, ShowsAt}
 use Rattle.reuse_session.specs.declared.command.Command.{Command}
@@ -15,7 +15,7 @@ use Rattle.reuse_session.specs.declared.events.Event.{Event}
 use Rattle.reuse_session.specs.declared.events.Event.TheVariants as events
 use Rattle.reuse_session.specs.declared.path_outcome.PathOutcome.{PathOutcome}
 use Rattle.reuse_session.specs.declared.reply.Response.{Response}
-use Rattle.reuse_session.specs.declared.reply.Response.TheVariants as replies
+use Rattle.reuse_session.specs.declared.reply.Response.TheVariants as responses
 use Rattle.reuse_session.specs.declared.reply.Refusal.{Refusal}
 use Rattle.reuse_session.specs.declared.reply.Refusal.TheVariants.{NoSuchStep}
 use Rattle.reuse_session.specs.declared.reply.Shown.{Shown}
@@ -47,10 +47,10 @@ command_back state number skip_moved changes =
 
 -- how that run is answered: by the paths that changed, and the others of the step
 abbrev pub as_reverted : List Change → Result Response Refusal → Result Response Refusal
-as_reverted changes (Ok (replies.Changed paths)) =
-    Ok (replies.Reverted (record { changed = paths; skipped = left_of (paths_of changes) paths }))
+as_reverted changes (Ok (responses.Changed paths)) =
+    Ok (responses.Reverted (record { changed = paths; skipped = left_of (paths_of changes) paths }))
 as_reverted changes (Ok reply) =
-    Ok (replies.Reverted (record { changed = []; skipped = left_of (paths_of changes) [] }))
+    Ok (responses.Reverted (record { changed = []; skipped = left_of (paths_of changes) [] }))
 as_reverted changes (Err refusal) = Err refusal
 
 -- a revert is the run that takes back what the step of the number changed, or no step that is done has the number
@@ -87,10 +87,10 @@ PreviewsTo state (calls.Revert number skip_moved) answer = PreviewsBack state nu
 abbrev pub Gives : Snapshots → Request → Result Response Refusal → Snapshots → Type 0
 Gives state (requests.Make call when) answer next = MakesTo state call when answer next
 Gives state (requests.Preview call) answer next = (path_outcomes : Result (List PathOutcome) Refusal)
-    × (answer ≡ replied replies.Preview path_outcomes) × PreviewsTo state call path_outcomes × (next ≡ state)
-Gives state requests.Log answer next = (answer ≡ Ok (replies.Log (rows_of state))) × (next ≡ state)
-Gives state (requests.Show number) answer next = (shown : Result Shown Refusal) × (answer ≡ replied replies.Shown shown)
-    × ShowsBy state number shown × (next ≡ state)
+    × (answer ≡ as_answer responses.Preview path_outcomes) × PreviewsTo state call path_outcomes × (next ≡ state)
+Gives state requests.Log answer next = (answer ≡ Ok (responses.Log (rows_of state))) × (next ≡ state)
+Gives state (requests.Show number) answer next = (shown : Result Shown Refusal)
+    × (answer ≡ as_answer responses.Shown shown) × ShowsBy state number shown × (next ≡ state)
 
 -- a request that the model answers by its trees alone: no step is named by its number
 abbrev pub IsByTrees : Request → Type 0
@@ -104,7 +104,7 @@ IsByTrees request = Unit {0}
 -- a request, or to be opened again
 abbrev pub GivesEvent : Snapshots → Event → Result Response Refusal → Snapshots → Type 0
 GivesEvent state (events.Ask request) answer next = Gives state request answer next
-GivesEvent state events.Reopen answer next = (answer ≡ Ok replies.Opened) × (next ≡ state)
+GivesEvent state events.Reopen answer next = (answer ≡ Ok responses.Opened) × (next ≡ state)
 
 -- the model gives the answers to the events, one after the other, from the one state to the other
 abbrev pub AnswersAll : List Event → List (Result Response Refusal) → (state end : Snapshots) → Type 0

@@ -24,7 +24,7 @@ use Rattle.reuse_session.specs.declared.path_outcome.PathOutcome.{PathOutcome}
 use Rattle.reuse_session.specs.declared.reply.Refusal.{Refusal}
 use Rattle.reuse_session.specs.declared.reply.Refusal.TheVariants.{Broken, Failed, NoSuchStep}
 use Rattle.reuse_session.specs.declared.reply.Response.{Response}
-use Rattle.reuse_session.specs.declared.reply.Response.TheVariants as replies
+use Rattle.reuse_session.specs.declared.reply.Response.TheVariants as responses
 use Rattle.reuse_session.specs.declared.reply.Reverted.{Reverted}
 use Rattle.reuse_session.specs.declared.reply.Shown.{Shown}
 use Rattle.reuse_session.specs.declared.request.Call.{Call}
@@ -52,10 +52,10 @@ abbrev pub IfFailed : (Failure → Type 0) → Refusal → Type 0
 IfFailed Claim (Failed failure) = Claim failure
 IfFailed Claim refusal = Unit {0}
 
--- the value as a reply, or the refusal
-abbrev pub replied : {A : Type 0} → (A → Response) → Result A Refusal → Result Response Refusal
-replied reply (Ok value) = Ok (reply value)
-replied reply (Err refusal) = Err refusal
+-- the value as a response, or the refusal
+abbrev pub as_answer : {A : Type 0} → (A → Response) → Result A Refusal → Result Response Refusal
+as_answer response (Ok value) = Ok (response value)
+as_answer response (Err refusal) = Err refusal
 
 -- ---- what is answered, and which committed state is left
 
@@ -79,17 +79,17 @@ Makes (calls.Run command) when old answer new = Runs command when old answer new
 Makes calls.Undo when old answer new = Undoes old.journal.done old answer new
 Makes calls.Redo when old answer new = Redoes old.journal.undone old answer new
 Makes (calls.Revert number skip_moved) when old answer new =
-    (reverted : Result Reverted Refusal) × (answer ≡ replied replies.Reverted reverted)
+    (reverted : Result Reverted Refusal) × (answer ≡ as_answer responses.Reverted reverted)
     × Reverts number skip_moved when old reverted new
 
 -- the same of a request; what only reads leaves the state
 abbrev pub LeadsTo : Request → State → Result Response Refusal → State → Type 0
 LeadsTo (requests.Make call when) old answer new = Makes call when old answer new
 LeadsTo (requests.Preview call) old answer new = (path_outcomes : Result (List PathOutcome) Refusal)
-    × (answer ≡ replied replies.Preview path_outcomes) × Previews call old path_outcomes × (new ≡ old)
-LeadsTo requests.Log old answer new = (answer ≡ Ok (replies.Log (rows_in old.journal))) × (new ≡ old)
-LeadsTo (requests.Show number) old answer new = (shown : Result Shown Refusal) × (answer ≡ replied replies.Shown shown)
-    × ShowsIn old.journal number shown × (new ≡ old)
+    × (answer ≡ as_answer responses.Preview path_outcomes) × Previews call old path_outcomes × (new ≡ old)
+LeadsTo requests.Log old answer new = (answer ≡ Ok (responses.Log (rows_in old.journal))) × (new ≡ old)
+LeadsTo (requests.Show number) old answer new = (shown : Result Shown Refusal)
+    × (answer ≡ as_answer responses.Shown shown) × ShowsIn old.journal number shown × (new ≡ old)
 
 -- ---- where it stops
 
@@ -144,7 +144,7 @@ KeepsFolder request old before after = after ≡ before
 
 -- the answer as that of a run, by which paths changed
 abbrev pub as_step : Result Response Refusal → Result Response Refusal
-as_step (Ok (replies.Reverted reverted)) = Ok (changed_or_none reverted.changed)
+as_step (Ok (responses.Reverted reverted)) = Ok (changed_or_none reverted.changed)
 as_step answer = answer
 
 -- After a loss of power, at any moment of a call, what is left is the state before it or that after it. What only reads

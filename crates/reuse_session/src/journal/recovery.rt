@@ -54,12 +54,12 @@ pub fn recover<S: Store>(
     skip_moved: bool,
 ) -> (S, Result<Recovered, Refusal>)
     // Nothing, where no step is pending; and else each path of the step is rolled back, stays or is
-    // left, and is told so. The journal lists the same steps then, and none is pending.
+    // left, and is reported so. The journal lists the same steps then, and none is pending.
     ensures recovered { S.honest result.0
         → IfOk result.1 (RecoversFiles skip_moved (S.files store) (S.files result.0)) }
-    // Unless it tells an I/O error or an allocation failure, it is refused as `BadJournal` exactly
-    // at the first path at fault, and as `Moved` exactly at the first path that is stuck, where
-    // none is to be skipped.
+    // Unless it reports an I/O error or an allocation failure, it is refused as `BadJournal`
+    // exactly at the first path at fault, and as `Moved` exactly at the first path that is stuck,
+    // where none is to be skipped.
     ensures exact { S.honest result.0 → TellsNoFault result.1 → RefusesRecovery skip_moved (S.files store) result.1 }
 
     // It stops only where a step is pending: that is recovered, or each of its paths is as it was
@@ -67,7 +67,7 @@ pub fn recover<S: Store>(
     ensures interrupted { S.honest result.0 → (cause : Cause)
         → result.1 ≡ Err (Refusal.Failed (failures.Interrupted cause))
         → StopsRecovering (S.files store) (S.files result.0) }
-    // It is refused before it has put anything, and stops after that (but where it tells that a
+    // It is refused before it has put anything, and stops after that (but where it reports that a
     // file changed while it ran). Where no step is pending it only reads; and of the journal's
     // folder nothing but the head changes.
     ensures early { IfErr result.1 (λ refusal. IsEarly refusal → OnlyReads S.Store store result.0) }
@@ -249,7 +249,7 @@ fn roll_back_part<S: Store>(
     }
 }
 
-// Puts a head that tells of no step, between barriers.
+// Puts a head that names no step, between barriers.
 fn clear_head<S: Store>(alloc: Global, store: &mut S, head: &NewHead<'_>) -> Result<(), Refusal>
     ensures done { S.honest store.new
         → OnOk result (Sets head_path (Some head.now.text.now) (S.files store.old) (S.files store.new)) }

@@ -1,4 +1,4 @@
-//! Rolls a pending step back: its files are as they were before it, and the head tells it no more.
+//! Rolls a pending step back: its files are as they were before it, and the head names it no more.
 ghost use Rattle.std.specs.Prelude.{◌≡◌, ◌≢◌, ◌<◌, ◌≤◌, ◌+◌, ℕ, List, IfErr, OnOk, OnErr, IsErrOf, length, true, false};
 ghost use Rattle.std.specs.List.{All};
 ghost use Rattle.reuse_tree.specs.Files.{Files, AreFiles, Clashes, tree_of};
@@ -75,8 +75,8 @@ pub fn roll_back<S: Store>(
         → All (CanBeRolledBack direction (tree_of (S.files store.old))) changes.now }
     ensures folder { S.honest store.new → IsEntry changes.now
         → IsSameBut head_path (undo_folder_of (S.files store.old)) (undo_folder_of (S.files store.new)) }
-    // It is refused before it has moved anything, and stops after that; one that tells a file that
-    // changed since it was tested may stop before.
+    // It is refused before it has moved anything, and stops after that; one that reports a file
+    // that changed since it was tested may stop before.
     ensures early { IfErr result (λ refusal. IsEarly refusal → OnlyReads S.Store store.old store.new) }
     ensures late { (cause : Cause) → result ≡ Err (refusals.Failed (failures.Interrupted cause)) → cause ≢ Cause.Moved
         → S.mutations store.old < S.mutations store.new }
@@ -94,7 +94,7 @@ pub fn roll_back<S: Store>(
     }
 }
 
-/// What is told of a cause: a stop once a put or a removal has started.
+/// The refusal of a cause: a stop once a put or a removal has started.
 pub fn told(started: bool, cause: Cause) -> Refusal
     ensures { result ≡ told_of started cause }
 {

@@ -18,13 +18,13 @@ use std::alloc::Global;
 pub struct StepHeads<'a> {
     /// Where both are put.
     pub path: &'a HeadPath,
-    /// The text of the head that tells the step as pending.
+    /// The text of the head that names the step as pending.
     pub pending: &'a [u8],
     /// The text of the head that lists it.
     pub settled: &'a [u8],
 }
 
-/// Puts the head that tells the step as pending, makes its changes this way, and puts the head that
+/// Puts the head that names the step as pending, makes its changes this way, and puts the head that
 /// lists it, with a barrier behind each of the three. Its caller has tested that each change can be
 /// made.
 pub fn commit_step<S: Store>(

@@ -1,6 +1,6 @@
 //! A session answers a request: the one place that says which call it is.
 ghost use Rattle.std.specs.Prelude.{◌≡◌, ◌↔◌, true};
-ghost use Rattle.reuse_session.specs.session.Requests.{replied};
+ghost use Rattle.reuse_session.specs.session.Requests.{as_answer};
 
 use crate::path_outcome::PathOutcomes;
 use crate::reply::{Answer, Refusal, Response, Reverted, Rows, Shown};
@@ -21,9 +21,9 @@ impl<S: Store + Drop> Session<S> {
     {
         match request {
             Request::Make(call, when) => self.make(alloc, call, *when),
-            Request::Preview(call) => path_outcomes_replied(self.preview_call(alloc, call)),
-            Request::Log => rows_replied(self.log(alloc)),
-            Request::Show(number) => shown_replied(self.show(alloc, *number)),
+            Request::Preview(call) => preview_answer(self.preview_call(alloc, call)),
+            Request::Log => log_answer(self.log(alloc)),
+            Request::Show(number) => shown_answer(self.show(alloc, *number)),
         }
     }
 
@@ -36,13 +36,14 @@ impl<S: Store + Drop> Session<S> {
             Call::Undo => self.undo(alloc),
             Call::Redo => self.redo(alloc),
             Call::Revert { number, skip_moved } => {
-                reverted_replied(self.revert(alloc, *number, *skip_moved, when))
+                reverted_answer(self.revert(alloc, *number, *skip_moved, when))
             }
         }
     }
 
-    /// Tells what the call would do, path by path, and changes nothing. If one of the path outcomes
-    /// is a refusal, the call would be refused by the first, and else it would be accepted.
+    /// Answers what the call would do, path by path, and changes nothing. If one of the path
+    /// outcomes is a refusal, the call would be refused by the first, and else it would be
+    /// accepted.
     ///
     /// It is refused as `preview`, `preview_undo` and `preview_redo` are, and for a revert as
     /// `revert_command` is.
@@ -85,8 +86,8 @@ impl<S: Store + Drop> Session<S> {
     }
 }
 
-fn path_outcomes_replied(answer: Result<PathOutcomes, Refusal>) -> Answer
-    ensures { result ≡ replied Response.Preview answer }
+fn preview_answer(answer: Result<PathOutcomes, Refusal>) -> Answer
+    ensures { result ≡ as_answer Response.Preview answer }
 {
     match answer {
         Ok(path_outcomes) => Ok(Response::Preview(path_outcomes)),
@@ -94,8 +95,8 @@ fn path_outcomes_replied(answer: Result<PathOutcomes, Refusal>) -> Answer
     }
 }
 
-fn rows_replied(answer: Result<Rows, Refusal>) -> Answer
-    ensures { result ≡ replied Response.Log answer }
+fn log_answer(answer: Result<Rows, Refusal>) -> Answer
+    ensures { result ≡ as_answer Response.Log answer }
 {
     match answer {
         Ok(rows) => Ok(Response::Log(rows)),
@@ -103,8 +104,8 @@ fn rows_replied(answer: Result<Rows, Refusal>) -> Answer
     }
 }
 
-fn shown_replied(answer: Result<Shown, Refusal>) -> Answer
-    ensures { result ≡ replied Response.Shown answer }
+fn shown_answer(answer: Result<Shown, Refusal>) -> Answer
+    ensures { result ≡ as_answer Response.Shown answer }
 {
     match answer {
         Ok(shown) => Ok(Response::Shown(shown)),
@@ -112,8 +113,8 @@ fn shown_replied(answer: Result<Shown, Refusal>) -> Answer
     }
 }
 
-fn reverted_replied(answer: Result<Reverted, Refusal>) -> Answer
-    ensures { result ≡ replied Response.Reverted answer }
+fn reverted_answer(answer: Result<Reverted, Refusal>) -> Answer
+    ensures { result ≡ as_answer Response.Reverted answer }
 {
     match answer {
         Ok(reverted) => Ok(Response::Reverted(reverted)),

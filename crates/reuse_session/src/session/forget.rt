@@ -44,7 +44,7 @@ impl<S: Store + Drop> Session<S> {
         ensures stays { IfErr result (λ refusal. IsEarly refusal → self.new ≡ self.old) }
         ensures refusal { IfErr result IsForgetRefusal }
 
-        // Unless the answer tells an allocation failure or a stop, each number is that of a step
+        // Unless the answer reports an allocation failure or a stop, each number is that of a step
         // and these are gone, from any standing.
         ensures exact { S.honest (store_of self.new) → (held : State) → StandsOn S.files self.old held
             → TellsNoFault result → (left : State) × StandsOn S.files self.new left

@@ -27,7 +27,7 @@ use reuse_tree::{Direction, Store};
 use std::alloc::Global;
 
 impl<S: Store + Drop> Session<S> {
-    /// Tells what a run of the command would do, path by path, and changes nothing. Where one of
+    /// Answers what a run of the command would do, path by path, and changes nothing. Where one of
     /// the path outcomes is a refusal, a run is refused by the first, and else it is accepted.
     ///
     /// It is refused as `Broken` or `JournalFull`, or for an I/O error or an allocation failure.
@@ -52,9 +52,9 @@ impl<S: Store + Drop> Session<S> {
         path_outcomes_alone(self.preview_changes(alloc, command))
     }
 
-    /// Tells what a run of the command would do, path by path, as `preview` does, and answers the
-    /// changes of the same plan, in byte order of their paths. Where none of the path outcomes is a
-    /// refusal they are those that a run would record, and none where it would change nothing.
+    /// Answers what a run of the command would do, path by path, as `preview` does, and with that
+    /// the changes of the same plan, in byte order of their paths. Where none of the path outcomes
+    /// is a refusal they are those that a run would record, and none where it would change nothing.
     ///
     /// It is refused as `Broken` or `JournalFull`, or for an I/O error or an allocation failure.
     pub fn preview_changes(
@@ -97,8 +97,8 @@ impl<S: Store + Drop> Session<S> {
         plan_preview(alloc, &mut self.store, command, &mut self.counts)
     }
 
-    /// Tells what an undo would do: for each path of the last step, in byte order, whether it would
-    /// be taken back or is refused as `Moved`.
+    /// Answers what an undo would do: for each path of the last step, in byte order, whether it
+    /// would be taken back or is refused as `Moved`.
     ///
     /// It is refused as `Broken` or `NothingToUndo`, as `BadJournal` where the entry can't be read,
     /// or for an I/O error or an allocation failure.
@@ -116,8 +116,8 @@ impl<S: Store + Drop> Session<S> {
         path_outcomes_alone(self.preview_step(alloc, Direction::Backward))
     }
 
-    /// Tells what a redo would do: for each path of the next step, in byte order, whether it would
-    /// be changed again or is refused as `Moved`.
+    /// Answers what a redo would do: for each path of the next step, in byte order, whether it
+    /// would be changed again or is refused as `Moved`.
     ///
     /// It is refused as `Broken` or `NothingToRedo`, as `BadJournal` where the entry can't be read,
     /// or for an I/O error or an allocation failure.
@@ -135,7 +135,7 @@ impl<S: Store + Drop> Session<S> {
         path_outcomes_alone(self.preview_step(alloc, Direction::Forward))
     }
 
-    /// Tells what going one step this way would do, as `preview_undo` and `preview_redo` do, and
+    /// Answers what going one step this way would do, as `preview_undo` and `preview_redo` do, and
     /// answers the changes of the step, which an undo takes back or a redo makes again.
     ///
     /// It is refused as `Broken`, as `NothingToUndo` or `NothingToRedo`, as `BadJournal` where the

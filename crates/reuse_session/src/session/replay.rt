@@ -31,7 +31,7 @@ impl<S: Store + Drop> Session<S> {
             ↔ ((is_broken self.old ≡ false) × ((memory_of self.old).done ≡ [])) }
         ensures stays { (result ≡ Err Refusal.Broken) ⊎ (result ≡ Err Refusal.NothingToUndo) → self.new ≡ self.old }
 
-        // Unless the answer tells an I/O error or an allocation failure, it is accepted exactly
+        // Unless the answer reports an I/O error or an allocation failure, it is accepted exactly
         // where each file is as the step left it and no path that it makes clashes. It then takes
         // these changes back, and changes nothing else.
         ensures exact { S.honest (store_of self.new) → (held : State) → StandsOn S.files self.old held
@@ -60,7 +60,7 @@ impl<S: Store + Drop> Session<S> {
             ↔ ((is_broken self.old ≡ false) × ((memory_of self.old).undone ≡ [])) }
         ensures stays { (result ≡ Err Refusal.Broken) ⊎ (result ≡ Err Refusal.NothingToRedo) → self.new ≡ self.old }
 
-        // Unless the answer tells an I/O error or an allocation failure, it is accepted exactly
+        // Unless the answer reports an I/O error or an allocation failure, it is accepted exactly
         // where each file is as it was before the step and no path that it makes clashes. It then
         // makes these changes, and changes nothing else.
         ensures exact { S.honest (store_of self.new) → (held : State) → StandsOn S.files self.old held

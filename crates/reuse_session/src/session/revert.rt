@@ -48,13 +48,13 @@ impl<S: Store + Drop> Session<S> {
             ↔ ((is_broken self.old ≡ false) × (lists (memory_of self.old).done number ≡ false)) }
         ensures stays { (result ≡ Err Refusal.Broken) ⊎ (result ≡ Err (Refusal.NoSuchStep number))
             → self.new ≡ self.old }
-        // A full journal takes no further entry, so that no clash of one is told.
+        // A full journal takes no further entry, so that no clash of one is reported.
         ensures full { S.honest (store_of self.new)
             → is_full (length (memory_of self.old).done) (memory_of self.old).used ≡ true → IfErr result IsNoClash }
 
-        // Unless the answer tells an I/O error or an allocation failure, the files and the session
-        // go on as a run of the command that takes the step's changes back: from any standing, and
-        // as the machine.
+        // Unless the answer reports an I/O error or an allocation failure, the files and the
+        // session go on as a run of the command that takes the step's changes back: from any
+        // standing, and as the machine.
         ensures exact { S.honest (store_of self.new) → (held : State) → StandsOn S.files self.old held
             → TellsNoFault result → (left : State) × StandsOn S.files self.new left
             × Reverts number skip_moved when held result left }
@@ -82,7 +82,7 @@ impl<S: Store + Drop> Session<S> {
             touched,
             skip_moved,
         };
-        told(alloc, self.run(alloc, &command, when), paths)
+        reverted_by(alloc, self.run(alloc, &command, when), paths)
     }
 
     /// The command that a revert of this step runs: it takes the step's changes back, but where a
@@ -120,14 +120,21 @@ impl<S: Store + Drop> Session<S> {
 }
 
 // The answer of the run that takes back a step of these paths.
-fn told(alloc: Global, answer: Result<Response, Refusal>, paths: Paths) -> Result<Reverted, Refusal>
-    ensures same { IsRunAnswer answer → as_run result ≡ answer }
+fn reverted_by(
+    alloc: Global,
+    answer: Result<Response, Refusal>,
+    paths: Paths,
+) -> Result<Reverted, Refusal>
+    requires { IsRunAnswer answer }
+    ensures same { as_run result ≡ answer }
     ensures skipped { IfOk result (λ reverted. ArePaths reverted.changed
         → reverted.skipped ≡ left_of paths reverted.changed) }
 {
     match answer {
         Ok(Response::Changed(changed)) => Ok(reverted(paths, changed)),
-        Ok(_) => Ok(reverted(paths, Paths::new(Vec::new(alloc)))),
+        Ok(Response::NothingChanged) => Ok(reverted(paths, Paths::new(Vec::new(alloc)))),
+        // A run answers nothing else.
+        Ok(_) => unreachable!(),
         Err(refusal) => Err(refusal),
     }
 }

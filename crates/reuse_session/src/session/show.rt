@@ -25,8 +25,8 @@ impl<S: Store + Drop> Session<S> {
         ensures broken { (result ≡ Err Refusal.Broken) ↔ (is_broken self.old ≡ true) }
         ensures absent { (result ≡ Err (Refusal.NoSuchStep number))
             ↔ ((is_broken self.old ≡ false) × ((lists (memory_of self.old).done number || lists (memory_of self.old).undone number) ≡ false)) }
-        // Unless it tells an I/O error or an allocation failure, it shows a step of the number, or
-        // tells that there is none.
+        // Unless it reports an I/O error or an allocation failure, it shows a step of the number,
+        // or reports that there is none.
         ensures exact { S.honest (store_of self.new) → (held : State) → StandsOn S.files self.old held
             → TellsNoFault result → ShowsIn held.journal number result }
         ensures machine { S.honest (store_of self.new) → (state : Snapshots) → StandsAt S.files self.old state

@@ -34,12 +34,6 @@ use Rattle.reuse_session.proofs.lemmas.journal.PendingRecovery.{under_way_still}
 same_front : (step other : Recorded) (steps more : List Recorded) → step ∷ steps ≡ other ∷ more → step ≡ other
 same_front step other steps more e = cc
 
--- a new step uses a number
-new_uses : (direction : PendingDirection) (step : Recorded) (old new : Journal) → Mutations direction step old new → (direction ≡ Do) ⊎ (new.used ≡ old.used)
-new_uses Do step old new mutations = inl refl
-new_uses Undo step old new mutations = inr (ap (λ j. j.used) mutations.2)
-new_uses Redo step old new mutations = inr (ap (λ j. j.used) mutations.2)
-
 -- what is undone isn't redone
 not_back_and_on : (step other : Recorded) (old new : Journal) → Mutations Undo step old new → Mutations Redo other old new → ⊥
 not_back_and_on step other old new back on =

@@ -1,5 +1,5 @@
 -- How a session answers a request, from what its calls say.
-use Rattle.std.proofs.Common.{◌≡◌, ◌↔◌, ◌⊎◌, inl, inr, ⊎_elim, ◌+◌, ℕ, Bool, true, false, List, [], ◌∷◌, Result, Ok, Err, IfOk, IfErr, refl, sym, ap, subst, ◌∙◌}
+use Rattle.std.proofs.Common.{◌≡◌, ◌↔◌, ⊎_elim, ◌+◌, ℕ, Bool, true, false, List, Result, Ok, Err, IfOk, IfErr, refl, sym, ap, subst, ◌∙◌}
 use Rattle.std.proofs.lemmas.Bool.{false≢true}
 use Rattle.std.specs.FinMap.{get}
 use Rattle.std.specs.List.{Contains}
@@ -8,28 +8,25 @@ use Rattle.reuse_tree.specs.Files.{Files, Clashes}
 use Rattle.reuse_tree.specs.Tree.{undo_folder_of}
 use Rattle.reuse_tree.specs.declared.change.Change.{Change}
 use Rattle.reuse_tree.specs.declared.journal.entry.Entry.{Entry}
-use Rattle.reuse_tree.specs.declared.journal.head.PendingDirection.{PendingDirection}
 use Rattle.reuse_tree.specs.declared.store.Store.{Ghosts}
-use Rattle.reuse_tree.specs.declared.direction.Direction.{Direction}
-use Rattle.reuse_tree.specs.declared.direction.Direction.TheVariants as direction
 use Rattle.reuse_tree.specs.declared.cause.Cause.{Cause}
-use Rattle.reuse_session.specs.session.Answer.{IsBrokenOrMemory, IsEarly, IsStop, IsNoClash, IsRunAnswer, HasCause, HasClash, RefusedAsRead, TellsNoFault}
+use Rattle.reuse_session.specs.session.Answer.{IsBrokenOrMemory, IsEarly, IsStop, IsNoClash, IsRunAnswer, HasClash, RefusedAsRead, TellsNoFault}
 use Rattle.reuse_session.specs.session.Calls.{files_of, folder_of, IsCall, LeavesRun}
-use Rattle.reuse_session.specs.journal.Journal.{Recorded, State, Replays, rows_in}
+use Rattle.reuse_session.specs.journal.Journal.{Recorded, State, rows_in}
 use Rattle.reuse_session.specs.journal.JournalFiles.{head_path, entry_in, entry_path, number_of, EntrySays, IsFree}
-use Rattle.reuse_session.specs.journal.Losses.{AreSafeOn, IsNextBy, Survives}
-use Rattle.reuse_session.specs.session.Requests.{IsReading, MayFail, IfFailed, replied, LeadsTo, IsAfter, IsStopped, HasCallClash, KeepsFolder, SurvivesRequest, as_step, IsAnswered, ReadsOnlyWithCause}
-use Rattle.reuse_session.specs.session.RevertCalls.{IsAfterRevert, LeavesRevert, Reverts, as_run, touched_later}
-use Rattle.reuse_session.specs.session.Session.{store_of, is_broken, memory_of, IsKept, IsRun, IsSameBut, IsSameButTwo, Remembers, StandsOn, StopsAfter, StopsAfterRun}
+use Rattle.reuse_session.specs.journal.Losses.{AreSafeOn}
+use Rattle.reuse_session.specs.session.Requests.{IsReading, MayFail, IfFailed, as_answer, LeadsTo, HasCallClash, KeepsFolder, SurvivesRequest, as_step, IsAnswered, ReadsOnlyWithCause}
+use Rattle.reuse_session.specs.session.RevertCalls.{IsAfterRevert, LeavesRevert, as_run, touched_later}
+use Rattle.reuse_session.specs.session.Session.{store_of, is_broken, memory_of, IsKept, IsSameButTwo, Remembers, StandsOn, StopsAfterRun}
 use Rattle.reuse_session.specs.session.Showing.{lists}
-use Rattle.reuse_session.specs.journal.Standing.{InDoubt, IsStanding, IsStep}
+use Rattle.reuse_session.specs.journal.Standing.{InDoubt, IsStanding}
 use Rattle.reuse_session.specs.declared.command.Command.TheVariants.{Revert}
 use Rattle.reuse_session.specs.declared.failure.Fault.TheVariants as stores
 use Rattle.reuse_session.specs.declared.failure.Failure.TheVariants.{Fault, Memory, Interrupted}
 use Rattle.reuse_session.specs.declared.reply.Refusal.{Refusal}
 use Rattle.reuse_session.specs.declared.reply.Refusal.TheVariants.{Broken, NoSuchStep, Failed}
 use Rattle.reuse_session.specs.declared.reply.Response.{Response}
-use Rattle.reuse_session.specs.declared.reply.Response.TheVariants as replies
+use Rattle.reuse_session.specs.declared.reply.Response.TheVariants as responses
 use Rattle.reuse_session.specs.declared.reply.Reverted.{Reverted}
 use Rattle.reuse_session.specs.declared.reply.Row.{Row}
 use Rattle.reuse_session.specs.declared.request.Call.{Call}
@@ -42,28 +39,28 @@ use Rattle.reuse_session.proofs.lemmas.session.Peeking.{refused, same_refusal, r
 use Rattle.reuse_session.proofs.lemmas.journal.StepDoubt.{reads_are_safe}
 use Rattle.reuse_session.proofs.lemmas.session.StepsByNumber.{done_step, says_step}
 
--- ---- answers as replies
+-- ---- answers as responses
 
 -- what holds of a refusal holds of it as a reply's
-pub err_replied : {A : Type 0} (reply : A → Response) (answer : Result A Refusal) (P : Refusal → Type 0) → IfErr answer P → IfErr (replied reply answer) P
-err_replied reply (Ok value) P h = tt
-err_replied reply (Err refusal) P h = h
+pub err_as_answer : {A : Type 0} (reply : A → Response) (answer : Result A Refusal) (P : Refusal → Type 0) → IfErr answer P → IfErr (as_answer reply answer) P
+err_as_answer reply (Ok value) P h = tt
+err_as_answer reply (Err refusal) P h = h
 
-pub told_replied : {A : Type 0} (reply : A → Response) (answer : Result A Refusal) → TellsNoFault (replied reply answer) → TellsNoFault answer
-told_replied reply (Ok value) told = tt
-told_replied reply (Err (Failed failure)) told = absurd told
-told_replied reply (Err refusal) told = tt
+pub told_as_answer : {A : Type 0} (reply : A → Response) (answer : Result A Refusal) → TellsNoFault (as_answer reply answer) → TellsNoFault answer
+told_as_answer reply (Ok value) told = tt
+told_as_answer reply (Err (Failed failure)) told = absurd told
+told_as_answer reply (Err refusal) told = tt
 
-is_replied : {A : Type 0} (reply : A → Response) (answer : Result A Refusal) (refusal : Refusal) → replied reply answer ≡ Err refusal → answer ≡ Err refusal
-is_replied reply (Ok value) refusal is = absurd (cc)
-is_replied {A} reply (Err other) refusal is = ap (refused A) (same_refusal Response other refusal is)
+is_as_answer : {A : Type 0} (reply : A → Response) (answer : Result A Refusal) (refusal : Refusal) → as_answer reply answer ≡ Err refusal → answer ≡ Err refusal
+is_as_answer reply (Ok value) refusal is = absurd (cc)
+is_as_answer {A} reply (Err other) refusal is = ap (refused A) (same_refusal Response other refusal is)
 
-pub broken_replied : {A : Type 0} (reply : A → Response) (answer : Result A Refusal) (P : Type 0) → (answer ≡ Err Broken ↔ P) → (replied reply answer ≡ Err Broken ↔ P)
-broken_replied reply answer P h = (λ is. h.0 (is_replied reply answer Broken is), λ p. ap (replied reply) (h.1 p))
+pub broken_as_answer : {A : Type 0} (reply : A → Response) (answer : Result A Refusal) (P : Type 0) → (answer ≡ Err Broken ↔ P) → (as_answer reply answer ≡ Err Broken ↔ P)
+broken_as_answer reply answer P h = (λ is. h.0 (is_as_answer reply answer Broken is), λ p. ap (as_answer reply) (h.1 p))
 
-pub call_replied : {A S : Type 0} (store : Ghosts S) (reply : A → Response) (answer : Result A Refusal) (old new : Session S) → IsCall store answer old new → IsCall store (replied reply answer) old new
-call_replied store reply (Ok value) old new call = record { refused = tt; interrupted = tt; fault = tt; later = call.later }
-call_replied store reply (Err refusal) old new call = record { refused = call.refused; interrupted = call.interrupted; fault = call.fault; later = call.later }
+pub call_as_answer : {A S : Type 0} (store : Ghosts S) (reply : A → Response) (answer : Result A Refusal) (old new : Session S) → IsCall store answer old new → IsCall store (as_answer reply answer) old new
+call_as_answer store reply (Ok value) old new call = record { refused = tt; interrupted = tt; fault = tt; later = call.later }
+call_as_answer store reply (Err refusal) old new call = record { refused = call.refused; interrupted = call.interrupted; fault = call.fault; later = call.later }
 
 -- ---- what only reads
 
@@ -111,82 +108,63 @@ log_fails (Err (Failed Memory)) is = tt
 log_fails (Err refusal) is = absurd is
 
 pub log_leads : {S : Type 0} (files : S → Files) (session : Session S) (held : State) (answer : Result (List Row) Refusal) → StandsOn files session held → (answer ≡ Err Broken → is_broken session ≡ true)
-    → IfOk answer (λ rows. rows ≡ rows_in held.journal) → IfErr answer IsBrokenOrMemory → TellsNoFault answer → LeadsTo requests.Log held (replied replies.Log answer) held
-log_leads files session held (Ok rows) stands broken is kinds told = (ap (λ (rs : List Row). Ok (replies.Log rs)) is, refl)
+    → IfOk answer (λ rows. rows ≡ rows_in held.journal) → IfErr answer IsBrokenOrMemory → TellsNoFault answer → LeadsTo requests.Log held (as_answer responses.Log answer) held
+log_leads files session held (Ok rows) stands broken is kinds told = (ap (λ (rs : List Row). Ok (responses.Log rs)) is, refl)
 log_leads files session held (Err Broken) stands broken is kinds told = absurd (false≢true (sym stands.whole ∙ broken refl))
 log_leads files session held (Err (Failed Memory)) stands broken is kinds told = absurd told
 log_leads files session held (Err refusal) stands broken is kinds told = absurd kinds
 
 module _ {S A : Type 0} (store : Ghosts S) (request : Request) (look : IsReading request) (reply : A → Response) (answer : Result A Refusal) (old new : Session S) (reads_with_cause : ReadsOnlyWithCause store answer old new)
     (broken : answer ≡ Err Broken ↔ (is_broken old ≡ true)) (fails : IfErr answer (IfFailed (MayFail request)))
-    (exact : store.honest (store_of new) → (held : State) → StandsOn store.files old held → TellsNoFault answer → LeadsTo request held (replied reply answer) held)
+    (exact : store.honest (store_of new) → (held : State) → StandsOn store.files old held → TellsNoFault answer → LeadsTo request held (as_answer reply answer) held)
   where
     early_stands : (answer : Result Response Refusal) (held : State) → StandsOn store.files new held → IfErr answer (λ refusal. IsEarly refusal → StandsOn store.files new held)
     early_stands (Ok value) held stands = tt
     early_stands (Err refusal) held stands = λ early. stands
 
-    no_stop : (P : Type 0) (answer : Result A Refusal) → IfErr answer IsEarly → IfErr (replied reply answer) (λ refusal. IsStop refusal → P)
+    no_stop : (P : Type 0) (answer : Result A Refusal) → IfErr answer IsEarly → IfErr (as_answer reply answer) (λ refusal. IsStop refusal → P)
     no_stop P (Ok value) early = tt
     no_stop P (Err (Failed (Interrupted cause))) early = absurd early
     no_stop P (Err refusal) early = λ stop. absurd stop
 
-    clashes : (held : State) (answer : Result A Refusal) → IfErr answer IsNoClash → IfErr (replied reply answer) (HasCallClash request held (files_of store old))
+    clashes : (held : State) (answer : Result A Refusal) → IfErr answer IsNoClash → IfErr (as_answer reply answer) (HasCallClash request held (files_of store old))
     clashes held (Ok value) none = tt
     clashes held (Err refusal) none = clash_look request held (files_of store old) refusal look none
 
-    pub answered_look : IsAnswered store request (replied reply answer) old new
+    pub answered_look : IsAnswered store request (as_answer reply answer) old new
     answered_look = record {
-      broken = broken_replied reply answer _ broken;
-      exact = λ honest held stands told. (held, still_stands store answer old new held reads_with_cause honest stands, exact honest held stands (told_replied reply answer told));
-      stands = λ honest held stands. early_stands (replied reply answer) held (still_stands store answer old new held reads_with_cause honest stands);
+      broken = broken_as_answer reply answer _ broken;
+      exact = λ honest held stands told. (held, still_stands store answer old new held reads_with_cause honest stands, exact honest held stands (told_as_answer reply answer told));
+      stands = λ honest held stands. early_stands (as_answer reply answer) held (still_stands store answer old new held reads_with_cause honest stands);
       doubt = λ honest held stands. no_stop _ answer reads_with_cause.unstopped;
-      fails = err_replied reply answer _ fails;
-      survives = λ honest earlier held stands safe. safe_look store request earlier held (replied reply answer) (store_of new) look (reads_are_safe store earlier held (store_of old) (store_of new) reads_with_cause.reads safe);
+      fails = err_as_answer reply answer _ fails;
+      survives = λ honest earlier held stands safe. safe_look store request earlier held (as_answer reply answer) (store_of new) look (reads_are_safe store earlier held (store_of old) (store_of new) reads_with_cause.reads safe);
       reads_only = λ is. reads_with_cause.reads;
       kept = λ is. reads_with_cause.kept;
       clash = λ honest held stands. clashes held answer (read_only_unclashed store answer old new reads_with_cause honest);
-      unclashed = λ honest held stands free. err_replied reply answer IsNoClash (read_only_unclashed store answer old new reads_with_cause honest);
+      unclashed = λ honest held stands free. err_as_answer reply answer IsNoClash (read_only_unclashed store answer old new reads_with_cause honest);
       free = λ honest free. subst (λ (f : Files). IsFree (undo_folder_of f)) (sym (reads_with_cause.reads.files honest)) free;
       folder = λ honest held stands. folder_look request held (files_of store old) (files_of store new) look (reads_with_cause.reads.files honest);
-      call = call_replied store reply answer old new (read_only_call store answer old new reads_with_cause);
+      call = call_as_answer store reply answer old new (read_only_call store answer old new reads_with_cause);
     }
 
--- ---- a run, an undo and a redo
+-- ---- a run
 
 pub make_fails : {A : Type 0} (call : Call) (when : ℕ) (answer : Result A Refusal) → IfErr answer (IfFailed (MayFail (requests.Make call when)))
 make_fails call when (Ok value) = tt
 make_fails call when (Err (Failed failure)) = tt
 make_fails call when (Err refusal) = tt
 
--- their answers are steps as they are
+-- its answer is a step as it is
 pub run_is_step : (answer : Result Response Refusal) → IsRunAnswer answer → as_step answer ≡ answer
-run_is_step (Ok (replies.Reverted reverted)) is = absurd is
+run_is_step (Ok (responses.Reverted reverted)) is = absurd is
 run_is_step (Ok reply) is = refl
 run_is_step (Err refusal) is = refl
-
--- a reply of an undo or a redo is no revert's
-no_revert : (go : Direction) (steps : List Recorded) (held left : State) (reverted : Reverted) → Replays go steps held (Ok (replies.Reverted reverted)) left → ⊥
-no_revert direction.Backward [] held left reverted replays = let is = replays.0 in cc
-no_revert direction.Forward [] held left reverted replays = let is = replays.0 in cc
-no_revert direction.Backward (step ∷ steps) held left reverted replays = let is = replays.0 in cc
-no_revert direction.Forward (step ∷ steps) held left reverted replays = let is = replays.0 in cc
-
-pub replay_is_step : (go : Direction) (steps : List Recorded) (held : State) (Stands : State → Type 0) (answer : Result Response Refusal) → (TellsNoFault answer → (left : State) × Stands left × Replays go steps held answer left)
-    → as_step answer ≡ answer
-replay_is_step go steps held Stands (Ok (replies.Reverted reverted)) exact = let e = exact tt in absurd (no_revert go steps held e.0 reverted e.2)
-replay_is_step go steps held Stands (Ok reply) exact = refl
-replay_is_step go steps held Stands (Err refusal) exact = refl
-
--- where an undo or a redo stopped, the next state is that after its step
-pub replay_doubt : (direction : PendingDirection) (held : State) (files : Files) (answer : Result Response Refusal) → IfErr answer (λ refusal. IsStop refusal → StopsAfter direction held files)
-    → IfErr answer (λ refusal. IsStop refusal → (second : State) × IsNextBy direction held second × InDoubt held second files)
-replay_doubt direction held files (Ok reply) doubt = tt
-replay_doubt direction held files (Err refusal) doubt = λ stop. let left = doubt stop in (left.0, (left.1, left.2), left.3)
 
 -- ---- a revert
 
 -- its answer is a step as that of its run
-pub revert_is_step : (answer : Result Reverted Refusal) → as_step (replied replies.Reverted answer) ≡ as_run answer
+pub revert_is_step : (answer : Result Reverted Refusal) → as_step (as_answer responses.Reverted answer) ≡ as_run answer
 revert_is_step (Ok reverted) = refl
 revert_is_step (Err refusal) = refl
 
@@ -232,7 +210,7 @@ module _ {S : Type 0} (store : Ghosts S) (number : ℕ) (skip_moved : Bool) (whe
   after_revert held left step is_done numbered stopped = (stopped.0, (step, is_done, numbered, stopped.1), stopped.2)
 
   pub revert_stands : (answer : Result Reverted Refusal) (held : State) → store.honest (store_of new) → StandsOn store.files old held → LeavesRevert store number skip_moved when answer old new
-      → IfErr answer (λ refusal. IsEarly refusal → IsKept old new) → IfErr (replied replies.Reverted answer) (λ refusal. IsEarly refusal → StandsOn store.files new held)
+      → IfErr answer (λ refusal. IsEarly refusal → IsKept old new) → IfErr (as_answer responses.Reverted answer) (λ refusal. IsEarly refusal → StandsOn store.files new held)
   revert_stands (Ok reverted) held honest stands leaves kept = tt
   revert_stands (Err refusal) held honest stands leaves kept = λ early.
       ⊎_elim (λ (read : ReadAlone store (Err refusal) old new).
@@ -245,7 +223,7 @@ module _ {S : Type 0} (store : Ghosts S) (number : ℕ) (skip_moved : Bool) (whe
 
   pub revert_doubt : (answer : Result Reverted Refusal) (held : State) → store.honest (store_of new) → StandsOn store.files old held
       → ((is_broken old ≡ false) × (lists (memory_of old).done number ≡ false) → answer ≡ Err (NoSuchStep number)) → LeavesRevert store number skip_moved when answer old new
-      → IfErr (replied replies.Reverted answer) (λ refusal. IsStop refusal → (second : State) × IsAfterRevert number skip_moved when held second × InDoubt held second (files_of store new))
+      → IfErr (as_answer responses.Reverted answer) (λ refusal. IsStop refusal → (second : State) × IsAfterRevert number skip_moved when held second × InDoubt held second (files_of store new))
   revert_doubt (Ok reverted) held honest stands absent leaves = tt
   revert_doubt (Err (Failed (Interrupted cause))) held honest stands absent leaves = λ stop.
       ⊎_elim (λ (read : ReadAlone store (Err (Failed (Interrupted cause))) old new). absurd (no_early_stop cause read.0 read.1 read.2))
@@ -259,7 +237,7 @@ module _ {S : Type 0} (store : Ghosts S) (number : ℕ) (skip_moved : Bool) (whe
 
   -- a clash that a revert tells is that of the path that is put
   pub revert_clash : (answer : Result Reverted Refusal) → store.honest (store_of new) → LeavesRevert store number skip_moved when answer old new
-      → IfErr (replied replies.Reverted answer) (HasClash (Clashes (files_of store old) (entry_path ((memory_of old).used + 1))) (Clashes (files_of store old) head_path))
+      → IfErr (as_answer responses.Reverted answer) (HasClash (Clashes (files_of store old) (entry_path ((memory_of old).used + 1))) (Clashes (files_of store old) head_path))
   revert_clash (Ok reverted) honest leaves = tt
   revert_clash (Err refusal) honest leaves =
       ⊎_elim (λ (read : ReadAlone store (Err refusal) old new).

@@ -29,7 +29,7 @@ use Rattle.reuse_session.specs.session.Machine.{Kept, Snapshots, ran_by, undone,
 use Rattle.reuse_session.specs.session.Model.{Gives}
 use Rattle.reuse_session.specs.journal.Opening.{OpensOn}
 use Rattle.reuse_session.specs.session.Requests.{IfFailed, MayFail}
-use Rattle.reuse_session.specs.session.Session.{store_of, Remembers, LeadUpTo, LeadOn, HoldsSnapshots, StandsOn, StandsAt, IsKept, IsRun, StopsAfterRun}
+use Rattle.reuse_session.specs.session.Session.{store_of, Remembers, LeadUpTo, LeadOn, HoldsSnapshots, StandsOn, StandsAt, IsKept, IsRun}
 use Rattle.reuse_session.specs.journal.Standing.{IsStanding, IsStep, IsUnderWay, InDoubt, Mutations}
 use Rattle.reuse_session.specs.session.Driven.{IsAt, store_in}
 use Rattle.reuse_session.specs.session.Stops.{Point, open_at, closed, Reopens, Continues, AnswersEvent, AreLeft}
@@ -78,10 +78,6 @@ module _ (held : State) (state : Snapshots) (holds : HoldsSnapshots held state) 
   redo_next next =
       let mutations = next.1.mutations in
       redone_by next.0 mutations.0 state.future (subst (λ steps. LeadOn state.tree steps state.future) mutations.1 holds.future) next.1.leads mutations.2
-
-module _ (held : State) (state : Snapshots) (holds : HoldsSnapshots held state) (files : Files) where
-  pub run_left : (before : Files) (command : Command) (when : ℕ) → IsStanding before held → StopsAfterRun command when held files → AreLeft files state (Some (ran_by state command when).1)
-  run_left before command when good left = (held, left.0, holds, ran_on held state holds left.0 command when before good left.1, left.2)
 
 -- ---- opening
 
@@ -165,11 +161,6 @@ pub stands_early : {S : Type 0} (files : S → Files) (old new : Session S) (hel
     → IfErr answer (λ refusal. IsEarly refusal → StandsOn files new held)
 stands_early files old new held (Ok reply) stands kept same = kept
 stands_early files old new held (Err refusal) stands kept same = λ early. stands_still files old new held stands (kept early) (same early)
-
-pub on_same_state : {S : Type 0} (files : S → Files) (old new : Session S) (state : Snapshots) (answer : Result Response Refusal) (stands : StandsAt files old state)
-    → IfErr answer (λ refusal. IsEarly refusal → StandsOn files new stands.held) → IfErr answer (λ refusal. IsEarly refusal → StandsAt files new state)
-on_same_state files old new state (Ok reply) stands kept = kept
-on_same_state files old new state (Err refusal) stands kept = λ early. record { held = stands.held; stands = kept early; holds = stands.holds }
 
 -- one that wasn't interrupted leaves the session open
 pub goes_on : {S : Type 0} (files : S → Files) (request : Request) (answer : Result Response Refusal) (state : Snapshots) (session : Session S)

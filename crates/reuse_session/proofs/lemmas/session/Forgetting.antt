@@ -193,9 +193,6 @@ leaves_none store session forgotten = record {
 pub leaves_nothing : {S : Type 0} (store : Ghosts S) (session : Session S) (numbers forgotten : List ℕ) → numbers ≡ [] → LeavesForgetting store numbers (Ok forgotten) session session
 leaves_nothing store session numbers forgotten none = subst (λ ns. LeavesForgetting store ns (Ok forgotten) session session) (sym none) (leaves_none store session forgotten)
 
-pub survives_nothing : {S : Type 0} (store : Ghosts S) (numbers forgotten : List ℕ) (earlier held : State) (new : S) → forgotten ≡ [] → AreSafeOn store earlier held new → SurvivesForgetting store numbers earlier held (Ok forgotten) new
-survives_nothing store numbers forgotten earlier held new nothing safe = subst (λ f. SurvivesForgetting store numbers earlier held (Ok f) new) (sym nothing) safe
-
 -- ---- what is answered
 
 pub forgets_listed : {S : Type 0} (files : S → Files) (new : Session S) (numbers : List ℕ) (held : State) (result : Result (List ℕ) Refusal) → IfErr result IsFailure → TellsNoFault result

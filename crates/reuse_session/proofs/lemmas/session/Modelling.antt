@@ -8,19 +8,19 @@ use Rattle.reuse_session.specs.session.PathOutcomes.{path_outcomes_of}
 use Rattle.reuse_session.specs.journal.Journal.{State, Recorded}
 use Rattle.reuse_session.specs.journal.JournalFiles.{number_of}
 use Rattle.reuse_session.specs.session.Machine.{Kept, Snapshots, is_full, ran_by, undone, redone, run_path_outcomes}
-use Rattle.reuse_session.specs.session.Model.{AreOf, IsUnkept, ShowsBy, command_back, as_reverted, RevertsTo, PreviewsBack, MakesTo, PreviewsTo, Gives}
+use Rattle.reuse_session.specs.session.Model.{IsUnkept, ShowsBy, command_back, as_reverted, RevertsTo, PreviewsBack, MakesTo, PreviewsTo, Gives}
 use Rattle.reuse_session.specs.session.Previews.{run_path_outcomes_on}
-use Rattle.reuse_session.specs.session.Requests.{replied, PreviewsRevert, Previews, Makes, LeadsTo, IsAfterCall, IsAfter, IsStopped}
+use Rattle.reuse_session.specs.session.Requests.{as_answer, PreviewsRevert, Previews, Makes, LeadsTo, IsAfterCall, IsAfter, IsStopped}
 use Rattle.reuse_session.specs.session.RevertCalls.{Reverts, TakesBack, IsAfterRevert, as_run, changed_or_none, left_of, touched_later}
 use Rattle.reuse_session.specs.session.Session.{HoldsSnapshots, IsRun, LeadOn, Runs}
-use Rattle.reuse_session.specs.session.Showing.{IsUnused, ShowsIn, LedTo}
+use Rattle.reuse_session.specs.session.Showing.{IsUnused, ShowsIn}
 use Rattle.reuse_session.specs.journal.Standing.{IsStanding}
 use Rattle.reuse_session.specs.session.Stops.{AreLeft}
 use Rattle.reuse_session.specs.declared.command.Command.{Command}
 use Rattle.reuse_session.specs.declared.command.Command.TheVariants.{Revert}
 use Rattle.reuse_session.specs.declared.path_outcome.PathOutcome.{PathOutcome}
 use Rattle.reuse_session.specs.declared.reply.Response.{Response}
-use Rattle.reuse_session.specs.declared.reply.Response.TheVariants as replies
+use Rattle.reuse_session.specs.declared.reply.Response.TheVariants as responses
 use Rattle.reuse_session.specs.declared.reply.Reverted.{Reverted}
 use Rattle.reuse_session.specs.declared.reply.Shown.{Shown}
 use Rattle.reuse_session.specs.declared.reply.Refusal.{Refusal}
@@ -48,12 +48,12 @@ reverts_one number skip_moved when old (Err refusal) new back = inr back
 -- its reply is that of the run, with the other paths of the step
 module _ (changes : List Change) where
   by_paths : (paths skipped : List (List ℕ)) → skipped ≡ left_of (paths_of changes) paths
-      → Ok (replies.Reverted (record { changed = paths; skipped = skipped })) ≡ as_reverted changes (Ok (changed_or_none paths))
-  by_paths [] skipped is = ap (λ (s : List (List ℕ)). Ok (replies.Reverted (record { changed = []; skipped = s }))) is
-  by_paths (path ∷ paths) skipped is = ap (λ (s : List (List ℕ)). Ok (replies.Reverted (record { changed = path ∷ paths; skipped = s }))) is
+      → Ok (responses.Reverted (record { changed = paths; skipped = skipped })) ≡ as_reverted changes (Ok (changed_or_none paths))
+  by_paths [] skipped is = ap (λ (s : List (List ℕ)). Ok (responses.Reverted (record { changed = []; skipped = s }))) is
+  by_paths (path ∷ paths) skipped is = ap (λ (s : List (List ℕ)). Ok (responses.Reverted (record { changed = path ∷ paths; skipped = s }))) is
 
   reverted_as_run : (answer : Result Reverted Refusal) → IfOk answer (λ (reverted : Reverted). reverted.skipped ≡ left_of (paths_of changes) reverted.changed)
-      → replied replies.Reverted answer ≡ as_reverted changes (as_run answer)
+      → as_answer responses.Reverted answer ≡ as_reverted changes (as_run answer)
   reverted_as_run (Ok reverted) is = by_paths reverted.changed reverted.skipped is
   reverted_as_run (Err refusal) is = refl
 
@@ -106,10 +106,10 @@ module _ (held : State) (state : Snapshots) (holds : HoldsSnapshots held state) 
 
   module _ (files : Files) (standing : IsStanding files held) where
     reverts_to : (number : ℕ) (skip_moved : Bool) (when : ℕ) (answer : Result Reverted Refusal) (left : State) → Reverts number skip_moved when held answer left
-        → (next : Snapshots) × RevertsTo state number skip_moved when (replied replies.Reverted answer) next × HoldsSnapshots left next
+        → (next : Snapshots) × RevertsTo state number skip_moved when (as_answer responses.Reverted answer) next × HoldsSnapshots left next
     reverts_to number skip_moved when answer left reverts =
         ⊎_elim (λ (none : (answer ≡ Err (NoSuchStep number)) × IsUnused number held.journal.done × (left ≡ held)).
-        (state, inl (ap (replied replies.Reverted) none.0, unkept number state.tree held.journal.done state.past holds.past none.1, refl), subst (λ s. HoldsSnapshots s state) (sym none.2) holds))
+        (state, inl (ap (as_answer responses.Reverted) none.0, unkept number state.tree held.journal.done state.past holds.past none.1, refl), subst (λ s. HoldsSnapshots s state) (sym none.2) holds))
         (λ (back : TakesBack number skip_moved when held answer left).
         let changes = back.step.changes in
         let runs = subst (λ late. Runs (Revert changes late skip_moved) when held (as_run answer) left) (later_as_machine held state holds number changes) back.runs in
@@ -134,7 +134,7 @@ module _ (held : State) (state : Snapshots) (holds : HoldsSnapshots held state) 
     gives_to (requests.Preview call) answer left leads =
         (state, (leads.0, leads.1, previews_to call leads.0 leads.2, refl), subst (λ s. HoldsSnapshots s state) (sym leads.3) holds)
     gives_to requests.Log answer left leads =
-        (state, (leads.0 ∙ ap (λ rows. Ok (replies.Log rows)) (log_follows held state holds), refl), subst (λ s. HoldsSnapshots s state) (sym leads.1) holds)
+        (state, (leads.0 ∙ ap (λ rows. Ok (responses.Log rows)) (log_follows held state holds), refl), subst (λ s. HoldsSnapshots s state) (sym leads.1) holds)
     gives_to (requests.Show number) answer left leads =
         (state, (leads.0, leads.1, shown_by number leads.0 leads.2, refl), subst (λ s. HoldsSnapshots s state) (sym leads.3) holds)
 

@@ -1,33 +1,29 @@
 -- Previews: what they tell is what the machine tells, and they leave all as it was.
-use Rattle.std.proofs.Common.{◌≡◌, ◌↔◌, ℕ, ◌<◌, Bool, true, false, cond, List, [], ◌∷◌, ◌++◌, length, map, Result, Ok, Err, IfOk, IfErr, refl, sym, ap, subst, ◌∙◌}
+use Rattle.std.proofs.Common.{◌≡◌, ◌↔◌, ℕ, Bool, true, false, cond, List, [], ◌∷◌, ◌++◌, length, map, Result, Ok, Err, IfOk, IfErr, refl, sym, ap, subst, ◌∙◌}
 use Rattle.std.specs.List.{All}
 use Rattle.std.proofs.lemmas.List.Elements.{All-head, All-tail}
 use Rattle.reuse_tree.specs.Files.{Files}
 use Rattle.reuse_tree.specs.Change.{path_of}
 use Rattle.reuse_tree.specs.declared.change.Change.{Change}
-use Rattle.reuse_session.specs.declared.failure.Fault.TheVariants as faults
 use Rattle.reuse_tree.specs.declared.store.Store.{Ghosts}
-use Rattle.reuse_session.specs.session.Answer.{IsEarly, IsNoClash, HasCause, RefusedAsRead, TellsNoFault, IsEarlyFailure}
+use Rattle.reuse_session.specs.session.Answer.{IsEarly, RefusedAsRead, TellsNoFault, IsEarlyFailure}
 use Rattle.reuse_tree.specs.Entry.{paths_of, CanBeMade}
 use Rattle.reuse_session.specs.session.PathOutcomes.{path_outcomes_of, IsPathOutcomeOf, ArePathOutcomesOf}
 use Rattle.reuse_session.specs.journal.Journal.{Recorded, State, ahead}
 use Rattle.reuse_session.specs.session.Machine.{Kept, Snapshots, is_full, run_path_outcomes, undo_path_outcomes, redo_path_outcomes, step_path_outcomes}
-use Rattle.reuse_session.specs.session.Previews.{path_outcomes_alone, PreviewsReplay, ReadsOnly, IsPreviewRefusal, run_path_outcomes_on}
-use Rattle.reuse_session.specs.session.Session.{store_of, LeadUpTo, LeadOn, HoldsSnapshots, StandsAt}
+use Rattle.reuse_session.specs.session.Previews.{path_outcomes_alone, PreviewsReplay, ReadsOnly, run_path_outcomes_on}
+use Rattle.reuse_session.specs.session.Session.{store_of, LeadUpTo, LeadOn, HoldsSnapshots}
 use Rattle.reuse_session.specs.declared.command.Command.{Command}
 use Rattle.reuse_tree.specs.declared.direction.Direction.{Direction}
 use Rattle.reuse_tree.specs.declared.direction.Direction.TheVariants as direction
 use Rattle.reuse_session.specs.declared.path_outcome.PathOutcome.{PathOutcome}
 use Rattle.reuse_session.specs.declared.path_outcome.PathOutcome.TheVariants as path_outcome
 use Rattle.reuse_session.specs.declared.path_outcome.Previewed.{Previewed}
-use Rattle.reuse_tree.specs.declared.cause.Cause.{Cause}
 use Rattle.reuse_session.specs.declared.reply.Refusal.{Refusal}
-use Rattle.reuse_session.specs.declared.failure.Failure.TheVariants as failures
 use Rattle.reuse_session.specs.declared.reply.Refusal.TheVariants as refusals
 use Rattle.reuse_session.specs.declared.session.Session.{Session}
 use Rattle.reuse_session.proofs.lemmas.session.Following.{back_from, on_from}
 use Rattle.reuse_tree.proofs.Differ.{changed_by_entry}
-use Rattle.reuse_session.proofs.lemmas.session.Driving.{stands_still}
 use Rattle.reuse_tree.proofs.Walk.{can_lead}
 
 -- ---- the path outcomes of changes
@@ -175,28 +171,6 @@ module _ (answer : Result Previewed Refusal) (alone : Result (List PathOutcome) 
 
 -- ---- what they leave
 
-pub looks_still : {S : Type 0} (store : Ghosts S) {A : Type 0} (answer : Result A Refusal) (old new : Session S) (state : Snapshots) → ReadsOnly store answer old new → store.honest (store_of new) → StandsAt store.files old state → StandsAt store.files new state
-looks_still store answer old new state reads_only honest stands = record {
-  held = stands.held;
-  stands = stands_still store.files old new stands.held stands.stands reads_only.kept (reads_only.reads.files honest);
-  holds = stands.holds;
-}
-
 pub always : {A : Type 0} (answer : Result A Refusal) (P : Type 0) → P → IfErr answer (λ refusal. IsEarly refusal → P)
 always (Ok x) P p = tt
 always (Err refusal) P p = λ early. p
-
-pub looks_cause : {A S : Type 0} (store : Ghosts S) (old new : S) (answer : Result A Refusal) → RefusedAsRead store old new answer → IfErr answer IsPreviewRefusal → IfErr answer (HasCause (store.failures old < store.failures new))
-looks_cause store old new (Ok x) fails kind = tt
-looks_cause store old new (Err (refusals.Failed (failures.Fault faults.Device))) fails kind = fails.device refl
-looks_cause store old new (Err (refusals.Failed (failures.Interrupted cause))) fails kind = absurd kind
-looks_cause store old new (Err refusal) fails kind = tt
-
-pub looks_no_clash : {A S : Type 0} (store : Ghosts S) (old new : S) (answer : Result A Refusal) → RefusedAsRead store old new answer → store.honest new → IfErr answer IsPreviewRefusal → IfErr answer IsNoClash
-looks_no_clash store old new (Ok x) fails honest kind = tt
-looks_no_clash store old new (Err (refusals.Failed (failures.Fault faults.Clash))) fails honest kind = fails.clash honest refl
-looks_no_clash store old new (Err (refusals.Failed (failures.Interrupted cause))) fails honest kind = absurd kind
-looks_no_clash store old new (Err refusal) fails honest kind = tt
-
-pub looks_no_stop : {A : Type 0} (answer : Result A Refusal) (cause : Cause) → IfErr answer IsPreviewRefusal → answer ≡ Err (refusals.Failed (failures.Interrupted cause)) → ⊥
-looks_no_stop answer cause kind is = subst (λ a. IfErr a IsPreviewRefusal) is kind

@@ -25,13 +25,11 @@ use Rattle.reuse_session.specs.declared.reply.Response.{Response}
 use Rattle.reuse_session.specs.declared.reply.Refusal.{Refusal}
 use Rattle.reuse_session.specs.declared.reply.Refusal.TheVariants.{Moved}
 use Rattle.reuse_session.specs.declared.session.Session.{Session}
-use Rattle.reuse_session.proofs.lemmas.session.FolderLemmas.{folder_stays}
 use Rattle.reuse_session.proofs.lemmas.journal.JournalLemmas.{same_entry, sound_head, free_stays}
 use Rattle.reuse_tree.proofs.MadeLemmas.{can_reach}
 use Rattle.reuse_session.proofs.lemmas.journal.MemoryLemmas.{next_step, none_ahead}
 use Rattle.reuse_tree.specs.Asked.{OnlyReads}
 use Rattle.reuse_tree.proofs.AskedLemmas.{reads_more}
-use Rattle.reuse_session.proofs.lemmas.session.OnlyReading.{early_is_no_stop}
 use Rattle.reuse_session.proofs.lemmas.journal.StepAnswers.{as_many, low_of, still_stands}
 use Rattle.reuse_session.proofs.lemmas.journal.Stepping.{remembers_moved, sound_between, sound_second}
 
@@ -165,21 +163,6 @@ ready store direction old listed front last moved is_moved read tested first the
     (subst (λ f. All (CanBeMade direction (tree_of f)) made) (sym (then.files honest)) (can honest good)) is_entry is_direction
 
 -- ---- what is left
-
-module _ {S : Type 0} (store : Ghosts S) (direction : Direction) (old : Session S) (read : S) (reads : OnlyReads store (store_of old) read) (refusal : Refusal) where
-  -- a refusal after reading
-  pub read_leaves : IsEarly refusal → (store.honest read → HasClash ⊥ (Clashes (files_of store old) head_path) refusal) → LeavesReplay store direction (Err refusal) old (record old { store = read })
-  read_leaves is_early clash = record {
-    early = λ early. reads;
-    doubt = λ honest held stands stop. absurd (early_is_no_stop refusal is_early stop);
-    late = λ stop. absurd (early_is_no_stop refusal is_early stop);
-    folder = λ honest. folder_stays (files_of store old) (store.files read) head_path (reads.files honest);
-    texts = λ honest. tt;
-    written = λ honest held stands. omega (arith, reads.written);
-    mutations = λ honest held stands. omega (arith, reads.mutations);
-    clash = clash;
-    free = λ honest free. subst (λ f. IsFree (undo_folder_of f)) (sym (reads.files honest)) free;
-  }
 
 -- what the step leaves after it
 module _ {S : Type 0} (store : Ghosts S) (direction : Direction) (old new : Session S) (read : S) (reads : OnlyReads store (store_of old) read)

@@ -1,16 +1,14 @@
 -- What a revert answers and leaves, from the run that it makes.
-use Rattle.std.proofs.Common.{◌≡◌, ◌≢◌, ◌⊎◌, inl, inr, ℕ, ◌<◌, Bool, true, false, List, [], ◌∷◌, Result, Ok, Err, IfOk, IfErr, refl, sym, ap, ap₂, subst, ◌∙◌, arith}
+use Rattle.std.proofs.Common.{◌≡◌, ◌≢◌, ◌⊎◌, inl, inr, ℕ, Bool, true, false, List, [], ◌∷◌, Result, Ok, Err, IfOk, IfErr, refl, sym, ap, ap₂, subst, ◌∙◌}
 use Rattle.std.specs.List.{Contains}
 use Rattle.std.specs.List.Sorted.{IsStrictlySortedBy}
 use Rattle.std.specs.FinMap.{get}
-use Rattle.reuse_tree.specs.Asked.{OnlyReads}
 use Rattle.reuse_tree.specs.Files.{Files}
 use Rattle.reuse_tree.specs.declared.change.Change.{Change}
 use Rattle.reuse_session.specs.declared.failure.Fault.TheVariants as faults
 use Rattle.reuse_tree.specs.declared.store.Store.{Ghosts}
-use Rattle.reuse_tree.proofs.AskedLemmas.{later_more, later_reads}
-use Rattle.reuse_session.specs.session.Answer.{IsEarly, IsNoClash, IsReadRefusal, IsRunAnswer, RefusedAsRead, TellsNoFault}
-use Rattle.reuse_session.specs.session.Calls.{folder_of, IsCall, LeavesRun}
+use Rattle.reuse_session.specs.session.Answer.{IsNoClash, IsReadRefusal, IsRunAnswer, RefusedAsRead, TellsNoFault}
+use Rattle.reuse_session.specs.session.Calls.{folder_of, LeavesRun}
 use Rattle.reuse_tree.specs.Entry.{paths_of}
 use Rattle.reuse_session.specs.journal.Journal.{State}
 use Rattle.reuse_session.specs.journal.JournalFiles.{entry_path, EntrySays}
@@ -26,11 +24,10 @@ use Rattle.reuse_session.specs.declared.reply.Refusal.{Refusal}
 use Rattle.reuse_session.specs.declared.failure.Failure.TheVariants.{Fault}
 use Rattle.reuse_session.specs.declared.reply.Refusal.TheVariants.{BadJournal, JournalFull, NoSuchStep, Failed}
 use Rattle.reuse_session.specs.declared.reply.Response.{Response}
-use Rattle.reuse_session.specs.declared.reply.Response.TheVariants.{Changed, NothingChanged}
 use Rattle.reuse_session.specs.declared.reply.Reverted.{Reverted}
 use Rattle.reuse_session.specs.declared.session.Session.{Session}
 use Rattle.reuse_tree.proofs.DifferingPaths.{changed_ascend}
-use Rattle.reuse_session.proofs.lemmas.session.OnlyReading.{read_early, still_caused}
+use Rattle.reuse_session.proofs.lemmas.session.OnlyReading.{read_early}
 use Rattle.reuse_session.proofs.lemmas.session.Peeking.{unclashed_read}
 use Rattle.reuse_session.proofs.lemmas.session.LaterSteps.{later_as_machine}
 use Rattle.reuse_session.proofs.lemmas.session.RunFollowing.{follows_exact}
@@ -42,44 +39,6 @@ use Rattle.reuse_session.proofs.lemmas.session.StepsByNumber.{led_to_tree, unkep
 pub told_run : (result : Result Reverted Refusal) → TellsNoFault result → TellsNoFault (as_run result)
 told_run (Ok reverted) told = tt
 told_run (Err refusal) told = told
-
--- an answer of a run isn't that of a step that isn't there
-pub run_has_step : (number : ℕ) (answer : Result Response Refusal) → IsRunAnswer answer → answer ≡ Err (NoSuchStep number) → ⊥
-run_has_step number answer is e = subst IsRunAnswer e is
-
--- what is told of a run that changed these paths
-pub told_changed : (changed : List (List ℕ)) → IsRunAnswer (Ok (Changed changed)) → changed_or_none changed ≡ Changed changed
-told_changed [] is = absurd is
-told_changed (path ∷ paths) is = refl
-
--- what is told of another run
-pub told_other : (reply : Response) → ((changed : List (List ℕ)) → reply ≡ Changed changed → ⊥) → IsRunAnswer (Ok reply) → NothingChanged ≡ reply
-told_other NothingChanged other is = refl
-told_other (Changed []) other is = absurd is
-told_other (Changed (path ∷ paths)) other is = absurd (other (path ∷ paths) refl)
-told_other reply other is = absurd is
-
--- a call whose answer is that of a run
-pub call_as_run : {S : Type 0} (store : Ghosts S) (result : Result Reverted Refusal) (answer : Result Response Refusal) (old new : Session S) → as_run result ≡ answer → IsCall store answer old new → IsCall store result old new
-call_as_run store result answer old new same call = by_result result (subst (λ r. IsCall store r old new) (sym same) call)
-  where
-    by_result : (r : Result Reverted Refusal) → IsCall store (as_run r) old new → IsCall store r old new
-    by_result (Ok reverted) c = record { refused = tt; interrupted = tt; fault = tt; later = c.later }
-    by_result (Err refusal) c = record { refused = c.refused; interrupted = c.interrupted; fault = c.fault; later = c.later }
-
--- a call that reads before
-pub call_after_reading : {S : Type 0} (store : Ghosts S) (result : Result Reverted Refusal) (old : Session S) (read : S) (new : Session S) → OnlyReads store (store_of old) read
-    → IsCall store result (record old { store = read }) new → IsCall store result old new
-call_after_reading {S} store result old read new reads call = by_result result call
-  where
-    by_result : (r : Result Reverted Refusal) → IsCall store r (record old { store = read }) new → IsCall store r old new
-    by_result (Ok reverted) c = record { refused = tt; interrupted = tt; fault = tt; later = later_more store _ _ _ (later_reads store _ _ reads) c.later }
-    by_result (Err refusal) c = record {
-      refused = c.refused;
-      interrupted = c.interrupted;
-      fault = still_caused refusal (store.failures read < store.failures (store_of new)) (store.failures (store_of old) < store.failures (store_of new)) (λ rise. omega (arith, reads.failures, rise)) c.fault;
-      later = later_more store _ _ _ (later_reads store _ _ reads) c.later;
-    }
 
 -- ---- the step that is taken back
 
@@ -160,11 +119,6 @@ abbrev pub IsNoFaultOfStore : Refusal → Type 0
 IsNoFaultOfStore (Failed (Fault fault)) = ⊥
 IsNoFaultOfStore refusal = Unit {0}
 
--- a refusal before the run
-pub unrun_leaves : {S : Type 0} (store : Ghosts S) (number : ℕ) (skip : Bool) (when : ℕ) (refusal : Refusal) (old new : Session S) → IsEarly refusal → OnlyReads store (store_of old) (store_of new)
-    → RefusedAsRead {A = Reverted} store (store_of old) (store_of new) (Err refusal) → LeavesRevert store number skip when (Err refusal) old new
-unrun_leaves store number skip when refusal old new early reads fails = inl (refusal, refl, early, reads, fails)
-
 same_refusal : (A : Type 0) (one other : Refusal) → ◌≡◌ {A = Result A Refusal} (Err one) (Err other) → one ≡ other
 same_refusal A one other e = cc
 
@@ -173,13 +127,6 @@ pub no_fault : {A S : Type 0} (store : Ghosts S) (old new : S) (refusal : Refusa
 no_fault {A} store old new refusal is = record {
   device = λ e. absurd (subst IsNoFaultOfStore (same_refusal A refusal (Failed (Fault faults.Device)) e) is);
   clash = λ honest e. subst IsNoFaultOfStore (same_refusal A refusal (Failed (Fault faults.Clash)) e) is;
-}
-
--- a reading's refusal, told as a revert's
-pub fails_too : {A B S : Type 0} (store : Ghosts S) (old new : S) (refusal : Refusal) → RefusedAsRead {A = A} store old new (Err refusal) → RefusedAsRead {A = B} store old new (Err refusal)
-fails_too {A} {B} store old new refusal fails = record {
-  device = λ e. fails.device (ap (λ r. Err r) (same_refusal B refusal (Failed (Fault faults.Device)) e));
-  clash = λ honest e. fails.clash honest (ap (λ r. Err r) (same_refusal B refusal (Failed (Fault faults.Clash)) e));
 }
 
 -- what the run leaves

@@ -1,29 +1,28 @@
 -- What a session that stands at a state of the model answers and leaves, from how it answers a request.
-use Rattle.std.proofs.Common.{◌≡◌, ◌⊎◌, inl, inr, ⊎_elim, ℕ, Bool, List, [], ◌∷◌, Some, Result, Ok, Err, IfErr, refl, sym, ap, subst, ◌∙◌}
-use Rattle.reuse_tree.specs.Files.{Files}
+use Rattle.std.proofs.Common.{◌≡◌, ⊎_elim, ℕ, Bool, List, [], ◌∷◌, Some, Result, Ok, Err, IfErr, refl, sym, ap, subst, ◌∙◌}
 use Rattle.reuse_tree.specs.declared.cause.Cause.{Cause}
 use Rattle.reuse_tree.specs.declared.store.Store.{Ghosts}
 use Rattle.reuse_tree.specs.declared.direction.Direction.{Direction}
 use Rattle.reuse_tree.specs.declared.direction.Direction.TheVariants as direction
-use Rattle.reuse_session.specs.session.Answer.{IsEarly, IsNoStep, IsStop, TellsNoFault}
+use Rattle.reuse_session.specs.session.Answer.{IsEarly, IsNoStep, TellsNoFault}
 use Rattle.reuse_session.specs.session.Calls.{files_of}
 use Rattle.reuse_session.specs.session.Driven.{StandsSafely, GoesSafely}
 use Rattle.reuse_session.specs.journal.Journal.{Recorded, State, Replays}
 use Rattle.reuse_session.specs.journal.Losses.{AreSafeOn, AreInDoubt, Survives}
 use Rattle.reuse_session.specs.session.Machine.{Snapshots}
 use Rattle.reuse_session.specs.session.Model.{Gives}
-use Rattle.reuse_session.specs.session.Requests.{MayFail, IfFailed, replied, Makes, LeadsTo, IsAfterCall, IsAfter, SurvivesRequest, as_step, IsAnswered}
+use Rattle.reuse_session.specs.session.Requests.{MayFail, IfFailed, Makes, LeadsTo, IsAfterCall, IsAfter, SurvivesRequest, as_step, IsAnswered}
 use Rattle.reuse_session.specs.session.RevertCalls.{Reverts, TakesBack, as_run}
-use Rattle.reuse_session.specs.session.Session.{store_of, HoldsSnapshots, Runs, StandsOn, StandsAt}
+use Rattle.reuse_session.specs.session.Session.{store_of, Runs, StandsOn, StandsAt}
 use Rattle.reuse_session.specs.session.Showing.{IsUnused}
 use Rattle.reuse_session.specs.journal.Standing.{IsStanding}
-use Rattle.reuse_session.specs.session.Stops.{AreLeft, MayBeFound}
+use Rattle.reuse_session.specs.session.Stops.{AreLeft}
 use Rattle.reuse_session.specs.declared.command.Command.{Command}
 use Rattle.reuse_session.specs.declared.failure.Failure.TheVariants.{Fault, Memory, Interrupted}
 use Rattle.reuse_session.specs.declared.reply.Refusal.{Refusal}
 use Rattle.reuse_session.specs.declared.reply.Refusal.TheVariants.{JournalFull, NoSuchStep, Failed}
 use Rattle.reuse_session.specs.declared.reply.Response.{Response}
-use Rattle.reuse_session.specs.declared.reply.Response.TheVariants as replies
+use Rattle.reuse_session.specs.declared.reply.Response.TheVariants as responses
 use Rattle.reuse_session.specs.declared.reply.Reverted.{Reverted}
 use Rattle.reuse_session.specs.declared.request.Call.{Call}
 use Rattle.reuse_session.specs.declared.request.Call.TheVariants as calls
@@ -38,8 +37,8 @@ use Rattle.reuse_session.proofs.lemmas.journal.StepDoubt.{synced_is_safe}
 -- ---- where no step is made, the state stays
 
 runs_stay : (command : Command) (when : ℕ) (held left : State) (answer : Result Response Refusal) → Runs command when held answer left → IsNoStep answer → left ≡ held
-runs_stay command when held left (Ok (replies.Changed paths)) runs none = absurd none
-runs_stay command when held left (Ok replies.NothingChanged) runs none = runs.2
+runs_stay command when held left (Ok (responses.Changed paths)) runs none = absurd none
+runs_stay command when held left (Ok responses.NothingChanged) runs none = runs.2
 runs_stay command when held left (Ok reply) runs none = absurd runs
 runs_stay command when held left (Err JournalFull) runs none = runs.1
 runs_stay command when held left (Err refusal) runs none = runs.2
@@ -57,7 +56,7 @@ reverts_stay number skip_moved when held left answer reverts none =
 
 -- a run's answer is a step as it is
 runs_as_step : (command : Command) (when : ℕ) (held left : State) (answer : Result Response Refusal) → Runs command when held answer left → as_step answer ≡ answer
-runs_as_step command when held left (Ok (replies.Reverted reverted)) runs = absurd runs
+runs_as_step command when held left (Ok (responses.Reverted reverted)) runs = absurd runs
 runs_as_step command when held left (Ok reply) runs = refl
 runs_as_step command when held left (Err refusal) runs = refl
 
@@ -73,13 +72,13 @@ makes_stay (calls.Revert number skip_moved) when held left answer makes none =
 module _ {S : Type 0} (store : Ghosts S) (earlier held left : State) (new : S) where
   safe_after_step : (IsNext : State → Type 0) (step : Result Response Refusal) → (IsNoStep step → left ≡ held) → TellsNoFault step → IsStanding (store.files new) left → Survives store IsNext earlier held step new
       → (first : State) × AreSafeOn store first left new
-  safe_after_step IsNext (Ok replies.NothingChanged) stays told standing survives = (earlier, subst (λ s. AreSafeOn store earlier s new) (sym (stays tt)) survives)
+  safe_after_step IsNext (Ok responses.NothingChanged) stays told standing survives = (earlier, subst (λ s. AreSafeOn store earlier s new) (sym (stays tt)) survives)
   safe_after_step IsNext (Ok reply) stays told standing survives = (left, synced_is_safe store left left new standing survives)
   safe_after_step IsNext (Err (Failed failure)) stays told standing survives = absurd told
   safe_after_step IsNext (Err refusal) stays told standing survives = (earlier, subst (λ s. AreSafeOn store earlier s new) (sym (stays told)) survives)
 
   told_as_step : (answer : Result Response Refusal) → TellsNoFault answer → TellsNoFault (as_step answer)
-  told_as_step (Ok (replies.Reverted reverted)) told = tt
+  told_as_step (Ok (responses.Reverted reverted)) told = tt
   told_as_step (Ok reply) told = tt
   told_as_step (Err (Failed failure)) told = absurd told
   told_as_step (Err refusal) told = told

@@ -8,7 +8,6 @@ use Rattle.reuse_session.specs.session.Driven.{StandsSafely, IsSafelyAt, GoesSaf
 use Rattle.reuse_session.specs.journal.Journal.{State}
 use Rattle.reuse_session.specs.journal.Losses.{AreSafeOn, AreInDoubt}
 use Rattle.reuse_session.specs.session.Machine.{Snapshots}
-use Rattle.reuse_session.specs.session.Previews.{ReadsOnly}
 use Rattle.reuse_session.specs.session.Session.{store_of, StandsOn}
 use Rattle.reuse_session.specs.journal.Standing.{InDoubt}
 use Rattle.reuse_session.specs.session.Requests.{IfFailed, MayFail}
@@ -22,18 +21,10 @@ use Rattle.reuse_session.specs.declared.reply.Refusal.{Refusal}
 use Rattle.reuse_session.specs.declared.failure.Failure.TheVariants.{Memory, Fault, Interrupted}
 use Rattle.reuse_session.specs.declared.reply.Refusal.TheVariants.{Failed}
 use Rattle.reuse_session.specs.declared.session.Session.{Session}
-use Rattle.reuse_session.proofs.lemmas.session.Driving.{left_out, no_step, some_doubt, stands_still}
-use Rattle.reuse_session.proofs.lemmas.journal.StepDoubt.{reads_are_safe, synced_is_safe}
+use Rattle.reuse_session.proofs.lemmas.session.Driving.{left_out, no_step, some_doubt}
+use Rattle.reuse_session.proofs.lemmas.journal.StepDoubt.{synced_is_safe}
 
 -- ---- a request to an open session
-
--- one that only reads stands as safely
-pub looks_safely : {A S : Type 0} (store : Ghosts S) (answer : Result A Refusal) (old new : Session S) (state : Snapshots) → ReadsOnly store answer old new → store.honest (store_of new) → StandsSafely store old state → StandsSafely store new state
-looks_safely store answer old new state reads_only honest safely = record {
-  at = record { held = safely.at.held; stands = stands_still store.files old new safely.at.held safely.at.stands reads_only.kept (reads_only.reads.files honest); holds = safely.at.holds };
-  earlier = safely.earlier;
-  safe = reads_are_safe store safely.earlier safely.at.held (store_of old) (store_of new) reads_only.reads safely.safe;
-}
 
 -- one that wasn't interrupted leaves the session open
 pub goes_on_safely : {S : Type 0} (store : Ghosts S) (state : Snapshots) (session : Session S) (request : Request) (answer : Result Response Refusal) → GoesSafely store request answer state session

@@ -187,13 +187,6 @@ module _ {S : Type 0} (files : S → Files) (session : Session S) (held : State)
       let numbered = ap (λ (x : ListedEntry). x.number) (sym at.2) ∙ of.numbered in
       (entry_in at.0, says_step folder held.journal stands.standing.journal row.done at.0 number at.1 numbered)
 
--- the file of the number says a step that is done
-pub done_says : {S : Type 0} (files : S → Files) (session : Session S) (held : State) → StandsOn files session held → (number : ℕ) → lists (memory_of session).done number ≡ true
-    → (entry : Entry) × EntrySays (get (undo_folder_of (files (store_of session))) (entry_path number)) entry
-done_says files session held stands number listed =
-    let at = done_step (memory_of session) held.journal number stands.remembers listed in
-    (entry_in at.0, says_step (undo_folder_of (files (store_of session))) held.journal stands.standing.journal true at.0 number at.1 at.2)
-
 is_none_of : (o : Option Row) → o ≡ None → is_some o ≡ false
 is_none_of o e = ap is_some e
 

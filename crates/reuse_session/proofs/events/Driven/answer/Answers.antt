@@ -1,9 +1,9 @@
-use Rattle.std.proofs.Common.{◌≡◌, ◌<◌, IfErr, arith, ap, sym, subst}
+use Rattle.std.proofs.Common.{◌<◌, IfErr, arith, ap, sym, subst}
 use Rattle.reuse_tree.specs.Files.{Files}
 use Rattle.reuse_session.specs.session.Answer.{HasCause}
 use Rattle.reuse_session.specs.journal.JournalFiles.{IsFree}
 use Rattle.reuse_session.specs.session.Driven.{store_in}
-use Rattle.reuse_session.specs.session.Stops.{Point, AnswersEvent, AreLeft, MayBeFound}
+use Rattle.reuse_session.specs.session.Stops.{AnswersEvent, AreLeft, MayBeFound}
 use Rattle.reuse_tree.specs.Tree.{undo_folder_of}
 use Rattle.reuse_session.specs.declared.events.Event.{Event}
 use Rattle.reuse_session.proofs.lemmas.session.Driving.{left_at, answers_reopen}

@@ -2,7 +2,7 @@ use Rattle.std.proofs.Common.{refl, sym, subst}
 use Rattle.reuse_session.specs.session.Requests.{IsAnswered}
 use Rattle.reuse_session.specs.declared.reply.Refusal.{Refusal}
 use Rattle.reuse_session.specs.declared.reply.Response.{Response}
-use Rattle.reuse_session.specs.declared.reply.Response.TheVariants as replies
+use Rattle.reuse_session.specs.declared.reply.Response.TheVariants as responses
 use Rattle.reuse_session.specs.declared.request.Request.{Request}
 use Rattle.reuse_session.specs.declared.request.Request.TheVariants as requests
 use Rattle.std.specs.Prelude.{Result}
@@ -20,9 +20,9 @@ returns-in-Preview g c =
     let preview = c.preview_call.ensures in
     let old = c.args.self.now in
     let new = c.preview_call.new.self in
-    subst (λ (r : Request). IsAnswered store r c.path_outcomes_replied.result old new) (sym c.in-Preview.is)
-    (subst (λ (a : Result Response Refusal). IsAnswered store (requests.Preview call) a old new) (sym c.path_outcomes_replied.ensures)
-    (answered_look store (requests.Preview call) tt replies.Preview c.preview_call.result old new preview.reads_only preview.broken
+    subst (λ (r : Request). IsAnswered store r c.preview_answer.result old new) (sym c.in-Preview.is)
+    (subst (λ (a : Result Response Refusal). IsAnswered store (requests.Preview call) a old new) (sym c.preview_answer.ensures)
+    (answered_look store (requests.Preview call) tt responses.Preview c.preview_call.result old new preview.reads_only preview.broken
     (fails_early (requests.Preview call) (preview_fails call) c.preview_call.result preview.reads_only.unstopped)
     (λ honest held stands told. (c.preview_call.result, refl, preview.exact honest held stands told, refl))))
 
@@ -31,9 +31,9 @@ returns-in-Log g c =
     let store = g.S.Store in
     let log = c.log.ensures in
     let session = c.args.self.now in
-    subst (λ (r : Request). IsAnswered store r c.rows_replied.result session session) (sym c.in-Log.is)
-    (subst (λ (a : Result Response Refusal). IsAnswered store requests.Log a session session) (sym c.rows_replied.ensures)
-    (answered_look store requests.Log tt replies.Log c.log.result session session (log_reads_with_cause store c.log.result session log.refusal) log.broken (log_fails c.log.result log.refusal)
+    subst (λ (r : Request). IsAnswered store r c.log_answer.result session session) (sym c.in-Log.is)
+    (subst (λ (a : Result Response Refusal). IsAnswered store requests.Log a session session) (sym c.log_answer.ensures)
+    (answered_look store requests.Log tt responses.Log c.log.result session session (log_reads_with_cause store c.log.result session log.refusal) log.broken (log_fails c.log.result log.refusal)
     (λ honest held stands told. log_leads store.files session held c.log.result stands log.broken.0 (log.exact held stands) log.refusal told)))
 
 pub returns-in-Show : goal.returns-in-Show
@@ -44,7 +44,7 @@ returns-in-Show g c =
     let old = c.args.self.now in
     let new = c.show.new.self in
     let reads_with_cause = show_reads_with_cause store c.show.result old new show.broken.1 show.reads show.kept show.fails show.call in
-    subst (λ (r : Request). IsAnswered store r c.shown_replied.result old new) (sym c.in-Show.is)
-    (subst (λ (a : Result Response Refusal). IsAnswered store (requests.Show number) a old new) (sym c.shown_replied.ensures)
-    (answered_look store (requests.Show number) tt replies.Shown c.show.result old new reads_with_cause show.broken (fails_early (requests.Show number) (show_fails number) c.show.result reads_with_cause.unstopped)
+    subst (λ (r : Request). IsAnswered store r c.shown_answer.result old new) (sym c.in-Show.is)
+    (subst (λ (a : Result Response Refusal). IsAnswered store (requests.Show number) a old new) (sym c.shown_answer.ensures)
+    (answered_look store (requests.Show number) tt responses.Shown c.show.result old new reads_with_cause show.broken (fails_early (requests.Show number) (show_fails number) c.show.result reads_with_cause.unstopped)
     (λ honest held stands told. (c.show.result, refl, show.exact honest held stands told, refl))))
