@@ -1,7 +1,8 @@
 #!/usr/bin/env bash
 # Lists, reads and rewrites a tree of files through DiskStore, beside `cp -r` of the same tree, on a
-# tmpfs. Prints the least time of five rounds and the ratios to `cp -r`. The program is built in a
-# temporary folder, from the modules of crates/reuse_undo and bench/disk_speed/program.txt.
+# tmpfs. Prints the least time of five rounds and the ratios to `cp -r`. The program is
+# crates/reuse_undo with bench/disk_speed/program.txt in the place of its root, built in a temporary
+# folder. Where this machine has kept the proof of the crate, only the new root is proved.
 # usage: bench/disk_speed.sh [FILES]
 set -euo pipefail
 
@@ -11,15 +12,10 @@ build=$(mktemp -d)
 tree=$(mktemp -d /dev/shm/disk_speed.XXXXXX)
 trap 'rm -rf "$build" "$tree"' EXIT
 
+tar -C "$top" --exclude=out --exclude=must-fail -cf - crates crates.txt HANDLES |
+  tar -C "$build" -xf -
 crate=$build/crates/reuse_undo
-mkdir -p "$build/crates"
-cp -r "$top/crates/reuse_text" "$top/crates/reuse_tree" "$top/crates/reuse_undo" "$build/crates/"
-cp "$top/HANDLES" "$build/"
-grep -E '^reuse_(text|tree):' "$top/crates.txt" > "$build/crates.txt"
-echo 'reuse_undo: reuse_text reuse_tree thiserror' >> "$build/crates.txt"
-find "$crate/src" -mindepth 1 -maxdepth 1 ! -name disk ! -name disk.rt -exec rm -rf {} +
-rm -rf "$crate/proofs" "$crate/data" "$crate/specs/Lines.antt"
-sed -i '/Lines/d' "$crate/specs/Lib.antt"
+rm -rf "$crate/args" "$crate/data" "$crate/stdin" "$crate/stdout"
 cp "$top/bench/disk_speed/program.txt" "$crate/src/main.rt"
 (cd "$crate" && rt run -- list /nowhere) > "$build/log" 2>&1 || { tail -20 "$build/log"; exit 1; }
 program=$crate/out/reuse_undo

@@ -5,9 +5,9 @@ pub mod Hunks
 pub mod Lines
 pub mod Objects
 pub mod Outputs
+pub mod Responses
 pub mod RowLines
 pub mod ShownNames
 pub mod Statuses
 pub mod TextLines
-pub mod Told
 pub mod WriterFaults

@@ -1,6 +1,5 @@
 -- What a line asks a session for, and what comes of it.
 pub mod AfterStops
-pub mod Answering
 pub mod Asking
 pub mod CarriedOut
 pub mod Drawn

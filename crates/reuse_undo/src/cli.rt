@@ -14,5 +14,6 @@ mod options;
 mod place_word;
 mod prefix_name;
 pub(crate) mod settings;
+mod shared_options;
 mod subcommands;
 pub(crate) mod words;

@@ -82,7 +82,7 @@ struct Terminals {
     errors: bool,
 }
 
-/// Carries out what was asked for, and tells what came of it.
+/// Carries out what was asked for, and reports what came of it.
 fn run_asked<R: Runtime + Files<File = File> + AllocGlobal>(
     rt: &R,
     errors: &ErrorOutput<'_, R>,

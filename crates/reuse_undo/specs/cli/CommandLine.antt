@@ -14,8 +14,8 @@ use Rattle.reuse_undo.specs.run.Asking.{Request, call, forget, recover, request_
 use Rattle.reuse_undo.specs.cli.Choices.{change_status_of, format_of, is_dry_run, settings_of, usual_settings}
 use Rattle.reuse_undo.specs.cli.CommandWords.{amend_read, annotate_read}
 use Rattle.reuse_undo.specs.print.Dates.{IsYearOf}
-use Rattle.reuse_undo.specs.cli.FileWords.{files_from_of, ids_of, root_of, steps_read, texts_folder_read}
-use Rattle.reuse_undo.specs.cli.Found.{Rows, flag, found_in, number}
+use Rattle.reuse_undo.specs.cli.FileWords.{files_from_of, ids_of, root_of, step_read, steps_read, texts_folder_read}
+use Rattle.reuse_undo.specs.cli.Found.{Rows, flag, found_in}
 use Rattle.reuse_undo.specs.cli.LineFaults.{IsDueAs, Mistake, then_read, unread}
 use Rattle.reuse_undo.specs.run.Requests.{made_or_seen}
 use Rattle.reuse_undo.specs.declared.cli.line.LineFault.{LineFault}
@@ -36,14 +36,14 @@ call_read name found year =
     else if bytes_eq name (codes "undo") then Ok calls.Undo
     else if bytes_eq name (codes "redo") then Ok calls.Redo
     else if bytes_eq name (codes "revert")
-    then Ok (calls.Revert (number found (codes "NUMBER")) (flag found (codes "skip-moved")))
+    then then_read (step_read found) (λ number. Ok (calls.Revert number (flag found (codes "skip-moved"))))
     else Err (unread (codes "a subcommand that nothing reads"))
 
 -- the history is looked at; else the call is made at this moment, or in a dry run it is previewed
 unfoldable pub session_read : List ℕ → Rows → ℕ → ℕ → Result SessionRequest Mistake
 session_read name found moment year =
     if bytes_eq name (codes "log") then Ok requests.Log
-    else if bytes_eq name (codes "show") then Ok (requests.Show (number found (codes "NUMBER")))
+    else if bytes_eq name (codes "show") then then_read (step_read found) (λ number. Ok (requests.Show number))
     else then_read (call_read name found year) (λ asked. Ok (made_or_seen asked moment (is_dry_run found)))
 
 -- the licences of a download are copied from this folder

@@ -4,7 +4,7 @@ use Rattle.reuse_dep5.specs.declared.glob.GlobPiece.{GlobPiece}
 use Rattle.reuse_header.specs.Styles.{style_named}
 use Rattle.reuse_header.specs.declared.style.Style.{Style}
 use Rattle.reuse_session.specs.declared.command.Place.{Place}
-use Rattle.reuse_undo.specs.cli.Found.{Rows, flag, number_of, value, values}
+use Rattle.reuse_undo.specs.cli.Found.{Rows, flag, number, number_of, value, values}
 use Rattle.reuse_undo.specs.cli.Globs.{globs_of_word}
 use Rattle.reuse_undo.specs.cli.LineFaults.{Mistake, bad_glob, bad_path, all_read, each_read, or_mistake, then_read, unread}
 use Rattle.reuse_undo.specs.cli.Places.{place_of_word}
@@ -50,6 +50,10 @@ texts_folder_read found = or_mistake (value found (codes "texts")) (unread (code
 -- the ids of licences
 abbrev pub ids_of : Rows → List (List ℕ)
 ids_of found = values found (codes "ID")
+
+-- the number of a step
+abbrev pub step_read : Rows → Result ℕ Mistake
+step_read found = or_mistake (number found (codes "NUMBER")) (unread (codes "no number of a step"))
 
 -- the steps that are to be forgotten
 abbrev pub number_read : List ℕ → Result ℕ Mistake

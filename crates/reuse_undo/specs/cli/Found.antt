@@ -37,6 +37,6 @@ unfoldable pub number_of : List ℕ → Option ℕ
 number_of text =
     if is_unsigned_in 0 4_294_967_295 text then Some (digits_value 10 (without_leading_plus text)) else None
 
--- the number of an argument, or 0 where it has none
-unfoldable pub number : Rows → List ℕ → ℕ
-number found name = unwrap_or (option_and_then number_of (one_of name found)) 0
+-- the number of an argument, if it has one
+unfoldable pub number : Rows → List ℕ → Option ℕ
+number found name = option_and_then number_of (one_of name found)

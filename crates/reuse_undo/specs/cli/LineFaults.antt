@@ -28,7 +28,7 @@ mistake_of (faults.BadGlob word) = Some (bad_glob (string_bytes word))
 mistake_of (faults.Unreadable file) = Some (unreadable (string_bytes file))
 mistake_of faults.Memory = None
 
--- words that clap takes and nothing reads: it refuses them before, so that they can't come
+-- words that nothing reads; clap refuses them before, but its contracts don't say so of a line with global options
 abbrev pub unread : List ℕ → Mistake
 unread text = usage (codes "error: " ++ text ++ codes "\n")
 

@@ -7,7 +7,7 @@ use Rattle.reuse_undo.specs.print.RowLines.{AreRowLines, IsRowLine}
 use Rattle.reuse_session.specs.declared.path_outcome.PathOutcome.{PathOutcome}
 use Rattle.reuse_session.specs.declared.path_outcome.PathOutcome.TheVariants.{Changes, Unchanged, Skipped, Refused}
 use Rattle.reuse_session.specs.declared.reply.Response.{Response}
-use Rattle.reuse_session.specs.declared.reply.Response.TheVariants as replies
+use Rattle.reuse_session.specs.declared.reply.Response.TheVariants as responses
 use Rattle.reuse_session.specs.declared.reply.Response.TheVariants.{Opened, Changed, NothingChanged, Undone, Redone, Log, Preview}
 use Rattle.reuse_session.specs.declared.reply.Reverted.{Reverted}
 use Rattle.reuse_session.specs.declared.reply.Shown.{Shown}
@@ -64,16 +64,16 @@ abbrev pub reverted_text : Names → Reverted → List ℕ
 reverted_text names reverted = changed_text names reverted.changed ++ lines_of names (codes "skipped") reverted.skipped
 
 -- what a reply is printed as; that a session was opened is not told
-abbrev pub IsReplyText : Names → Response → List ℕ → Type 0
-IsReplyText names Opened text = text ≡ []
-IsReplyText names (Changed paths) text = text ≡ lines_of names (codes "changed") paths
-IsReplyText names NothingChanged text = text ≡ codes "nothing changed" ++ 10 ∷ []
-IsReplyText names (Undone paths) text = text ≡ lines_of names (codes "undone") paths
-IsReplyText names (Redone paths) text = text ≡ lines_of names (codes "redone") paths
-IsReplyText names (Log rows) text = AreRowLines rows text
-IsReplyText names (Preview path_outcomes) text = text ≡ path_outcome_lines names path_outcomes
-IsReplyText names (replies.Shown shown) text = IsShownText names shown text
-IsReplyText names (replies.Reverted reverted) text = text ≡ reverted_text names reverted
+abbrev pub IsResponseText : Names → Response → List ℕ → Type 0
+IsResponseText names Opened text = text ≡ []
+IsResponseText names (Changed paths) text = text ≡ lines_of names (codes "changed") paths
+IsResponseText names NothingChanged text = text ≡ codes "nothing changed" ++ 10 ∷ []
+IsResponseText names (Undone paths) text = text ≡ lines_of names (codes "undone") paths
+IsResponseText names (Redone paths) text = text ≡ lines_of names (codes "redone") paths
+IsResponseText names (Log rows) text = AreRowLines rows text
+IsResponseText names (Preview path_outcomes) text = text ≡ path_outcome_lines names path_outcomes
+IsResponseText names (responses.Shown shown) text = IsShownText names shown text
+IsResponseText names (responses.Reverted reverted) text = text ≡ reverted_text names reverted
 
 -- whether a path would change
 abbrev pub would_change : PathOutcome → Bool
@@ -89,5 +89,5 @@ path_count (Undone paths) = length paths
 path_count (Redone paths) = length paths
 path_count (Log rows) = 0
 path_count (Preview path_outcomes) = count_by would_change path_outcomes
-path_count (replies.Shown shown) = 0
-path_count (replies.Reverted reverted) = length reverted.changed
+path_count (responses.Shown shown) = 0
+path_count (responses.Reverted reverted) = length reverted.changed

@@ -22,8 +22,8 @@ use Rattle.reuse_session.specs.declared.session.Session.{Session}
 use Rattle.reuse_undo.specs.print.DiffText.{IsDiff}
 use Rattle.reuse_undo.specs.print.RowLines.{AreJoined}
 use Rattle.reuse_session.specs.session.Requests.{IsAnswered, Makes}
-use Rattle.reuse_undo.specs.print.Lines.{IsReplyText}
-use Rattle.reuse_undo.specs.print.Told.{is_refused, IsAccepted}
+use Rattle.reuse_undo.specs.print.Lines.{IsResponseText}
+use Rattle.reuse_undo.specs.print.Responses.{is_refused, IsAccepted}
 use Rattle.reuse_session.specs.declared.request.Request.{Request}
 use Rattle.reuse_session.specs.declared.request.Request.TheVariants as requests
 use Rattle.reuse_undo.specs.declared.print.shown_name.Names.{Names}
@@ -63,7 +63,7 @@ pub record IsDrawnText (names : Names) (before after : Files) (text : List ℕ) 
   pub path_outcomes : List PathOutcome
   pub lines : List ℕ
   pub diff : List ℕ
-  pub told : IsReplyText names (Preview path_outcomes) lines
+  pub printed : IsResponseText names (Preview path_outcomes) lines
   pub drawn : IsTreeDiff before after diff
   pub whole : text ≡ lines ++ diff
 

@@ -5,16 +5,16 @@ use Rattle.reuse_tree.specs.declared.store.Store.{Ghosts}
 use Rattle.reuse_session.specs.session.Stops.{Point}
 use Rattle.reuse_undo.specs.run.AfterStops.{AnswersAfterStop}
 use Rattle.reuse_undo.specs.run.CarriedOut.{CarriesOut}
-use Rattle.reuse_undo.specs.run.RunLine.{TellsAnswer}
+use Rattle.reuse_undo.specs.run.RunLine.{ReportsAnswer}
 use Rattle.reuse_undo.specs.declared.run.fault.Fault.{Fault}
-use Rattle.reuse_undo.specs.declared.cli.line.Telling.{Telling}
+use Rattle.reuse_undo.specs.declared.cli.line.PrintOptions.{PrintOptions}
 use Rattle.reuse_session.specs.declared.request.Request.{Request}
 
 -- a line that was carried out: what it asked for, its store and what its answer is written to, each before and after,
--- and what was told
+-- and what was reported
 pub record CarriedLine (S O : Type 0) : Type 0 where
   pub request : Request
-  pub telling : Telling
+  pub options : PrintOptions
   pub old : S
   pub new : S
   pub before : O
@@ -25,23 +25,22 @@ pub record CarriedLine (S O : Type 0) : Type 0 where
 abbrev pub HoldsSame : {S : Type 0} → Ghosts S → S → S → Type 0
 HoldsSame store left next = store.files next ≡ store.files left
 
--- it does, and a loss of power may leave no more of it
-abbrev pub LosesNoMore : {S : Type 0} → Ghosts S → S → S → Type 0
-LosesNoMore store left next = HoldsSame store left next × Leaves store next (store.may_be left)
-
 -- each line is carried out on a store that is next to the one that the line before it left, and is honest
 abbrev pub AreInTurn : {S O : Type 0} → (IsNext : S → S → Type 0) → Ghosts S → (O → List ℕ) → (O → Bool) → S
     → List (CarriedLine S O) → S → Type 0
 AreInTurn IsNext store contents has_failed first [] last = last ≡ first
 AreInTurn IsNext store contents has_failed first (line ∷ lines) last =
     IsNext first line.old × store.honest line.new
-    × CarriesOut store contents has_failed line.request line.telling line.old line.new line.before line.after line.result
+    × CarriesOut store contents has_failed line.request line.options
+    line.old line.new line.before line.after line.result
     × AreInTurn IsNext store contents has_failed line.new lines last
 
--- the lines tell the answers of a run of the model with stops, one after the other, and lead from one point to the
+-- the lines report the answers of a run of the model with stops, one after the other, and lead from one point to the
 -- other
 abbrev pub RunAsModel : {S O : Type 0} → (O → List ℕ) → List (CarriedLine S O) → (start end : Point) → Type 0
 RunAsModel contents [] start end = end ≡ start
 RunAsModel contents (line ∷ lines) start end =
-    (point : Point) × TellsAnswer line.telling (λ answer. AnswersAfterStop line.request answer start point) (contents line.before) (contents line.after) line.result
+    (point : Point) × ReportsAnswer line.options
+    (λ answer. AnswersAfterStop line.request answer start point)
+    (contents line.before) (contents line.after) line.result
     × RunAsModel contents lines point end

@@ -17,14 +17,14 @@ use Rattle.reuse_session.specs.declared.failure.Failure.TheVariants as failures
 use Rattle.reuse_session.specs.declared.reply.Refusal.{Refusal}
 use Rattle.reuse_session.specs.declared.reply.Refusal.TheVariants as refusals
 use Rattle.reuse_session.specs.declared.reply.Response.{Response}
-use Rattle.reuse_session.specs.declared.reply.Response.TheVariants as replies
+use Rattle.reuse_session.specs.declared.reply.Response.TheVariants as responses
 use Rattle.reuse_session.specs.declared.request.Request.{Request}
 use Rattle.reuse_undo.specs.declared.run.fault.Fault.{Fault}
 use Rattle.reuse_undo.specs.declared.run.fault.Fault.TheVariants as faults
-use Rattle.reuse_undo.specs.declared.cli.line.Telling.{Telling}
+use Rattle.reuse_undo.specs.declared.cli.line.PrintOptions.{PrintOptions}
 use Rattle.reuse_undo.specs.print.Lines.{path_count}
 use Rattle.reuse_undo.specs.print.Outputs.{AddsFront, AddsSome}
-use Rattle.reuse_undo.specs.print.Told.{IsToldText, is_refused, IsDrawnPreview, WouldBeMade}
+use Rattle.reuse_undo.specs.print.Responses.{IsPrintedText, is_refused, IsDrawnPreview, WouldBeMade}
 
 -- ---- from any files
 
@@ -47,7 +47,7 @@ abbrev pub AnswersOn : Request → State → Result Response Refusal → Files �
 AnswersOn request held answer after = (opened : Files) × IsStanding opened held × Meets request held answer after
 
 -- A session was opened, which of the journal's files puts none but the head, and the call was made on the standing that
--- it found. A clash that is told is one of the files as the opening left them.
+-- it found. A clash that is reported is one of the files as the opening left them.
 pub record IsMade (before : Files) (request : Request) (answer : Result Response Refusal) (after : Files) : Type 0 where
   pub made : (found : State) × (opened : Files) × OpensOn before found opened × Meets request found answer after
       × IfErr answer (HasCallClash request found opened)
@@ -73,27 +73,30 @@ FollowsModel state request (Err (refusals.Failed (failures.Interrupted cause))) 
 FollowsModel state request (Err (refusals.Failed failure)) files = HoldState files state
 FollowsModel state request answer files = (next : Snapshots) × Gives state request answer next × HoldState files next
 
--- ---- what is told of it
+-- ---- what is reported of it
 
 -- The answer is one of these. Of it the output took the lines, and the paths that changed are counted, or it failed
 -- behind some front part of them; a refusal is handed on, and nothing is written of it, nor for an allocation failure.
 -- A call that was only looked at is a fault exactly where one of its path outcomes is a refusal. That another run works
--- on the tree is told before a store is asked, so never here.
-abbrev pub TellsAnswer : Telling → (Result Response Refusal → Type 0) → List ℕ → List ℕ → Result ℕ Fault → Type 0
-TellsAnswer telling IsAnswer old new (Ok count) = (told : Response) × IsAnswer (Ok told) × WouldBeMade told
-    × AddsSome old new (IsToldText telling told) × (count ≡ path_count told)
-TellsAnswer telling IsAnswer old new (Err (faults.Refused refusal)) = IsAnswer (Err refusal) × (new ≡ old)
-TellsAnswer telling IsAnswer old new (Err (faults.WouldRefuse path_outcomes)) =
-    IsAnswer (Ok (replies.Preview path_outcomes)) × (is_refused path_outcomes ≡ true)
-    × AddsSome old new (IsToldText telling (replies.Preview path_outcomes))
-TellsAnswer telling IsAnswer old new (Err (faults.NoDiff refusal)) =
-    ((told : Response) × IsAnswer (Ok told) × IsDrawnPreview telling told) × (new ≡ old)
-TellsAnswer telling IsAnswer old new (Err faults.InUse) = ⊥
-TellsAnswer telling IsAnswer old new (Err faults.Write) =
-    (told : Response) × IsAnswer (Ok told) × (text : List ℕ) × IsToldText telling told text × AddsFront old new text
-TellsAnswer telling IsAnswer old new (Err faults.Memory) = ((told : Response) × IsAnswer (Ok told)) × (new ≡ old)
+-- on the tree is reported before a store is asked, so never here.
+abbrev pub ReportsAnswer : PrintOptions → (Result Response Refusal → Type 0) → List ℕ → List ℕ → Result ℕ Fault → Type 0
+ReportsAnswer options IsAnswer old new (Ok count) = (response : Response) × IsAnswer (Ok response)
+    × WouldBeMade response
+    × AddsSome old new (IsPrintedText options response) × (count ≡ path_count response)
+ReportsAnswer options IsAnswer old new (Err (faults.Refused refusal)) = IsAnswer (Err refusal) × (new ≡ old)
+ReportsAnswer options IsAnswer old new (Err (faults.WouldRefuse path_outcomes)) =
+    IsAnswer (Ok (responses.Preview path_outcomes)) × (is_refused path_outcomes ≡ true)
+    × AddsSome old new (IsPrintedText options (responses.Preview path_outcomes))
+ReportsAnswer options IsAnswer old new (Err (faults.NoDiff refusal)) =
+    ((response : Response) × IsAnswer (Ok response) × IsDrawnPreview options response) × (new ≡ old)
+ReportsAnswer options IsAnswer old new (Err faults.InUse) = ⊥
+ReportsAnswer options IsAnswer old new (Err faults.Write) =
+    (response : Response) × IsAnswer (Ok response) × (text : List ℕ) × IsPrintedText options response text
+    × AddsFront old new text
+ReportsAnswer options IsAnswer old new (Err faults.Memory) = ((response : Response) × IsAnswer (Ok response))
+    × (new ≡ old)
 
--- a refusal that is told
+-- a refusal that is reported
 abbrev pub IfRefused : {T : Type 0} → Result T Fault → (Refusal → Type 0) → Type 0
 IfRefused (Err (faults.Refused refusal)) Claim = Claim refusal
 IfRefused result Claim = Unit {0}

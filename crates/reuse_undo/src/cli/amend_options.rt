@@ -1,6 +1,7 @@
 //! The options of `amend`, with their help, as tables.
-use crate::cli::options::{
-    Argument, CHECK, Choice, DIFF, DRY_RUN, EXIT_NON_ZERO, LOOK, LOOK_JSON, PRINTED, Rule, Takes,
+use crate::cli::options::{Argument, Choice, Rule, Takes};
+use crate::cli::shared_options::{
+    CHECK, DIFF, DRY_RUN, EXCLUDE, EXIT_NON_ZERO, FILES_FROM, LOOK, LOOK_JSON, PATH, PRINTED,
 };
 
 const OLD_NEW: &[&str] = &["OLD", "NEW"];
@@ -83,27 +84,9 @@ pub const AMEND: &[Argument] = &[
         Rule::Free,
         "Amend the files beneath folders",
     ),
-    Argument(
-        "files-from",
-        None,
-        Takes::Value("FILE"),
-        Rule::Requires("recursive"),
-        "Take beneath folders only what FILE lists; `-`: standard input",
-    ),
-    Argument(
-        "exclude",
-        None,
-        Takes::Values("GLOB"),
-        Rule::Requires("recursive"),
-        "Exclude files beneath folders that GLOB matches, itself or by a folder; may be repeated",
-    ),
-    Argument(
-        "PATH",
-        None,
-        Takes::Words,
-        Rule::Required,
-        "A file, or with --recursive a folder; `.` is the root",
-    ),
+    FILES_FROM,
+    EXCLUDE,
+    PATH,
     DRY_RUN,
     CHECK,
     DIFF,

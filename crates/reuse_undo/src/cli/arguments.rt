@@ -24,37 +24,30 @@ fn one_of<'a>(arg: Arg<'a>, names: &'static [&'static str]) -> Arg<'a> {
         .value_parser(ValueParser::Names(names))
 }
 
-/// The option of this name, which takes a value.
-fn valued<'a>(arg: Arg<'a>, id: &'static str, takes: Takes) -> Arg<'a> {
-    let option = arg.long(id);
+/// What takes this: the option of this long name, or words without an option.
+fn taking<'a>(arg: Arg<'a>, id: &'static str, takes: Takes) -> Arg<'a> {
     match takes {
-        Takes::Value(name) => option.value_name(name).action(ArgAction::Set),
-        Takes::Default(value, name) => option
+        Takes::Nothing => arg.long(id).action(ArgAction::SetTrue),
+        Takes::Value(name) => arg.long(id).value_name(name).action(ArgAction::Set),
+        Takes::Default(value, name) => arg
+            .long(id)
             .value_name(name)
             .default_value(value)
             .action(ArgAction::Set),
-        Takes::Values(name) => option.value_name(name).action(ArgAction::Append),
-        Takes::Pairs(names) => option
+        Takes::Values(name) => arg.long(id).value_name(name).action(ArgAction::Append),
+        Takes::Pairs(names) => arg
+            .long(id)
             .value_names(names)
             .num_args(2)
             .action(ArgAction::Append),
-        Takes::Style => one_of(option, style_names()),
-        Takes::Prefix => one_of(option, prefix_names()),
-        Takes::Nothing | Takes::Words | Takes::Number | Takes::Numbers => {
-            option.action(ArgAction::SetTrue)
-        }
-    }
-}
-
-fn taking<'a>(arg: Arg<'a>, id: &'static str, takes: Takes) -> Arg<'a> {
-    match takes {
+        Takes::Style => one_of(arg.long(id), style_names()),
+        Takes::Prefix => one_of(arg.long(id), prefix_names()),
         Takes::Words => arg.num_args(1..).action(ArgAction::Append),
         Takes::Number => arg.value_parser(ValueParser::unsigned(0, MOST_NUMBER)),
         Takes::Numbers => arg
             .num_args(1..)
             .action(ArgAction::Append)
             .value_parser(ValueParser::unsigned(0, MOST_NUMBER)),
-        takes => valued(arg, id, takes),
     }
 }
 

@@ -23,7 +23,7 @@ pub enum OutputFormat {
 
 /// How an answer is printed.
 #[derive(Clone, Copy)]
-pub struct Telling {
+pub struct PrintOptions {
     pub format: OutputFormat,
     /// How the names in lines are shown. JSON escapes their control bytes always, and a diff as git
     /// does.

@@ -1,4 +1,7 @@
-//! The options and subcommands of the command line, with their help, as tables.
+//! The options of the command line, with their help, as tables, and what the tables are made of.
+use crate::cli::shared_options::{
+    CHECK, DIFF, DRY_RUN, EXCLUDE, EXIT_NON_ZERO, FILES_FROM, JSON, LOOK_JSON, PATH,
+};
 
 /// What a part of the command line takes.
 #[derive(Clone, Copy)]
@@ -114,68 +117,12 @@ pub const BEFORE: &[Argument] = &[
     ),
 ];
 
-/// What each subcommand that makes a step has: to look at it beforehand, and how that is printed.
-pub const DRY_RUN: Argument = Argument(
-    "dry-run",
-    Some('n'),
-    Takes::Nothing,
-    Rule::Free,
-    "Print what would change and what is refused, and make no step",
-);
-
-pub const CHECK: Argument = Argument(
-    "check",
-    None,
-    Takes::Nothing,
-    Rule::Free,
-    "As --dry-run, with status 1 if a file would change",
-);
-
-pub const DIFF: Argument = Argument(
-    "diff",
-    None,
-    Takes::Nothing,
-    Rule::Requires("look"),
-    "With --dry-run or --check, print a diff of what would change",
-);
-
-pub const LOOK_JSON: Argument = Argument(
-    "json",
-    None,
-    Takes::Nothing,
-    Rule::Requires("look"),
-    "With --dry-run or --check, print JSON objects; not with --diff",
-);
-
-/// A dry run may be asked for by either name, and is printed in one way.
-pub const LOOK: Choice = Choice::AnyOf("look", "dry-run", "check");
-
-pub const PRINTED: Choice = Choice::OneOf("printed", "diff", "json");
-
-pub const LOOKS: &[Choice] = &[LOOK, PRINTED];
-
-pub const EXIT_NON_ZERO: Argument = Argument(
-    "exit-non-zero-on-change",
-    None,
-    Takes::Nothing,
-    Rule::Free,
-    "Exit with status 1 if a file changes",
-);
-
 const NUMBER: Argument = Argument(
     "NUMBER",
     None,
     Takes::Number,
     Rule::Required,
     "The number of a step, as printed by log",
-);
-
-pub const JSON: Argument = Argument(
-    "json",
-    None,
-    Takes::Nothing,
-    Rule::Free,
-    "Print a JSON object on each line",
 );
 
 pub const ANNOTATE: &[Argument] = &[
@@ -263,20 +210,8 @@ pub const ANNOTATE: &[Argument] = &[
         Rule::Free,
         "Annotate the files beneath folders",
     ),
-    Argument(
-        "files-from",
-        None,
-        Takes::Value("FILE"),
-        Rule::Requires("recursive"),
-        "Take beneath folders only what FILE lists; `-`: standard input",
-    ),
-    Argument(
-        "exclude",
-        None,
-        Takes::Values("GLOB"),
-        Rule::Requires("recursive"),
-        "Exclude files beneath folders that GLOB matches, itself or by a folder; may be repeated",
-    ),
+    FILES_FROM,
+    EXCLUDE,
     Argument(
         "force-dot-license",
         None,
@@ -305,13 +240,7 @@ pub const ANNOTATE: &[Argument] = &[
         Rule::Free,
         "Skip PATH if the place to be written has licensing information",
     ),
-    Argument(
-        "PATH",
-        None,
-        Takes::Words,
-        Rule::Required,
-        "A file, or with --recursive a folder; `.` is the root",
-    ),
+    PATH,
     DRY_RUN,
     CHECK,
     DIFF,

@@ -4,9 +4,9 @@ use crate::cli::help::{
     AFTER_AMEND, AFTER_ANNOTATE, AFTER_CONVERT, AFTER_DOWNLOAD, AFTER_FORGET, AFTER_LOG,
     AFTER_RECOVER, AFTER_REDO, AFTER_REVERT, AFTER_SHOW, AFTER_UNDO,
 };
-use crate::cli::options::{
-    ANNOTATE, CHECK, Choice, DIFF, DOWNLOAD, DRY_RUN, EXIT_NON_ZERO, FORGET, JSON, LOOK, LOOK_JSON,
-    LOOKS, PRINTED, RECOVER, REVERT, SHOW, Subcommand,
+use crate::cli::options::{ANNOTATE, Choice, DOWNLOAD, FORGET, RECOVER, REVERT, SHOW, Subcommand};
+use crate::cli::shared_options::{
+    CHECK, DIFF, DRY_RUN, EXIT_NON_ZERO, JSON, LOOK, LOOK_JSON, LOOKS, PRINTED,
 };
 
 /// The form of the comments, what is done if a style is unknown, and those of each dry run.

@@ -25,8 +25,8 @@ use choices::{is_dry_run, read_change_status, read_format, read_settings};
 use clap::error::ErrorKind;
 use clap::{ArgMatches, Error};
 use command_words::{read_amend, read_annotate};
-use file_words::{read_files_from, read_ids, read_root, read_steps, read_texts};
-use found::{flag, number, subcommand};
+use file_words::{read_files_from, read_ids, read_root, read_step, read_steps, read_texts};
+use found::{flag, subcommand};
 use reuse_session::{Call, Command, LicenceTexts, Moment, Request};
 use std::alloc::{AllocError, Global};
 use unread_words::unread;
@@ -176,7 +176,7 @@ fn read_session_request(
 {
     match name {
         "log" => Ok(Request::Log),
-        "show" => Ok(Request::Show(number(matches, "NUMBER"))),
+        "show" => Ok(Request::Show(read_step(alloc, matches)?)),
         _ => {
             let call = read_call(alloc, name, matches, year)?;
             Ok(made_or_seen(call, moment, is_dry_run(matches)))
@@ -200,10 +200,13 @@ fn read_call(
         "download" => Ok(Call::Run(read_download(alloc, matches)?)),
         "undo" => Ok(Call::Undo),
         "redo" => Ok(Call::Redo),
-        "revert" => Ok(Call::Revert {
-            number: number(matches, "NUMBER"),
-            skip_moved: flag(matches, "skip-moved"),
-        }),
+        "revert" => {
+            let number = read_step(alloc, matches)?;
+            Ok(Call::Revert {
+                number,
+                skip_moved: flag(matches, "skip-moved"),
+            })
+        }
         _ => Err(unread(alloc, "a subcommand that nothing reads")?),
     }
 }

@@ -1,7 +1,7 @@
 //! The lines that an answer is printed as.
 ghost use Rattle.std.specs.Prelude.{◌≡◌, OnOk, count_by};
 ghost use Rattle.std.specs.Io.KnownBytes.{Appends};
-ghost use Rattle.reuse_undo.specs.print.Lines.{line_of, lines_of, path_outcome_line, path_outcome_lines, would_change, change_lines, kind_word, path_count, IsReplyText, IsShownText, changed_text, reverted_text};
+ghost use Rattle.reuse_undo.specs.print.Lines.{line_of, lines_of, path_outcome_line, path_outcome_lines, would_change, change_lines, kind_word, path_count, IsResponseText, IsShownText, changed_text, reverted_text};
 ghost use Rattle.reuse_undo.specs.print.RowLines.{AppendsSome};
 
 use crate::print::rows::{print_row, print_rows};
@@ -33,10 +33,10 @@ pub fn print_paths<W: Write>(
     Ok(())
 }
 
-/// Prints a reply: a line for each path or row. That a session was opened is not printed, nor the
-/// refusals of a preview.
-pub fn print_reply<W: Write>(out: &mut W, names: Names, reply: &Response) -> io::Result<()>
-    ensures { OnOk result (AppendsSome (W.contents out.old) (W.contents out.new) (IsReplyText names reply.now)) }
+/// Prints a response: a line for each path or row. That a session was opened is not printed, nor
+/// the refusals of a preview.
+pub fn print_response<W: Write>(out: &mut W, names: Names, reply: &Response) -> io::Result<()>
+    ensures { OnOk result (AppendsSome (W.contents out.old) (W.contents out.new) (IsResponseText names reply.now)) }
 {
     match reply {
         Response::Changed(paths) => print_paths(out, names, "changed", paths.as_slice()),
@@ -130,7 +130,7 @@ fn print_reverted_paths<W: Write>(out: &mut W, names: Names, paths: &[PathText])
     }
 }
 
-/// How many paths a reply tells that changed, or that would change.
+/// How many paths a response reports that changed, or that would change.
 pub fn path_count(reply: &Response) -> usize
     ensures { result ≡ path_count reply.now }
 {

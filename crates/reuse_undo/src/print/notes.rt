@@ -3,19 +3,19 @@ use crate::cli::line::LineFault;
 use crate::disk::Kept;
 use crate::run::damage::Headless;
 use crate::run::denial::Denial;
-use crate::run::diagnostics::{Diagnostics, Task, unrecognised_among};
+use crate::run::diagnostics::{Diagnostics, RequestKind, unrecognised_among};
 use crate::run::fault::Fault;
 use reuse_dep5::{Dep5Cause, Dep5Refusal};
 use reuse_notice::NoticeRefusal;
 use reuse_session::{AmendFault, Failure, PathOutcome, Refusal};
 use std::fmt::Display;
 
-/// Tells a note. Where standard error can't be written, there is nobody to tell.
+/// Prints a note. Where standard error can't be written, there is nobody to read it.
 fn note(rt: &impl Eprint, text: impl Display + Drop) {
     let _ = eprintln!(rt; "reuse-undo: note: {text}");
 }
 
-/// Tells what to do about words that are no line.
+/// Prints what to do about words that are no line.
 pub fn note_words(rt: &impl Eprint, fault: &LineFault) {
     match fault {
         LineFault::BadAdditions(NoticeRefusal::BadYear(_)) => note(
@@ -46,8 +46,8 @@ fn advice(refusal: &Refusal, is_begun: bool, diagnostics: &Diagnostics) -> Optio
             write the information beside the file with --fallback-dot-license, or pass it over with --skip-unrecognised",
         ),
         Refusal::Moved(_) if is_begun => Some(begun_advice(diagnostics)),
-        Refusal::Moved(_) if diagnostics.is_gone => Some(gone_advice(diagnostics.task)),
-        Refusal::Moved(_) => Some(moved_advice(diagnostics.task)),
+        Refusal::Moved(_) if diagnostics.is_gone => Some(gone_advice(diagnostics.kind)),
+        Refusal::Moved(_) => Some(moved_advice(diagnostics.kind)),
         Refusal::NoSuchStep(_) => Some("reuse-undo log tells the numbers of the steps"),
         Refusal::Failed(Failure::Interrupted(_)) => {
             Some("the next call on this tree, log too, takes back what was begun")
@@ -65,12 +65,12 @@ fn advice(refusal: &Refusal, is_begun: bool, diagnostics: &Diagnostics) -> Optio
 
 /// What can be done about a file of a step that a stopped run had begun.
 fn begun_advice(diagnostics: &Diagnostics) -> &'static str {
-    match (diagnostics.task, diagnostics.is_gone) {
-        (Task::Recover, false) => {
+    match (diagnostics.kind, diagnostics.is_gone) {
+        (RequestKind::Recover, false) => {
             "a stopped run had begun to change this file, and it was changed since: with --skip-moved it is left \
             as it is, and the other files are set back"
         }
-        (Task::Recover, true) => {
+        (RequestKind::Recover, true) => {
             "a stopped run had begun to change this file, and it is gone: with --skip-moved it is left out, and the \
             other files are set back"
         }
@@ -88,13 +88,13 @@ fn begun_advice(diagnostics: &Diagnostics) -> &'static str {
 }
 
 /// What can be done about a file that is gone.
-fn gone_advice(task: Task) -> &'static str {
-    match task {
-        Task::Revert | Task::PreviewRevert => {
+fn gone_advice(kind: RequestKind) -> &'static str {
+    match kind {
+        RequestKind::Revert | RequestKind::PreviewRevert => {
             "this file is gone: put it back and call again, or leave it out with --skip-moved; \
             or reuse-undo forget takes the step out of the history, and leaves all files"
         }
-        Task::Redo => "this file is gone: put it back and call again",
+        RequestKind::Redo => "this file is gone: put it back and call again",
         _ => {
             "this file is gone: put it back and call again; or reuse-undo revert --skip-moved takes the step out of the \
             other files, and reuse-undo forget out of the history alone"
@@ -103,14 +103,14 @@ fn gone_advice(task: Task) -> &'static str {
 }
 
 /// What can be done about a file that isn't as a step left it.
-fn moved_advice(task: Task) -> &'static str {
-    match task {
-        Task::Revert | Task::PreviewRevert => {
+fn moved_advice(kind: RequestKind) -> &'static str {
+    match kind {
+        RequestKind::Revert | RequestKind::PreviewRevert => {
             "what the step wrote doesn't stand in this file as it did: take that change back and call again, \
             or leave the file as it is with --skip-moved; or reuse-undo forget takes the step out of the history, \
             and leaves all files"
         }
-        Task::Redo => {
+        RequestKind::Redo => {
             "this file was changed since the step was taken back: take that change back and call again"
         }
         _ => {
@@ -151,7 +151,7 @@ fn amend_advice(fault: AmendFault) -> &'static str {
     }
 }
 
-/// Tells what a refusal is about.
+/// Prints what a refusal is about.
 fn note_refusal(rt: &impl Eprint, diagnostics: &Diagnostics, refusal: &Refusal) {
     if let (Refusal::Failed(Failure::Fault(_) | Failure::Interrupted(_)), Some(failure)) = (
         refusal,
@@ -179,7 +179,8 @@ fn note_refusal(rt: &impl Eprint, diagnostics: &Diagnostics, refusal: &Refusal) 
     }
 }
 
-/// Tells how many names aren't recognised, where one is refused for that, or some were passed over.
+/// Prints how many names aren't recognised, where one is refused for that, or some were passed
+/// over.
 fn note_unrecognised(rt: &impl Eprint, count: usize, passed_over: bool) {
     let files = if count == 1 { "file" } else { "files" };
     let _ = match (passed_over, count) {
@@ -197,7 +198,7 @@ fn note_unrecognised(rt: &impl Eprint, count: usize, passed_over: bool) {
     };
 }
 
-/// Tells which globs left nothing out, and how many listed paths are no covered file beneath a
+/// Prints which globs left nothing out, and how many listed paths are no covered file beneath a
 /// PATH.
 fn note_unused(rt: &impl Eprint, diagnostics: &Diagnostics) {
     for glob in diagnostics.idle_globs.as_slice() {
@@ -216,7 +217,7 @@ fn note_unused(rt: &impl Eprint, diagnostics: &Diagnostics) {
     };
 }
 
-/// Tells what the refusals among path outcomes are about, each advice once.
+/// Prints what the refusals among path outcomes are about, each advice once.
 fn note_path_outcomes(rt: &impl Eprint, diagnostics: &Diagnostics, path_outcomes: &[PathOutcome]) {
     let mut last = None;
     for path_outcome in path_outcomes {
@@ -231,21 +232,22 @@ fn note_path_outcomes(rt: &impl Eprint, diagnostics: &Diagnostics, path_outcomes
     note_unrecognised(rt, unrecognised_among(path_outcomes), false);
 }
 
-/// Tells how many files a call changed, and how that is taken back.
-fn note_change(rt: &impl Eprint, task: Task, count: usize) {
+/// Prints how many files a call changed, and how that is taken back.
+fn note_change(rt: &impl Eprint, kind: RequestKind, count: usize) {
     let files = if count == 1 { "file" } else { "files" };
-    let _ = match task {
-        Task::Step | Task::Conversion | Task::Redo | Task::Revert if count > 0 => {
+    let _ = match kind {
+        RequestKind::Step | RequestKind::Conversion | RequestKind::Redo | RequestKind::Revert
+            if count > 0 => {
             eprintln!(rt;
                 "reuse-undo: note: {count} {files} changed; reuse-undo undo takes that back"
             )
         }
-        Task::Revert => {
+        RequestKind::Revert => {
             eprintln!(rt;
                 "reuse-undo: note: the step couldn't be taken out of any file, and stays done; reuse-undo forget takes it out of the history"
             )
         }
-        Task::Undo => {
+        RequestKind::Undo => {
             eprintln!(rt;
                 "reuse-undo: note: {count} {files} changed back; reuse-undo redo makes that step again"
             )
@@ -254,7 +256,7 @@ fn note_change(rt: &impl Eprint, task: Task, count: usize) {
     };
 }
 
-/// Tells that the journal has files of steps, and no head.
+/// Prints that the journal has files of steps, and no head.
 fn note_headless(rt: &impl Eprint, headless: Headless) {
     match headless {
         Headless::First => note(
@@ -271,8 +273,8 @@ fn note_headless(rt: &impl Eprint, headless: Headless) {
     }
 }
 
-/// Tells that a step was rolled back which a stopped run had begun, and how many files of it. That
-/// is told always, since the call before may have been another user's.
+/// Prints that a step was rolled back which a stopped run had begun, and how many files of it. That
+/// is printed always, since the call before may have been another user's.
 pub fn note_rolled_back(rt: &impl Eprint, step: u32, count: usize) {
     let files = if count == 1 { "file" } else { "files" };
     let _ = eprintln!(rt;
@@ -280,7 +282,7 @@ pub fn note_rolled_back(rt: &impl Eprint, step: u32, count: usize) {
     );
 }
 
-/// Tells what can be done about a call that the program itself refused.
+/// Prints what can be done about a call that the program itself refused.
 pub fn note_denial(rt: &impl Eprint, denial: &Denial) {
     let text = match denial {
         Denial::JournalOfAnother => {
@@ -295,7 +297,7 @@ pub fn note_denial(rt: &impl Eprint, denial: &Denial) {
     note(rt, text);
 }
 
-/// Tells how many files have another owner or group now, and how many had further names.
+/// Prints how many files have another owner or group now, and how many had further names.
 fn note_kept(rt: &impl Eprint, kept: Kept) {
     if kept.changed > 0 {
         let files = if kept.changed == 1 { "file" } else { "files" };
@@ -317,14 +319,14 @@ fn note_kept(rt: &impl Eprint, kept: Kept) {
     }
 }
 
-/// Tells what a call did, or what its fault is about.
+/// Prints what a call did, or what its fault is about.
 pub fn note_call(rt: &impl Eprint, diagnostics: &Diagnostics, outcome: &Result<usize, Fault>) {
     note_kept(rt, diagnostics.kept);
     if let Some(headless) = diagnostics.headless {
         note_headless(rt, headless);
     }
     match outcome {
-        Ok(count) => note_change(rt, diagnostics.task, *count),
+        Ok(count) => note_change(rt, diagnostics.kind, *count),
         Err(Fault::Refused(refusal) | Fault::NoDiff(refusal)) => {
             note_refusal(rt, diagnostics, refusal)
         }

@@ -11,8 +11,8 @@ use std::io::{ErrorKind, Write};
 use taken::TakenBytes;
 
 /// Takes the bytes of an answer. Which it took, and whether it has failed, is known to contracts
-/// alone: so an answer is told as written only where an output took it, and a fault of writing only
-/// where a call of it failed.
+/// alone: so an answer is reported as written only where an output took it, and a fault of writing
+/// only where a call of it failed.
 pub trait Sink {
     /// The bytes that it took.
     ghost contents: { Self → List ℕ };
@@ -72,7 +72,7 @@ impl<W: Write + Drop> Sink for Output<W> {
 
     ghost failed = { λ output. output.failed };
 
-    // What is noted is what the writer inside was given, where that tells its bytes.
+    // What is noted is what the writer inside was given, where that shows its bytes.
     fn write_part(&mut self, bytes: &[u8]) -> Result<usize, Fault>
         ensures some { IfOk result (λ taken. (0 < taken) × (taken ≤ length bytes.now)) }
         ensures bytes { Takes self.old.taken.bytes self.new.taken.bytes result bytes.now }

@@ -8,7 +8,7 @@ use std::io::{self, Write};
 use std::rt::Clock;
 use std::time::{Duration, Instant};
 
-/// Work that takes less time, in thousandths of a second, is not told.
+/// Work that takes less time, in thousandths of a second, is not reported.
 const LEAST: u64 = 1_000;
 
 /// The time between two lines.
@@ -19,11 +19,12 @@ const LOOKED_AT: usize = 2;
 
 /// How many files were read and written so far, and how many there are, if the call lists them.
 /// Else how often a file was read or written, since one may be read twice. One line on standard
-/// error tells it, which is written over by the next, and cleared before anything else is told.
+/// error reports it, which is written over by the next, and cleared before anything else is
+/// printed.
 #[derive(Drop)]
 pub struct Progress<R: Clock + Eprint + Drop> {
     rt: R,
-    /// When the work began, where its progress is to be told.
+    /// When the work began, where its progress is to be reported.
     start: Option<Instant>,
     read: Cell<u64>,
     written: Cell<u64>,
@@ -85,8 +86,8 @@ impl<R: Clock + Eprint + Drop> Progress<R> {
     }
 }
 
-/// How many of the listed files are told as read or written. Some are read twice, and the journal's
-/// are none of them.
+/// How many of the listed files are reported as read or written. Some are read twice, and the
+/// journal's are none of them.
 fn count_of(calls: u64, listed: usize) -> u64
     ensures { result ≡ min calls listed }
 {

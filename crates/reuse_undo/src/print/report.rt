@@ -1,4 +1,4 @@
-//! What standard error is told of a run.
+//! What is printed on standard error of a run.
 use crate::cli::line::LineFault;
 use crate::print::error_output::ErrorOutput;
 use crate::print::notes::{note_call, note_denial, note_rolled_back, note_words};
@@ -7,8 +7,8 @@ use crate::run::fault::Fault;
 use reuse_session::PathOutcome;
 use std::io;
 
-/// Tells why the words are no line, and what to do about that where notes are asked for; whether it
-/// could be told.
+/// Prints why the words are no line, and what to do about that where notes are asked for; whether
+/// it could be printed.
 pub fn tell_words<R: Print + Eprint + Drop>(
     rt: &R,
     errors: &ErrorOutput<'_, R>,
@@ -22,7 +22,7 @@ pub fn tell_words<R: Print + Eprint + Drop>(
     told.is_ok()
 }
 
-/// Tells why the words are no line: help on standard output, all else on standard error. The texts
+/// Prints why the words are no line: help on standard output, all else on standard error. The texts
 /// of the command line have lines of their own.
 fn tell<R: Print + Eprint + Drop>(
     rt: &R,
@@ -36,8 +36,8 @@ fn tell<R: Print + Eprint + Drop>(
     }
 }
 
-/// Tells the fault of what was carried out, or its denial; that a step was rolled back; and the
-/// notes. Where standard error can't be written either, the status tells.
+/// Prints the fault of what was carried out, or its denial; that a step was rolled back; and the
+/// notes. Where standard error can't be written either, the status reports it.
 pub fn tell_outcome(errors: &impl Eprint, carried_out: &CarriedOut, notes: bool) {
     match &carried_out.ending {
         Ok(Ok(_)) => {}

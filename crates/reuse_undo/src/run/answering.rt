@@ -6,10 +6,9 @@ ghost use Rattle.std.specs.Prelude.{◌≡◌, ◌≤◌};
 ghost use Rattle.reuse_session.specs.session.Answer.{TellsNoFault};
 ghost use Rattle.reuse_session.specs.journal.Journal.{State};
 ghost use Rattle.reuse_session.specs.session.Session.{store_of, StandsOn};
-ghost use Rattle.reuse_session.specs.session.Requests.{ReadsOnlyWithCause};
-ghost use Rattle.reuse_undo.specs.run.Answering.{PreviewsRequest};
+ghost use Rattle.reuse_session.specs.session.Requests.{Previews, ReadsOnlyWithCause};
 
-use crate::cli::line::Telling;
+use crate::cli::line::PrintOptions;
 use crate::disk::DiskStore;
 use crate::print::output::Output;
 use crate::print::progress::{ClearedOutput, Progress};
@@ -17,7 +16,7 @@ use crate::run::denial::Denial;
 use crate::run::fault::Fault;
 use crate::run::line::is_refused;
 use crate::run::on_folder::run_on_folder;
-use reuse_session::{Counts, PathOutcome, PathOutcomes, Refusal, Request, Session};
+use reuse_session::{Call, Counts, PathOutcome, PathOutcomes, Refusal, Request, Session};
 use reuse_tree::{PathText, Store};
 use std::alloc::Global;
 use std::fs::File;
@@ -35,27 +34,41 @@ pub struct Asking<'a, R: Clock + Eprint + Drop> {
     pub rt: &'a R,
     pub progress: &'a Progress<R>,
     pub request: &'a Request,
-    pub telling: Telling,
+    pub options: PrintOptions,
 }
 
-/// Makes the call and prints the answer, unless a file that it would change can't keep its owner.
-/// It answers what the call counted, too.
+/// Answers the request and prints the answer, unless it is a call and a file that it would change
+/// can't keep its owner. It answers what the call counted, too.
 pub fn answer<R: Files<File = File> + AllocGlobal + Clock + Env + Print + Eprint + Clone + Drop>(
     folder: DiskStore<R>,
     alloc: Global,
     asking: &Asking<'_, R>,
 ) -> (DiskStore<R>, CallEnding, Counts) {
-    let mut folder = folder;
-    if changes_tree(asking.request) {
-        folder.watch_owners();
-        folder.remember_files(time_now(asking.rt));
+    match asking.request {
+        Request::Make(call, _) => make(folder, alloc, asking, call),
+        Request::Preview(_) | Request::Log | Request::Show(_) => {
+            let (folder, outcome, counts) = answer_at_once(folder, alloc, asking);
+            (folder, Ok(outcome), counts)
+        }
     }
+}
+
+/// Makes the call that is asked for. If it was held before its first put, it is made once more if
+/// it changes no file that can't keep its owner.
+fn make<R: Files<File = File> + AllocGlobal + Clock + Env + Print + Eprint + Clone + Drop>(
+    mut folder: DiskStore<R>,
+    alloc: Global,
+    asking: &Asking<'_, R>,
+    call: &Call,
+) -> (DiskStore<R>, CallEnding, Counts) {
+    folder.watch_owners();
+    folder.remember_files(time_now(asking.rt));
     let (mut folder, outcome, counts) = answer_at_once(folder, alloc, asking);
     if !folder.release_owners() {
         return (folder, Ok(outcome), counts);
     }
     drop(outcome);
-    let (folder, lost) = first_lost(folder, alloc, asking.request);
+    let (folder, lost) = first_lost(folder, alloc, call);
     match lost {
         Some(path) => (
             folder,
@@ -69,7 +82,7 @@ pub fn answer<R: Files<File = File> + AllocGlobal + Clock + Env + Print + Eprint
     }
 }
 
-/// The time since 1970, if the system's clock tells a later one.
+/// The time since 1970, if the system's clock shows a later one.
 fn time_now(rt: &impl Clock) -> Option<Duration> {
     SystemTime::now(rt).ok()?.duration_since(UNIX_EPOCH).ok()
 }
@@ -90,7 +103,7 @@ fn answer_at_once<
         progress,
         alloc,
         asking.request,
-        asking.telling,
+        asking.options,
         &mut out,
     );
     folder.come_back(asking.rt, alloc);
@@ -98,18 +111,14 @@ fn answer_at_once<
     (folder, outcome, counts)
 }
 
-fn changes_tree(request: &Request) -> bool {
-    matches!(request, Request::Make(_, _))
-}
-
 /// The first path that the call would change and whose file can't keep its owner, if there is one.
-/// If the call would be refused or fail, the call itself tells that.
+/// If the call would be refused or fail, the call itself reports that.
 fn first_lost<R: Files<File = File> + AllocGlobal + Clone + Drop>(
     folder: DiskStore<R>,
     alloc: Global,
-    request: &Request,
+    call: &Call,
 ) -> (DiskStore<R>, Option<PathText>) {
-    let (mut folder, path_outcomes) = preview_request(alloc, folder, request);
+    let (mut folder, path_outcomes) = preview(alloc, folder, call);
     let lost = match path_outcomes {
         Ok(path_outcomes) => lost_among(alloc, &mut folder, path_outcomes.as_slice()),
         Err(_) => None,
@@ -137,15 +146,15 @@ fn lost_among<R: Files<File = File> + AllocGlobal + Clone + Drop>(
 
 /// What a call would do, path by path. Nothing is changed, unless a step is pending, which is
 /// rolled back.
-fn preview_request<S: Store + Drop>(
+fn preview<S: Store + Drop>(
     alloc: Global,
     store: S,
-    request: &Request,
+    call: &Call,
 ) -> (S, Result<PathOutcomes, Refusal>) {
     match Session::open(alloc, store) {
         Ok(opened) => {
             let mut session = opened;
-            let path_outcomes = preview_in(alloc, &mut session, request);
+            let path_outcomes = preview_in(alloc, &mut session, call);
             (session.into_store(), path_outcomes)
         }
         Err((refusal, store)) => (store, Err(refusal)),
@@ -155,14 +164,11 @@ fn preview_request<S: Store + Drop>(
 fn preview_in<S: Store + Drop>(
     alloc: Global,
     session: &mut Session<S>,
-    request: &Request,
+    call: &Call,
 ) -> Result<PathOutcomes, Refusal>
     ensures right { S.honest (store_of session.new) → (held : State) → StandsOn S.files session.old held
-        → TellsNoFault result → PreviewsRequest request.now held result }
+        → TellsNoFault result → Previews call.now held result }
     ensures reads_with_cause { ReadsOnlyWithCause S.Store result session.old session.new }
 {
-    match request {
-        Request::Make(call, _) => session.preview_call(alloc, call),
-        _ => Ok(PathOutcomes::new(Vec::new(alloc))),
-    }
+    session.preview_call(alloc, call)
 }

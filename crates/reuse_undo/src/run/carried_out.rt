@@ -11,7 +11,7 @@ pub struct CarriedOut {
     pub ending: CallEnding,
     /// The step that was rolled back, which a stopped run had begun, and how many files.
     pub rolled_back: Option<(u32, usize)>,
-    /// What notes tell, where they are asked for.
+    /// What notes report, where they are asked for.
     pub diagnostics: Option<Diagnostics>,
 }
 

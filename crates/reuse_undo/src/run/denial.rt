@@ -6,7 +6,7 @@ use reuse_tree::PathText;
 use std::error::Error;
 use std::fmt;
 
-/// Why a call isn't begun; its text is what standard error is told.
+/// Why a call isn't begun; its text is printed on standard error.
 #[derive(Debug, Drop)]
 pub enum Denial {
     /// The journal belongs to another user. Nothing of it was read.

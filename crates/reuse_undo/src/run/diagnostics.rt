@@ -25,9 +25,9 @@ const TABLE: &str = "REUSE.toml";
 /// What each paragraph of the table begins with.
 const TABLE_PARAGRAPH: &str = "[[annotations]]";
 
-/// What a call is to do.
+/// What is asked for, as far as notes depend on it.
 #[derive(Clone, Copy, PartialEq, Eq)]
-pub enum Task {
+pub enum RequestKind {
     /// To make a step.
     Step,
     /// To make the step of a conversion.
@@ -38,7 +38,7 @@ pub enum Task {
     Redo,
     /// To take a step back by a new one.
     Revert,
-    /// To tell what that would do.
+    /// To preview that.
     PreviewRevert,
     /// To roll back what a stopped run left.
     Recover,
@@ -48,16 +48,16 @@ pub enum Task {
     Look,
 }
 
-impl Task {
-    fn of(request: &Request) -> Task {
+impl RequestKind {
+    fn of(request: &Request) -> RequestKind {
         match request {
-            Request::Make(Call::Run(Command::ConvertDep5), _) => Task::Conversion,
-            Request::Make(Call::Run(_), _) => Task::Step,
-            Request::Make(Call::Undo, _) => Task::Undo,
-            Request::Make(Call::Redo, _) => Task::Redo,
-            Request::Make(Call::Revert { .. }, _) => Task::Revert,
-            Request::Preview(Call::Revert { .. }) => Task::PreviewRevert,
-            Request::Preview(_) | Request::Log | Request::Show(_) => Task::Look,
+            Request::Make(Call::Run(Command::ConvertDep5), _) => RequestKind::Conversion,
+            Request::Make(Call::Run(_), _) => RequestKind::Step,
+            Request::Make(Call::Undo, _) => RequestKind::Undo,
+            Request::Make(Call::Redo, _) => RequestKind::Redo,
+            Request::Make(Call::Revert { .. }, _) => RequestKind::Revert,
+            Request::Preview(Call::Revert { .. }) => RequestKind::PreviewRevert,
+            Request::Preview(_) | Request::Log | Request::Show(_) => RequestKind::Look,
         }
     }
 }
@@ -65,7 +65,7 @@ impl Task {
 /// What was found out about a call.
 #[derive(Drop)]
 pub struct Diagnostics {
-    pub task: Task,
+    pub kind: RequestKind,
     /// The root, as it was named.
     root: Option<String>,
     /// The folder of the texts of a download.
@@ -89,7 +89,7 @@ pub struct Diagnostics {
     /// What the call counted.
     pub counts: Counts,
     /// The globs that left nothing out, as they are written.
-    pub idle_globs: Vec<String>,
+    pub idle_globs: Vec<Bytes>,
     /// How many files have names that aren't recognised, where the call was refused for one or
     /// passed them over.
     pub unrecognised: usize,
@@ -109,8 +109,8 @@ impl Diagnostics {
         line: &Line,
         begun: Option<u32>,
     ) -> Diagnostics {
-        let task = Task::of(&line.request);
-        let mut diagnostics = Diagnostics::of(rt, alloc, line.root.as_str(), task, begun);
+        let kind = RequestKind::of(&line.request);
+        let mut diagnostics = Diagnostics::of(rt, alloc, line.root.as_str(), kind, begun);
         diagnostics.texts = match &line.texts {
             Some(folder) => String::from_str(alloc, folder.as_str()).ok(),
             None => None,
@@ -118,16 +118,16 @@ impl Diagnostics {
         diagnostics
     }
 
-    /// The same before a task in this root.
+    /// The same before a request of this kind in this root.
     pub fn of<R: Files + AllocGlobal + Clone + Drop>(
         rt: &R,
         alloc: Global,
         root: &str,
-        task: Task,
+        kind: RequestKind,
         begun: Option<u32>,
     ) -> Diagnostics {
         Diagnostics {
-            task,
+            kind,
             root: String::from_str(alloc, root).ok(),
             texts: None,
             above: journal_above(rt, alloc, root),
@@ -160,7 +160,7 @@ impl Diagnostics {
         outcome: &Result<usize, Fault>,
     ) {
         self.look_at_folder(rt, alloc, &mut folder, outcome);
-        if self.task == Task::Conversion {
+        if self.kind == RequestKind::Conversion {
             self.is_table_empty = is_table_empty(alloc, &mut folder);
         }
         if let Some(scope) = scope_of(request) {
@@ -194,7 +194,7 @@ impl Diagnostics {
         }
     }
 
-    /// Adds what is found after any task.
+    /// Adds what is found after any request.
     pub fn look_at_folder<R: Files<File = File> + AllocGlobal + Clone + Drop>(
         &mut self,
         rt: &R,
@@ -267,7 +267,7 @@ fn idle_globs(
     scope: &Scope,
     unused: &Unused,
     passed: &[String],
-) -> Result<Vec<String>, AllocError> {
+) -> Result<Vec<Bytes>, AllocError> {
     let mut idle = Vec::new(alloc);
     let mut first = None;
     let mut is_second = false;
@@ -279,8 +279,8 @@ fn idle_globs(
                 idle.push(text)?;
             }
         } else {
-            let text = written(alloc, glob)?;
-            is_second = text.starts_with("**/");
+            let text = Bytes::from_vec(glob.written(alloc)?);
+            is_second = text.as_slice().starts_with(b"**/");
             match (is_idle, is_second) {
                 (true, true) => first = Some(text),
                 (true, false) => idle.push(text)?,
@@ -296,14 +296,6 @@ fn matches_one(glob: &Glob, folders: &[String]) -> bool {
     folders
         .iter()
         .any(|folder| glob_matches(glob, folder.as_str()))
-}
-
-/// The text of a glob.
-fn written(alloc: Global, glob: &Glob) -> Result<String, AllocError> {
-    match str::from_utf8(glob.written(alloc)?.as_slice()) {
-        Ok(text) => String::from_str(alloc, text),
-        Err(_) => Ok(String::new(alloc)),
-    }
 }
 
 /// Whether the files that are skipped are those whose names aren't recognised.

@@ -8,16 +8,17 @@ use std::alloc::AllocError;
 use std::error::Error;
 use std::{fmt, io};
 
-/// Why a line was not carried out; its text is what standard error is told, but for that of a call
+/// Why a line was not carried out; its text is printed on standard error, but for that of a call
 /// that was only looked at.
 #[derive(Debug, Drop)]
 pub enum Fault {
     /// The session refused.
     Refused(Refusal),
-    /// A call that was only looked at would be refused: standard error is told each refusal among
+    /// A call that was only looked at would be refused: each refusal is printed among
     /// the path outcomes.
     WouldRefuse(PathOutcomes),
-    /// What would change can't be told as a diff, since a file or the journal can't be read again.
+    /// What would change can't be printed as a diff, since a file or the journal can't be read
+    /// again.
     NoDiff(Refusal),
     /// Another run works on the tree. Nothing was read or written.
     InUse,

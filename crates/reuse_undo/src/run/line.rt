@@ -9,14 +9,14 @@ ghost use Rattle.reuse_undo.specs.run.CarriedOut.{CarriesOut};
 ghost use Rattle.reuse_undo.specs.run.Drawn.{LeadsAsPreviewed, LeadsAsPreviewedAccepted, IsDiffOfCall, IsTreeDiff};
 ghost use Rattle.reuse_session.specs.session.Requests.{HasCallClash, IsAnswered, IsReading};
 ghost use Rattle.reuse_undo.specs.run.RunLine.{IfNoDiff, RequestLeaves};
-ghost use Rattle.reuse_undo.specs.print.Told.{IsAccepted, IsDiffOf, IsDrawnPreview, IsNoDiff};
+ghost use Rattle.reuse_undo.specs.print.Responses.{IsAccepted, IsDiffOf, IsDrawnPreview, IsNoDiff};
 ghost use Rattle.reuse_undo.specs.print.WriterFaults.{IsOfDiff, IsUndrawn};
 
 mod drawn;
 mod planned;
 mod printed;
 
-use crate::cli::line::{OutputFormat, Telling};
+use crate::cli::line::{OutputFormat, PrintOptions};
 use crate::print::output::Sink;
 use crate::run::fault::Fault;
 use drawn::draw;
@@ -28,20 +28,20 @@ use reuse_tree::Store;
 use std::alloc::Global;
 
 /// Opens a session on the store, makes the one call that is asked for, and writes the lines of its
-/// answer. The store is given back, how many paths the answer tells that changed, and what the call
+/// answer. The store is given back, how many paths it reports as changed, and what the call
 /// counted; where it can't be written, what the call changed stands.
 pub fn run_request<S: Store + Drop, O: Sink>(
     alloc: Global,
     request: &Request,
-    telling: Telling,
+    options: PrintOptions,
     store: S,
     out: &mut O,
 ) -> (S, Result<usize, Fault>, Counts)
-    ensures { CarriesOut S.Store O.contents O.failed request.now telling store result.0 out.old out.new result.1 }
+    ensures { CarriesOut S.Store O.contents O.failed request.now options store result.0 out.old out.new result.1 }
 {
-    let (store, answer, diff, counts) = call(alloc, store, request, telling);
+    let (store, answer, diff, counts) = call(alloc, store, request, options);
     match answer {
-        Ok(told) => (store, finish(out, alloc, told, telling, diff), counts),
+        Ok(response) => (store, finish(out, alloc, response, options, diff), counts),
         Err(refusal) => {
             drop(diff);
             (store, Err(Fault::Refused(refusal)), counts)
@@ -55,7 +55,7 @@ fn call<S: Store + Drop>(
     alloc: Global,
     store: S,
     request: &Request,
-    telling: Telling,
+    options: PrintOptions,
 ) -> (S, Answer, Result<Vec<u8>, Fault>, Counts)
     ensures carries { S.honest result.0 → RequestLeaves (S.files store) request.now result.1 (S.files result.0) }
     ensures reads_only { S.honest result.0 → IsReading request.now → (held : State) → IsStanding (S.files store) held
@@ -63,9 +63,9 @@ fn call<S: Store + Drop>(
     ensures fault { IfErr result.1 (HasCause (S.failures store < S.failures result.0)) }
     ensures clash { S.honest result.0 → (held : State) → IsStanding (S.files store) held
         → IfErr result.1 (HasCallClash request.now held (S.files store)) }
-    ensures diff { IfOk result.1 (λ told. IsDiffOf telling told result.2) }
+    ensures diff { IfOk result.1 (λ response. IsDiffOf options response result.2) }
     ensures drawn { S.honest result.0 → (held : State) → IsStanding (S.files store) held
-        → IfOk result.1 (λ told. IsDrawnPreview telling told
+        → IfOk result.1 (λ response. IsDrawnPreview options response
         → IfOk result.2 (λ text. IsDiffOfCall request.now held text.items)) }
     ensures undrawn { IfNoDiff result.2 (IsUndrawn S.Store store result.0) }
     ensures failures { S.failures store ≤ S.failures result.0 }
@@ -74,7 +74,7 @@ fn call<S: Store + Drop>(
     match Session::open(alloc, store) {
         Ok(opened) => {
             let mut session = opened;
-            let (answer, planned) = ask_for(alloc, &mut session, request, telling.format);
+            let (answer, planned) = ask_for(alloc, &mut session, request, options.format);
             let (store, counts) = session.into_parts();
             let (store, diff) = draw_planned(alloc, store, planned);
             (store, answer, diff, counts)

@@ -103,7 +103,7 @@ fn lock_above<R: Files<File = File>>(
 
 /// Takes the lock on the folder at this path; nothing in it is read or written. It is refused where
 /// another run holds a lock that doesn't go with this one, or for an allocation failure, and for no
-/// other reason: what keeps the folder from being opened is told by the store.
+/// other reason: what keeps the folder from being opened is reported by the store.
 pub fn lock_root<R: Files<File = File> + AllocGlobal>(
     rt: &R,
     alloc: Global,

@@ -1,6 +1,6 @@
 //! Carries out what was asked for, on the folder that it names and while no other run works there.
-//! It prints the answer on standard output, and finds out what notes tell.
-use crate::cli::line::{Forgetting, Line, Recovery, Steps, Telling};
+//! It prints the answer on standard output, and finds out what notes report.
+use crate::cli::line::{Forgetting, Line, PrintOptions, Recovery, Steps};
 use crate::cli::settings::Settings;
 use crate::disk::DiskStore;
 use crate::print::output::Output;
@@ -9,7 +9,7 @@ use crate::print::shown_name::Names;
 use crate::run::answering::{Asking, CallEnding, answer};
 use crate::run::carried_out::{CarriedOut, rolled_back_step};
 use crate::run::denial::Denial;
-use crate::run::diagnostics::{Diagnostics, Task, begun_step};
+use crate::run::diagnostics::{Diagnostics, RequestKind, begun_step};
 use crate::run::fault::Fault;
 use crate::run::lock::{RootLock, lock_root};
 use crate::run::on_folder::{forget_on_folder, recover_on_folder};
@@ -21,8 +21,8 @@ use std::fs::File;
 use std::io;
 use std::rt::{Clock, Env, Files};
 
-/// What is told beside the reply or the fault, how names are shown on standard output, and how a
-/// call works with the folder.
+/// What is reported beside the answer or the fault, how names are shown on standard output, and how
+/// a call works with the folder.
 #[derive(Clone, Copy)]
 pub struct Extras {
     pub notes: bool,
@@ -117,7 +117,7 @@ fn work_with<R: Files<File = File> + AllocGlobal + Clock + Env + Print + Eprint 
     }
     let begun = begun_step(alloc, &mut folder);
     let mut diagnostics = found_before(rt, alloc, &line, begun, extras.notes);
-    let telling = Telling {
+    let options = PrintOptions {
         format: line.format,
         names: extras.names,
     };
@@ -126,7 +126,7 @@ fn work_with<R: Files<File = File> + AllocGlobal + Clock + Env + Print + Eprint 
         rt,
         progress: &progress,
         request: &request,
-        telling,
+        options,
     };
     let (folder, ending, counts) = answer(folder, alloc, &asking);
     if let Some(diagnostics) = &mut diagnostics {
@@ -188,20 +188,16 @@ fn found_after<R: Files<File = File> + AllocGlobal + Clone + Drop>(
     }
 }
 
-/// Sets the pending step of a folder back.
+/// Rolls the pending step of a folder back.
 pub fn recover_folder<R: Files<File = File> + AllocGlobal + Clock + Print + Eprint + Clone + Drop>(
     rt: &R,
     alloc: Global,
     recovery: Recovery,
     extras: Extras,
 ) -> CarriedOut {
-    let carried_out = match opened_at(rt, alloc, recovery.root.as_str(), extras) {
-        Ok(Ok(folder)) => recover_opened(rt, alloc, folder, &recovery, extras),
-        Ok(Err(fault)) => CarriedOut::fault(fault),
-        Err(denial) => CarriedOut::denied(denial),
-    };
-    drop(recovery);
-    carried_out
+    let Recovery { root, skip_moved } = recovery;
+    let work = JournalWork::Recover { skip_moved };
+    work_on_journal(rt, alloc, root.as_str(), work, extras)
 }
 
 /// Takes steps out of the history of a folder.
@@ -211,13 +207,42 @@ pub fn forget_folder<R: Files<File = File> + AllocGlobal + Clock + Print + Eprin
     forgetting: Forgetting,
     extras: Extras,
 ) -> CarriedOut {
-    let carried_out = match opened_at(rt, alloc, forgetting.root.as_str(), extras) {
-        Ok(Ok(folder)) => forget_opened(rt, alloc, folder, &forgetting, extras),
+    let Forgetting { root, steps } = forgetting;
+    let work = JournalWork::Forget(&steps);
+    work_on_journal(rt, alloc, root.as_str(), work, extras)
+}
+
+/// What is done to the journal of a folder by no request of a session.
+#[derive(Clone, Copy)]
+enum JournalWork<'a> {
+    /// What a stopped run left is rolled back. The paths that can't be may be left.
+    Recover { skip_moved: bool },
+    /// These steps are taken out of the history.
+    Forget(&'a Steps),
+}
+
+impl JournalWork<'_> {
+    fn kind(self) -> RequestKind {
+        match self {
+            JournalWork::Recover { .. } => RequestKind::Recover,
+            JournalWork::Forget(_) => RequestKind::Forget,
+        }
+    }
+}
+
+/// Does that to the journal of the folder at this path.
+fn work_on_journal<R: Files<File = File> + AllocGlobal + Clock + Print + Eprint + Clone + Drop>(
+    rt: &R,
+    alloc: Global,
+    root: &str,
+    work: JournalWork<'_>,
+    extras: Extras,
+) -> CarriedOut {
+    match opened_at(rt, alloc, root, extras) {
+        Ok(Ok(folder)) => work_opened(rt, alloc, folder, root, work, extras),
         Ok(Err(fault)) => CarriedOut::fault(fault),
         Err(denial) => CarriedOut::denied(denial),
-    };
-    drop(forgetting);
-    carried_out
+    }
 }
 
 /// The folder at this path, locked, whose journal may be opened.
@@ -249,46 +274,31 @@ fn locked_at<R: Files<File = File> + AllocGlobal + Clone + Drop>(
     Ok(folder_at(rt, lock, settings)?)
 }
 
-fn recover_opened<R: Files<File = File> + AllocGlobal + Clock + Print + Eprint + Clone + Drop>(
+fn work_opened<R: Files<File = File> + AllocGlobal + Clock + Print + Eprint + Clone + Drop>(
     rt: &R,
     alloc: Global,
     mut folder: DiskStore<R>,
-    recovery: &Recovery,
+    root: &str,
+    work: JournalWork<'_>,
     extras: Extras,
 ) -> CarriedOut {
-    // Which files were rolled back, its lines tell; so the step is told of with the other notes
+    // A recovery prints which files were rolled back. So its step is noted with the other notes
     // alone.
-    let begun = if extras.notes {
-        begun_step(alloc, &mut folder)
-    } else {
-        None
+    let begun = match work {
+        JournalWork::Recover { .. } if !extras.notes => None,
+        _ => begun_step(alloc, &mut folder),
     };
-    let root = recovery.root.as_str();
-    let diagnostics = found_of(rt, alloc, root, Task::Recover, begun, extras.notes);
-    let (folder, outcome) = recover_aloud(rt, alloc, folder, recovery, extras);
-    run_line_on(rt, alloc, folder, begun, diagnostics, outcome)
+    let diagnostics = found_of(rt, alloc, root, work.kind(), begun, extras.notes);
+    let (folder, outcome) = work_aloud(rt, alloc, folder, work, extras);
+    came_of(rt, alloc, folder, begun, diagnostics, outcome)
 }
 
-fn forget_opened<R: Files<File = File> + AllocGlobal + Clock + Print + Eprint + Clone + Drop>(
-    rt: &R,
-    alloc: Global,
-    mut folder: DiskStore<R>,
-    forgetting: &Forgetting,
-    extras: Extras,
-) -> CarriedOut {
-    let begun = begun_step(alloc, &mut folder);
-    let root = forgetting.root.as_str();
-    let diagnostics = found_of(rt, alloc, root, Task::Forget, begun, extras.notes);
-    let (folder, outcome) = forget_aloud(rt, alloc, folder, &forgetting.steps, extras);
-    run_line_on(rt, alloc, folder, begun, diagnostics, outcome)
-}
-
-/// Rolls the pending step back, and prints what became of it.
-fn recover_aloud<R: Files<File = File> + AllocGlobal + Clock + Print + Eprint + Clone + Drop>(
+/// Does it, and prints what became of it.
+fn work_aloud<R: Files<File = File> + AllocGlobal + Clock + Print + Eprint + Clone + Drop>(
     rt: &R,
     alloc: Global,
     folder: DiskStore<R>,
-    recovery: &Recovery,
+    work: JournalWork<'_>,
     extras: Extras,
 ) -> (DiskStore<R>, Result<usize, Fault>) {
     let progress = match rt.clone() {
@@ -296,32 +306,17 @@ fn recover_aloud<R: Files<File = File> + AllocGlobal + Clock + Print + Eprint + 
         Err(error) => return (folder, Err(Fault::from(error))),
     };
     let mut out = Output::new(ClearedOutput::new(&progress, io::writer(rt)));
-    let answered = recover_on_folder(
-        folder,
-        &progress,
-        alloc,
-        recovery.skip_moved,
-        extras.names,
-        &mut out,
-    );
-    progress.clear();
-    answered
-}
-
-/// Takes the steps out of the history, and prints which.
-fn forget_aloud<R: Files<File = File> + AllocGlobal + Clock + Print + Eprint + Clone + Drop>(
-    rt: &R,
-    alloc: Global,
-    folder: DiskStore<R>,
-    steps: &Steps,
-    extras: Extras,
-) -> (DiskStore<R>, Result<usize, Fault>) {
-    let progress = match rt.clone() {
-        Ok(rt) => Progress::new(rt, extras.progress),
-        Err(error) => return (folder, Err(Fault::from(error))),
+    let answered = match work {
+        JournalWork::Recover { skip_moved } => recover_on_folder(
+            folder,
+            &progress,
+            alloc,
+            skip_moved,
+            extras.names,
+            &mut out,
+        ),
+        JournalWork::Forget(steps) => forget_on_folder(folder, &progress, alloc, steps, &mut out),
     };
-    let mut out = Output::new(ClearedOutput::new(&progress, io::writer(rt)));
-    let answered = forget_on_folder(folder, &progress, alloc, steps, &mut out);
     progress.clear();
     answered
 }
@@ -330,19 +325,19 @@ fn found_of<R: Files + AllocGlobal + Clone + Drop>(
     rt: &R,
     alloc: Global,
     root: &str,
-    task: Task,
+    kind: RequestKind,
     begun: Option<u32>,
     notes: bool,
 ) -> Option<Diagnostics> {
     if notes {
-        Some(Diagnostics::of(rt, alloc, root, task, begun))
+        Some(Diagnostics::of(rt, alloc, root, kind, begun))
     } else {
         None
     }
 }
 
 /// What came of it, with what is found in the folder afterwards.
-fn run_line_on<R: Files<File = File> + AllocGlobal + Clone + Drop>(
+fn came_of<R: Files<File = File> + AllocGlobal + Clone + Drop>(
     rt: &R,
     alloc: Global,
     mut folder: DiskStore<R>,

@@ -3,7 +3,7 @@ ghost use Rattle.reuse_undo.specs.run.CarriedOut.{CarriesOut};
 ghost use Rattle.reuse_undo.specs.run.Forgotten.{ForgetsOn};
 ghost use Rattle.reuse_undo.specs.run.Recoveries.{RecoversOn};
 
-use crate::cli::line::{Steps, Telling};
+use crate::cli::line::{PrintOptions, Steps};
 use crate::disk::DiskStore;
 use crate::print::output::Sink;
 use crate::print::progress::Progress;
@@ -19,21 +19,21 @@ use std::fs::File;
 use std::rt::{Clock, Files};
 
 /// Opens a session on the folder, makes the one call that is asked for, and writes the lines of its
-/// answer; how many paths that tells, and what the call counted. The folder is given back as a
+/// answer; how many paths that reports, and what the call counted. The folder is given back as a
 /// store, with what is known of its last failure.
 pub fn run_on_folder<R: Files<File = File> + AllocGlobal + Clock + Eprint + Clone + Drop, O: Sink>(
     folder: DiskStore<R>,
     progress: &Progress<R>,
     alloc: Global,
     request: &Request,
-    telling: Telling,
+    options: PrintOptions,
     out: &mut O,
 ) -> (DiskStore<R>, Result<usize, Fault>, Counts)
     // As on any store, for whatever files the folder holds.
-    ensures { CarriesOut ⟦<DiskStore<R> as Store>⟧ O.contents O.failed request.now telling folder result.0 out.old out.new result.1 }
+    ensures { CarriesOut ⟦<DiskStore<R> as Store>⟧ O.contents O.failed request.now options folder result.0 out.old out.new result.1 }
 {
     let watched = WatchedStore::new(folder, progress);
-    let (watched, outcome, counts) = run_request(alloc, request, telling, watched, out);
+    let (watched, outcome, counts) = run_request(alloc, request, options, watched, out);
     (watched.into_inner(), outcome, counts)
 }
 

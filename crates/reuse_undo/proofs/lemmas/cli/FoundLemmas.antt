@@ -42,17 +42,17 @@ pub one_number : (E : Type 0) (gives : List ℕ → Result ℕ E → Type 0) →
     ((text : List ℕ) (r : Result ℕ E) → gives text r → ParsesUnsigned 32 10 text r)
     → (found : Found) (name : List ℕ) (read : Option ℕ) → (one_text found name ≡ None → read ≡ None) →
     ((text : List ℕ) → one_text found name ≡ Some text → ReadsOne gives text read)
-    → unwrap_or read 0 ≡ number (rows_of found) name
+    → read ≡ number (rows_of found) name
 unfolding number
-one_number E gives sound found name read none some = go (one_text found name) refl ∙ ap
-    (λ o. unwrap_or (option_and_then number_of o) 0) (one_text-rows found name)
+one_number E gives sound found name read none some =
+    go (one_text found name) refl ∙ ap (option_and_then number_of) (one_text-rows found name)
   where
-    of_text : (text : List ℕ) (r : Option ℕ) → ReadsOne gives text r → unwrap_or r 0 ≡ unwrap_or (number_of text) 0
-    of_text text (Some n) h = ap (λ o. unwrap_or o 0) (number_ok text n (sound text (Ok n) h))
-    of_text text None h = ap (λ o. unwrap_or o 0) (number_err text (sound text (Err h.0) h.1))
+    of_text : (text : List ℕ) (r : Option ℕ) → ReadsOne gives text r → r ≡ number_of text
+    of_text text (Some n) h = number_ok text n (sound text (Ok n) h)
+    of_text text None h = number_err text (sound text (Err h.0) h.1)
 
-    go : (o : Option (List ℕ)) → one_text found name ≡ o → unwrap_or read 0 ≡ unwrap_or (option_and_then number_of o) 0
-    go None e = ap (λ o. unwrap_or o 0) (none e)
+    go : (o : Option (List ℕ)) → one_text found name ≡ o → read ≡ option_and_then number_of o
+    go None e = none e
     go (Some text) e = of_text text read (some text e)
 
 -- a flag that `get_one` reads

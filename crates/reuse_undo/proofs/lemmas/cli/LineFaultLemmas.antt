@@ -27,11 +27,6 @@ pub due_after : {A B : Type 0} (seen : A → B) (due : Result B Mistake) (answer
 due_after seen due (Err e) fault is h = subst (λ f. IfSome (mistake_of f) (λ mistake. due ≡ Err mistake)) (sym is) h
 due_after seen due (Ok a) fault is h = absurd is
 
--- an allocation failure, which may take the place of any answer
-pub due_memory : {A B : Type 0} (seen : A → B) (due : Result B Mistake) (answer : Result A LineFault)
-    → IsErrAnd answer (λ e. e ≡ faults.Memory) → IsDueAs seen due answer
-due_memory seen due answer is = due_after seen due answer faults.Memory is tt
-
 -- a refusal as a fault
 pub refused_mistake : {A : Type 0} (due : Result A Mistake) (e : NoticeRefusal) → IfSome (refusal_view e)
     (λ refusal. due ≡ Err (bad_additions refusal))

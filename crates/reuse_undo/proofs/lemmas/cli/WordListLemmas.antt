@@ -24,13 +24,6 @@ next_word words i d h =
     ap (λ l. texts_in l) (drop-cons words i d h) ∙ ap (λ n. (get_or words i d).now ∷ texts_in (drop n words)) next
 
 module _ {A : Type 0} where
-  behind_none : (due : Result (List A) Mistake) → due ≡ then_read due (λ others. Ok ([] ++ others))
-  behind_none (Ok list) = refl
-  behind_none (Err mistake) = refl
-
-  pub HasRead-start : (read : List ℕ → Result (List A) Mistake) (words : List (Bor (List ℕ))) → HasRead read words 0 []
-  HasRead-start read words = record { due = behind_none (all_read read (texts_in words)) }
-
   behind : (due : Result (List A) Mistake) (made more : List A)
       → then_read (then_read due (λ others. Ok (more ++ others))) (λ others. Ok (made ++ others)) ≡ then_read due
       (λ others. Ok ((made ++ more) ++ others))

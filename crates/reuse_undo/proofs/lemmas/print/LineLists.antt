@@ -28,9 +28,6 @@ pub record AreSoFar (text : List ℕ) (lines : List (List ℕ)) (rest : List ℕ
   pub each : AreLines lines
   pub ended : rest ≢ [] → AllEnded lines
 
-pub so_far-none : (text : List ℕ) → AreSoFar text [] text
-so_far-none text = record { whole = refl; each = tt; ended = λ _. tt }
-
 joined-push : (lines : List (List ℕ)) (line rest : List ℕ) → joined (lines ++ line ∷ []) ++ rest ≡ joined lines ++ (line ++ rest)
 joined-push lines line rest = ap (λ xs. xs ++ rest) (sym (flat_map_more (λ l. l) [] lines line)) ∙ append_assoc (joined lines) line rest
 
@@ -42,10 +39,6 @@ so_far-more text lines rest line next far some parts is = record {
   each = lines-append lines (line ∷ []) (far.ended some) (elim is [ inl e ↦ inl e | inr u ↦ inr u.1 ]);
   ended = λ left. elim is [ inl e ↦ all_ended-push lines line (far.ended some) e | inr u ↦ absurd (left u.0) ];
 }
-
--- all of them
-pub so_far-all : (text : List ℕ) (lines : List (List ℕ)) → AreSoFar text lines [] → AreLinesOf text lines
-so_far-all text lines far = record { whole = sym (append-nil (joined lines)) ∙ far.whole; each = far.each }
 
 -- a line more as it is lent
 pub texts_of-push : (lines : List (Bor (List ℕ))) (line : Bor (List ℕ)) → texts_of (lines ++ line ∷ []) ≡ texts_of lines ++ line.now ∷ []

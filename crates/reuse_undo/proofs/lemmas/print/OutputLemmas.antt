@@ -8,26 +8,12 @@ use Rattle.reuse_undo.specs.print.Outputs.{Adds, AddsFront}
 abbrev pub Written : List ℕ → List ℕ → (text rest : List ℕ) → Type 0
 Written old new text rest = (front : List ℕ) × (text ≡ front ++ rest) × Adds old new front
 
--- nothing is written
-pub none_written : (taken text : List ℕ) → Written taken taken text text
-none_written taken text = ([], refl, sym (append-nil taken))
-
 pub more_written : (old mid new text rest : List ℕ) (n : ℕ) → Written old mid text rest → Adds mid new (take n rest) → Written old new text (drop n rest)
 more_written old mid new text rest n so more = (
   so.0 ++ take n rest,
   so.1 ∙ ap (λ l. so.0 ++ l) (sym (take-append-drop n rest)) ∙ sym (append_assoc so.0 (take n rest) (drop n rest)),
   more ∙ ap (λ l. l ++ take n rest) so.2 ∙ append_assoc old so.0 (take n rest),
 )
-
-pub all_written : (old new text rest : List ℕ) → Written old new text rest → length rest ≡ 0 → Adds old new text
-all_written old new text rest so none = so.2 ∙ ap (λ l. old ++ l) (sym (so.1 ∙ ap (λ l. so.0 ++ l) (no_bytes rest none) ∙ append-nil so.0))
-  where
-    no_bytes : (xs : List ℕ) → length xs ≡ 0 → xs ≡ []
-    no_bytes [] e = refl
-    no_bytes (x ∷ xs) e = absurd (omega (arith, e))
-
-pub front_written : (old new text rest : List ℕ) → Written old new text rest → AddsFront old new text
-front_written old new text rest so = (so.0, rest, so.1, so.2)
 
 -- all that is behind the part that was taken
 pub whole_rest : (n : ℕ) (rest : List ℕ) → take (length rest - n) (drop n rest) ≡ drop n rest

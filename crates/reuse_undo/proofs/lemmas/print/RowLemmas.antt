@@ -7,9 +7,9 @@ use Rattle.reuse_session.specs.declared.reply.Shown.{Shown}
 use Rattle.reuse_undo.specs.declared.cli.line.OutputFormat.TheVariants.{Diff}
 use Rattle.reuse_undo.specs.declared.print.shown_name.Names.{Names}
 use Rattle.reuse_session.specs.declared.reply.Response.{Response}
-use Rattle.reuse_undo.specs.print.Lines.{change_lines, IsReplyText, IsShownText}
+use Rattle.reuse_undo.specs.print.Lines.{change_lines, IsResponseText, IsShownText}
 use Rattle.reuse_undo.specs.print.RowLines.{AreJoined, AppendsSome, IsRowLine}
-use Rattle.reuse_undo.specs.print.Told.{IsDiffBehind, IsTextIn, HasBehind}
+use Rattle.reuse_undo.specs.print.Responses.{IsDiffBehind, IsTextIn, HasBehind}
 
 AreJoined-push : {A : Type 0} (IsText : A → List ℕ → Type 0) (xs : List A) (x : A) (text line : List ℕ) → AreJoined IsText xs text → IsText x line
     → AreJoined IsText (xs ++ x ∷ []) (text ++ line)
@@ -42,10 +42,10 @@ AppendsSome-shown names shown old mid new row rest =
     (row.0 ++ change_lines names shown.changes, ((row.0, row.1.0, refl), Appends-trans old mid new row.0 (change_lines names shown.changes) row.1.1 rest))
 
 -- the lines of an answer, and a diff behind them
-pub AppendsSome-behind : (names : Names) (told : Response) (diff : List ℕ) (old mid new : Option (List ℕ)) → AppendsSome old mid (IsReplyText names told) → Appends mid new diff
-    → AppendsSome old new (HasBehind names told diff)
-AppendsSome-behind names told diff old mid new lines rest = (lines.0 ++ diff, ((lines.0, lines.1.0, refl), Appends-trans old mid new lines.0 diff lines.1.1 rest))
+pub AppendsSome-behind : (names : Names) (response : Response) (diff : List ℕ) (old mid new : Option (List ℕ)) → AppendsSome old mid (IsResponseText names response) → Appends mid new diff
+    → AppendsSome old new (HasBehind names response diff)
+AppendsSome-behind names response diff old mid new lines rest = (lines.0 ++ diff, ((lines.0, lines.1.0, refl), Appends-trans old mid new lines.0 diff lines.1.1 rest))
 
-pub AppendsSome-diff : (names : Names) (told : Response) (diff : List ℕ) (old mid new : Option (List ℕ)) → IsDiffBehind told diff → AppendsSome old mid (IsReplyText names told) → Appends mid new diff
-    → AppendsSome old new (IsTextIn Diff names told)
-AppendsSome-diff names told diff old mid new may lines rest = (lines.0 ++ diff, ((lines.0, diff, lines.1.0, may, refl), Appends-trans old mid new lines.0 diff lines.1.1 rest))
+pub AppendsSome-diff : (names : Names) (response : Response) (diff : List ℕ) (old mid new : Option (List ℕ)) → IsDiffBehind response diff → AppendsSome old mid (IsResponseText names response) → Appends mid new diff
+    → AppendsSome old new (IsTextIn Diff names response)
+AppendsSome-diff names response diff old mid new may lines rest = (lines.0 ++ diff, ((lines.0, diff, lines.1.0, may, refl), Appends-trans old mid new lines.0 diff lines.1.1 rest))

@@ -17,10 +17,10 @@ use Rattle.reuse_session.proofs.lemmas.session.Driving.{stays_closed}
 use Rattle.reuse_session.proofs.lemmas.session.Modelling.{gives_to, stopped_near}
 use Rattle.reuse_undo.specs.run.AfterStops.{EndsRequest, AnswersAfterStop}
 use Rattle.reuse_undo.specs.run.LinesInTurn.{AreInTurn, CarriedLine, HoldsSame, RunAsModel}
-use Rattle.reuse_undo.specs.run.RunLine.{AnswersOn, IsMade, IsUnopened, RequestLeaves, TellsAnswer}
+use Rattle.reuse_undo.specs.run.RunLine.{AnswersOn, IsMade, IsUnopened, RequestLeaves, ReportsAnswer}
 use Rattle.reuse_undo.specs.declared.run.fault.Fault.{Fault}
 use Rattle.reuse_undo.specs.declared.run.fault.Fault.TheVariants as faults
-use Rattle.reuse_undo.specs.declared.cli.line.Telling.{Telling}
+use Rattle.reuse_undo.specs.declared.cli.line.PrintOptions.{PrintOptions}
 
 -- ---- a request to a session that opened at a state
 
@@ -67,16 +67,16 @@ answers_after_stop before request answer after start left carries =
     let m = met r.2.0 r.0 r.2.1 on.0 after on.1 request answer on.2 in
     (m.0, inr (r.0, r.1, m.1), m.2)) carries
 
--- what is told of an answer that leads to some end is told of that end
-pub told_of_end : {X : Type 0} (telling : Telling) (IsAnswer : X → Result Response Refusal → Type 0) (Ends : X → Type 0) (old new : List ℕ) (result : Result ℕ Fault)
-    → TellsAnswer telling (λ answer. (end : X) × IsAnswer end answer × Ends end) old new result → (end : X) × TellsAnswer telling (IsAnswer end) old new result × Ends end
-told_of_end telling IsAnswer Ends old new (Ok count) told = (told.1.0, (told.0, told.1.1, told.2, told.3, told.4), told.1.2)
-told_of_end telling IsAnswer Ends old new (Err (faults.Refused refusal)) told = (told.0.0, (told.0.1, told.1), told.0.2)
-told_of_end telling IsAnswer Ends old new (Err (faults.WouldRefuse path_outcomes)) told = (told.0.0, (told.0.1, told.1, told.2), told.0.2)
-told_of_end telling IsAnswer Ends old new (Err (faults.NoDiff refusal)) told = let is = told.0.1 in (is.0, ((told.0.0, is.1, told.0.2), told.1), is.2)
-told_of_end telling IsAnswer Ends old new (Err faults.InUse) told = absurd told
-told_of_end telling IsAnswer Ends old new (Err faults.Write) told = (told.1.0, (told.0, told.1.1, told.2, told.3, told.4), told.1.2)
-told_of_end telling IsAnswer Ends old new (Err faults.Memory) told = let is = told.0.1 in (is.0, ((told.0.0, is.1), told.1), is.2)
+-- what is reported of an answer that leads to some end is reported of that end
+pub reports_end : {X : Type 0} (options : PrintOptions) (IsAnswer : X → Result Response Refusal → Type 0) (Ends : X → Type 0) (old new : List ℕ) (result : Result ℕ Fault)
+    → ReportsAnswer options (λ answer. (end : X) × IsAnswer end answer × Ends end) old new result → (end : X) × ReportsAnswer options (IsAnswer end) old new result × Ends end
+reports_end options IsAnswer Ends old new (Ok count) told = (told.1.0, (told.0, told.1.1, told.2, told.3, told.4), told.1.2)
+reports_end options IsAnswer Ends old new (Err (faults.Refused refusal)) told = (told.0.0, (told.0.1, told.1), told.0.2)
+reports_end options IsAnswer Ends old new (Err (faults.WouldRefuse path_outcomes)) told = (told.0.0, (told.0.1, told.1, told.2), told.0.2)
+reports_end options IsAnswer Ends old new (Err (faults.NoDiff refusal)) told = let is = told.0.1 in (is.0, ((told.0.0, is.1, told.0.2), told.1), is.2)
+reports_end options IsAnswer Ends old new (Err faults.InUse) told = absurd told
+reports_end options IsAnswer Ends old new (Err faults.Write) told = (told.1.0, (told.0, told.1.1, told.2, told.3, told.4), told.1.2)
+reports_end options IsAnswer Ends old new (Err faults.Memory) told = let is = told.0.1 in (is.0, ((told.0.0, is.1), told.1), is.2)
 
 -- ---- lines one after the other
 

@@ -9,11 +9,11 @@ use Rattle.reuse_session.specs.session.Stops.{HoldState, AreLeft}
 use Rattle.reuse_session.specs.declared.reply.Refusal.{Refusal}
 use Rattle.reuse_undo.specs.run.CarriedOut.{CarriesOut}
 use Rattle.reuse_session.specs.session.Requests.{HasCallClash}
-use Rattle.reuse_undo.specs.run.RunLine.{RequestLeaves, FollowsModel, TellsAnswer, IfRefused, IfNoDiff}
+use Rattle.reuse_undo.specs.run.RunLine.{RequestLeaves, FollowsModel, ReportsAnswer, IfRefused, IfNoDiff}
 use Rattle.reuse_undo.specs.print.WriterFaults.{IsUndrawn}
 use Rattle.reuse_undo.specs.declared.run.fault.Fault.{Fault}
 use Rattle.reuse_undo.specs.declared.run.fault.Fault.TheVariants as faults
-use Rattle.reuse_undo.specs.declared.cli.line.Telling.{Telling}
+use Rattle.reuse_undo.specs.declared.cli.line.PrintOptions.{PrintOptions}
 use Rattle.reuse_session.specs.declared.request.Request.{Request}
 
 -- the one holds what the other holds, a loss of power leaves the same, and they count and are honest alike
@@ -57,17 +57,17 @@ no_diff_as P Q Same (Err fault) also is = tt
 rose_inside : {T : Type 0} (result : Result T Fault) (a b c d : ℕ) → a ≡ c → b ≡ d → IfRefused result (HasCause (a < b)) → IfRefused result (HasCause (c < d))
 rose_inside result a b c d old new told = subst (λ n. IfRefused result (HasCause (c < n))) new (subst (λ n. IfRefused result (HasCause (n < b))) old told)
 
-same_inside : {W S O : Type 0} (outer : Ghosts W) (inner : Ghosts S) (contents : O → List ℕ) (has_failed : O → Bool) (request : Request) (telling : Telling)
+same_inside : {W S O : Type 0} (outer : Ghosts W) (inner : Ghosts S) (contents : O → List ℕ) (has_failed : O → Bool) (request : Request) (options : PrintOptions)
     (before after : W) (old new : S) (out left : O) (result : Result ℕ Fault) → IsSameStore outer inner before old → IsSameStore outer inner after new
-    → CarriesOut outer contents has_failed request telling before after out left result → CarriesOut inner contents has_failed request telling old new out left result
-same_inside outer inner contents has_failed request telling before after old new out left result b a carried =
+    → CarriesOut outer contents has_failed request options before after out left result → CarriesOut inner contents has_failed request options old new out left result
+same_inside outer inner contents has_failed request options before after old new out left result b a carried =
     record {
       exact = λ honest.
-          subst (λ f. TellsAnswer telling (λ answer. RequestLeaves f request answer (inner.files new)) (contents out) (contents left) result) b.files
-          (subst (λ f. TellsAnswer telling (λ answer. RequestLeaves (outer.files before) request answer f) (contents out) (contents left) result) a.files
+          subst (λ f. ReportsAnswer options (λ answer. RequestLeaves f request answer (inner.files new)) (contents out) (contents left) result) b.files
+          (subst (λ f. ReportsAnswer options (λ answer. RequestLeaves (outer.files before) request answer f) (contents out) (contents left) result) a.files
           (carried.exact (a.gives honest)));
       machine = λ honest state held.
-          subst (λ f. TellsAnswer telling (λ answer. FollowsModel state request answer f) (contents out) (contents left) result) a.files
+          subst (λ f. ReportsAnswer options (λ answer. FollowsModel state request answer f) (contents out) (contents left) result) a.files
           (carried.machine (a.gives honest) state (subst (λ f. HoldState f state) (sym b.files) held));
       after_stop = λ honest start found.
           let at = carried.after_stop (a.gives honest) start (subst (λ f. AreLeft f start.state start.next) (sym b.files) found) in
@@ -86,10 +86,10 @@ same_inside outer inner contents has_failed request telling before after old new
     }
 
 -- where each whole store is as the one inside it
-pub carried_inside : {W S O : Type 0} (outer : Ghosts W) (inner : Ghosts S) (contents : O → List ℕ) (has_failed : O → Bool) (request : Request) (telling : Telling)
-    (before after : W) (old new : S) (out left : O) (result : Result ℕ Fault) → CarriesOut outer contents has_failed request telling before after out left result
+pub carried_inside : {W S O : Type 0} (outer : Ghosts W) (inner : Ghosts S) (contents : O → List ℕ) (has_failed : O → Bool) (request : Request) (options : PrintOptions)
+    (before after : W) (old new : S) (out left : O) (result : Result ℕ Fault) → CarriesOut outer contents has_failed request options before after out left result
     → (inside : W → S) → ((whole : W) → IsSameStore outer inner whole (inside whole)) → inside before ≡ old → inside after ≡ new
-    → CarriesOut inner contents has_failed request telling old new out left result
-carried_inside outer inner contents has_failed request telling before after old new out left result carried inside same was is =
-    same_inside outer inner contents has_failed request telling before after old new out left result (subst (IsSameStore outer inner before) was (same before))
+    → CarriesOut inner contents has_failed request options old new out left result
+carried_inside outer inner contents has_failed request options before after old new out left result carried inside same was is =
+    same_inside outer inner contents has_failed request options before after old new out left result (subst (IsSameStore outer inner before) was (same before))
     (subst (IsSameStore outer inner after) is (same after)) carried

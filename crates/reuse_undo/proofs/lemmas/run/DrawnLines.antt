@@ -3,17 +3,17 @@ use Rattle.std.proofs.Common.{◌≡◌, inl, inr, ℕ, List, Result, Ok, Err, I
 use Rattle.std.specs.declared.vec.Vec.{Vec}
 use Rattle.reuse_tree.specs.Files.{Files}
 use Rattle.reuse_session.specs.journal.Journal.{State}
-use Rattle.reuse_session.specs.session.Requests.{IsReading, Meets, replied}
+use Rattle.reuse_session.specs.session.Requests.{IsReading, Meets, as_answer}
 use Rattle.reuse_session.specs.declared.path_outcome.PathOutcome.{PathOutcome}
 use Rattle.reuse_session.specs.declared.reply.Refusal.{Refusal}
-use Rattle.reuse_session.specs.declared.reply.Response.TheVariants as replies
+use Rattle.reuse_session.specs.declared.reply.Response.TheVariants as responses
 use Rattle.reuse_undo.specs.run.Drawn.{IsDiffOfCall, IsDrawnText, IsTreeDiff, WouldLeave}
 use Rattle.reuse_undo.specs.print.Outputs.{AddsSome}
 use Rattle.reuse_undo.specs.run.RunLine.{RequestLeaves}
-use Rattle.reuse_undo.specs.print.Told.{Finishes, HasBehind, IsDrawnPreview, IsWanted, WouldBeMade}
+use Rattle.reuse_undo.specs.print.Responses.{Finishes, HasBehind, IsDrawnPreview, IsWanted, WouldBeMade}
 use Rattle.reuse_undo.specs.declared.run.fault.Fault.{Fault}
 use Rattle.reuse_undo.specs.declared.cli.line.OutputFormat.TheVariants.{Diff}
-use Rattle.reuse_undo.specs.declared.cli.line.Telling.{Telling}
+use Rattle.reuse_undo.specs.declared.cli.line.PrintOptions.{PrintOptions}
 use Rattle.reuse_session.specs.declared.request.Request.{Request}
 use Rattle.reuse_session.specs.declared.request.Request.TheVariants as requests
 use Rattle.reuse_session.specs.declared.reply.Response.{Response}
@@ -41,45 +41,45 @@ pub told_diff : {A : Type 0} (request : Request) (held : State) (tree : Files) (
 told_diff request held tree (Ok text) would all = all tree would
 told_diff request held tree (Err fault) would all = tt
 
-pub drawn_where_wanted : {A : Type 0} (telling : Telling) (request : Request) (held : State) (answer : Result Response Refusal) (diff : Result (Vec ℕ A) Fault)
-    → (IsWanted telling answer → IsReading request → IfOk diff (λ text. IsDiffOfCall request held text.items))
-    → IfOk answer (λ told. IsDrawnPreview telling told → IfOk diff (λ text. IsDiffOfCall request held text.items))
-drawn_where_wanted telling request held (Err refusal) diff drawn = tt
-drawn_where_wanted telling request held (Ok told) diff drawn =
+pub drawn_where_wanted : {A : Type 0} (options : PrintOptions) (request : Request) (held : State) (answer : Result Response Refusal) (diff : Result (Vec ℕ A) Fault)
+    → (IsWanted options answer → IsReading request → IfOk diff (λ text. IsDiffOfCall request held text.items))
+    → IfOk answer (λ response. IsDrawnPreview options response → IfOk diff (λ text. IsDiffOfCall request held text.items))
+drawn_where_wanted options request held (Err refusal) diff drawn = tt
+drawn_where_wanted options request held (Ok response) diff drawn =
     λ wanted. diff_of_call request held diff (λ after would. told_diff request held after diff would (drawn wanted (would_look request held after would)))
 
 -- ---- what a dry run tells
 
 -- a reply, as an answer
 abbrev answered : Response → Result Response Refusal
-answered told = Ok told
+answered response = Ok response
 
-told_path_outcomes : (told : Response) (path_outcomes : Result (List PathOutcome) Refusal) → answered told ≡ replied replies.Preview path_outcomes → (f : List PathOutcome) × (told ≡ replies.Preview f)
-told_path_outcomes told (Ok path_outcomes) is = (path_outcomes, cc)
-told_path_outcomes told (Err refusal) is = absurd (cc)
+told_path_outcomes : (response : Response) (path_outcomes : Result (List PathOutcome) Refusal) → answered response ≡ as_answer responses.Preview path_outcomes → (f : List PathOutcome) × (response ≡ responses.Preview f)
+told_path_outcomes response (Ok path_outcomes) is = (path_outcomes, cc)
+told_path_outcomes response (Err refusal) is = absurd (cc)
 
-meets_tells : (request : Request) (held found : State) (tree after : Files) (told : Response) → WouldLeave request held tree → Meets request found (Ok told) after
-    → (path_outcomes : List PathOutcome) × (told ≡ replies.Preview path_outcomes)
-meets_tells (requests.Preview call) held found tree after told would meets = told_path_outcomes told meets.1.0 meets.1.1
-meets_tells request held found tree after told would meets = absurd would
+meets_tells : (request : Request) (held found : State) (tree after : Files) (response : Response) → WouldLeave request held tree → Meets request found (Ok response) after
+    → (path_outcomes : List PathOutcome) × (response ≡ responses.Preview path_outcomes)
+meets_tells (requests.Preview call) held found tree after response would meets = told_path_outcomes response meets.1.0 meets.1.1
+meets_tells request held found tree after response would meets = absurd would
 
 -- the dry run of a call that would leave a tree tells path outcomes
-pub previews_tell : (request : Request) (held : State) (tree before after : Files) (told : Response) → WouldLeave request held tree → RequestLeaves before request (Ok told) after
-    → (path_outcomes : List PathOutcome) × (told ≡ replies.Preview path_outcomes)
-previews_tell request held tree before after told would (inl unopened) = let e = unopened.1 in absurd (cc)
-previews_tell request held tree before after told would (inr made) = meets_tells request held (made.made).0 tree after told would (made.made).3
+pub previews_tell : (request : Request) (held : State) (tree before after : Files) (response : Response) → WouldLeave request held tree → RequestLeaves before request (Ok response) after
+    → (path_outcomes : List PathOutcome) × (response ≡ responses.Preview path_outcomes)
+previews_tell request held tree before after response would (inl unopened) = let e = unopened.1 in absurd (cc)
+previews_tell request held tree before after response would (inr made) = meets_tells request held (made.made).0 tree after response would (made.made).3
 
 -- ---- lines and diff
 
-pub drawn_in_lines : {A : Type 0} (telling : Telling) (before after : Files) (told : Response) (path_outcomes : List PathOutcome) (old new : List ℕ) (outcome : Result ℕ Fault) (diff : Result (Vec ℕ A) Fault)
-    → told ≡ replies.Preview path_outcomes → telling.format ≡ Diff → Finishes telling told old new outcome
-    → (IsDrawnPreview telling told → IfOk outcome (λ count. IsOkAnd diff (λ text. AddsSome old new (HasBehind telling.names told text.items))))
-    → (IsDrawnPreview telling told → IfOk diff (λ text. IsTreeDiff before after text.items)) → IfOk outcome (λ count. AddsSome old new (IsDrawnText telling.names before after))
-drawn_in_lines telling before after told path_outcomes old new (Err fault) diff is wants finishes behind drawn = tt
-drawn_in_lines telling before after told path_outcomes old new (Ok count) (Err fault) is wants finishes behind drawn =
+pub drawn_in_lines : {A : Type 0} (options : PrintOptions) (before after : Files) (response : Response) (path_outcomes : List PathOutcome) (old new : List ℕ) (outcome : Result ℕ Fault) (diff : Result (Vec ℕ A) Fault)
+    → response ≡ responses.Preview path_outcomes → options.format ≡ Diff → Finishes options response old new outcome
+    → (IsDrawnPreview options response → IfOk outcome (λ count. IsOkAnd diff (λ text. AddsSome old new (HasBehind options.names response text.items))))
+    → (IsDrawnPreview options response → IfOk diff (λ text. IsTreeDiff before after text.items)) → IfOk outcome (λ count. AddsSome old new (IsDrawnText options.names before after))
+drawn_in_lines options before after response path_outcomes old new (Err fault) diff is wants finishes behind drawn = tt
+drawn_in_lines options before after response path_outcomes old new (Ok count) (Err fault) is wants finishes behind drawn =
     absurd (behind (wants, path_outcomes, is, subst WouldBeMade is (finishes.1).1))
-drawn_in_lines telling before after told path_outcomes old new (Ok count) (Ok diff) is wants finishes behind drawn =
-    let planned : IsDrawnPreview telling told = (wants, path_outcomes, is, subst WouldBeMade is (finishes.1).1) in
+drawn_in_lines options before after response path_outcomes old new (Ok count) (Ok diff) is wants finishes behind drawn =
+    let planned : IsDrawnPreview options response = (wants, path_outcomes, is, subst WouldBeMade is (finishes.1).1) in
     let adds = behind planned in
-    let has = subst (λ (answer : Response). HasBehind telling.names answer diff.items adds.0) is adds.1.0 in
-    (adds.0, (record { path_outcomes = path_outcomes; lines = has.0; diff = diff.items; told = has.1; drawn = drawn planned; whole = has.2 }, adds.1.1))
+    let has = subst (λ (answer : Response). HasBehind options.names answer diff.items adds.0) is adds.1.0 in
+    (adds.0, (record { path_outcomes = path_outcomes; lines = has.0; diff = diff.items; printed = has.1; drawn = drawn planned; whole = has.2 }, adds.1.1))

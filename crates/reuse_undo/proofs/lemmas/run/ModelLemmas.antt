@@ -1,4 +1,4 @@
--- What comes of a session's one call from a state of the model, and what is told of it.
+-- What comes of a session's one call from a state of the model, and what is reported of it.
 use Rattle.std.proofs.Common.{◌≡◌, ◌⊎◌, inl, inr, ⊎_elim, ℕ, List, Result, Ok, Err, refl, sym, subst}
 use Rattle.reuse_tree.specs.Files.{Files}
 use Rattle.reuse_session.specs.session.Answer.{IsFailure}
@@ -17,10 +17,10 @@ use Rattle.reuse_session.proofs.lemmas.session.Driving.{stays_closed}
 use Rattle.reuse_session.proofs.lemmas.session.Modelling.{gives_to, stopped_near}
 use Rattle.reuse_undo.specs.declared.run.fault.Fault.{Fault}
 use Rattle.reuse_undo.specs.declared.run.fault.Fault.TheVariants as faults
-use Rattle.reuse_undo.specs.declared.cli.line.Telling.{Telling}
+use Rattle.reuse_undo.specs.declared.cli.line.PrintOptions.{PrintOptions}
 use Rattle.reuse_undo.specs.print.Outputs.{AddsSome}
-use Rattle.reuse_undo.specs.run.RunLine.{AnswersOn, IsUnopened, IsMade, RequestLeaves, FollowsModel, TellsAnswer, IfRefused}
-use Rattle.reuse_undo.specs.print.Told.{IsToldText, Finishes}
+use Rattle.reuse_undo.specs.run.RunLine.{AnswersOn, IsUnopened, IsMade, RequestLeaves, FollowsModel, ReportsAnswer, IfRefused}
+use Rattle.reuse_undo.specs.print.Responses.{IsPrintedText, Finishes}
 
 -- ---- from a state of the model
 
@@ -64,29 +64,29 @@ carries_step state before request answer after held carries =
 pub carries_as : (before after : Files) (request : Request) (answer same : Result Response Refusal) → RequestLeaves before request answer after → answer ≡ same → RequestLeaves before request same after
 carries_as before after request answer same carries is = subst (λ (a : Result Response Refusal). RequestLeaves before request a after) is carries
 
--- ---- what is told
+-- ---- what is reported
 
 -- of an answer that is printed
-pub told_of : (telling : Telling) (IsAnswer : Result Response Refusal → Type 0) (told : Response) (old new : List ℕ) (result : Result ℕ Fault) → IsAnswer (Ok told)
-    → Finishes telling told old new result → TellsAnswer telling IsAnswer old new result
-told_of telling IsAnswer told old new (Ok count) is finished = (told, is, finished.1.1, finished.0, finished.1.0)
-told_of telling IsAnswer told old new (Err (faults.WouldRefuse path_outcomes)) is finished = (
+pub reports_of : (options : PrintOptions) (IsAnswer : Result Response Refusal → Type 0) (response : Response) (old new : List ℕ) (result : Result ℕ Fault) → IsAnswer (Ok response)
+    → Finishes options response old new result → ReportsAnswer options IsAnswer old new result
+reports_of options IsAnswer response old new (Ok count) is finished = (response, is, finished.1.1, finished.0, finished.1.0)
+reports_of options IsAnswer response old new (Err (faults.WouldRefuse path_outcomes)) is finished = (
   subst (λ t. IsAnswer (Ok t)) finished.1.0 is,
   finished.1.1,
-  subst (λ t. AddsSome old new (IsToldText telling t)) finished.1.0 finished.0,
+  subst (λ t. AddsSome old new (IsPrintedText options t)) finished.1.0 finished.0,
 )
-told_of telling IsAnswer told old new (Err (faults.NoDiff refusal)) is finished = ((told, is, finished.0), finished.1)
-told_of telling IsAnswer told old new (Err faults.Write) is finished = (told, is, finished.0, finished.1, finished.2)
-told_of telling IsAnswer told old new (Err faults.Memory) is finished = ((told, is), finished)
-told_of telling IsAnswer told old new (Err (faults.Refused refusal)) is finished = absurd finished.1
-told_of telling IsAnswer told old new (Err faults.InUse) is finished = absurd finished.1
+reports_of options IsAnswer response old new (Err (faults.NoDiff refusal)) is finished = ((response, is, finished.0), finished.1)
+reports_of options IsAnswer response old new (Err faults.Write) is finished = (response, is, finished.0, finished.1, finished.2)
+reports_of options IsAnswer response old new (Err faults.Memory) is finished = ((response, is), finished)
+reports_of options IsAnswer response old new (Err (faults.Refused refusal)) is finished = absurd finished.1
+reports_of options IsAnswer response old new (Err faults.InUse) is finished = absurd finished.1
 
 -- what is printed is no refusal
-pub no_refusal : (telling : Telling) (told : Response) (old new : List ℕ) (result : Result ℕ Fault) (Claim : Refusal → Type 0) → Finishes telling told old new result → IfRefused result Claim
-no_refusal telling told old new (Ok count) Claim finished = tt
-no_refusal telling told old new (Err (faults.WouldRefuse path_outcomes)) Claim finished = tt
-no_refusal telling told old new (Err (faults.NoDiff refusal)) Claim finished = tt
-no_refusal telling told old new (Err faults.Write) Claim finished = tt
-no_refusal telling told old new (Err faults.Memory) Claim finished = tt
-no_refusal telling told old new (Err (faults.Refused refusal)) Claim finished = absurd finished.1
-no_refusal telling told old new (Err faults.InUse) Claim finished = absurd finished.1
+pub no_refusal : (options : PrintOptions) (response : Response) (old new : List ℕ) (result : Result ℕ Fault) (Claim : Refusal → Type 0) → Finishes options response old new result → IfRefused result Claim
+no_refusal options response old new (Ok count) Claim finished = tt
+no_refusal options response old new (Err (faults.WouldRefuse path_outcomes)) Claim finished = tt
+no_refusal options response old new (Err (faults.NoDiff refusal)) Claim finished = tt
+no_refusal options response old new (Err faults.Write) Claim finished = tt
+no_refusal options response old new (Err faults.Memory) Claim finished = tt
+no_refusal options response old new (Err (faults.Refused refusal)) Claim finished = absurd finished.1
+no_refusal options response old new (Err faults.InUse) Claim finished = absurd finished.1

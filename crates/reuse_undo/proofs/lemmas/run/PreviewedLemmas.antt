@@ -21,14 +21,14 @@ use Rattle.reuse_session.specs.declared.path_outcome.Previewed.{Previewed}
 use Rattle.reuse_session.specs.declared.reply.Refusal.{Refusal}
 use Rattle.reuse_session.specs.declared.reply.Refusal.TheVariants.{Broken}
 use Rattle.reuse_session.specs.declared.reply.Response.{Response}
-use Rattle.reuse_session.specs.declared.reply.Response.TheVariants as replies
+use Rattle.reuse_session.specs.declared.reply.Response.TheVariants as responses
 use Rattle.reuse_session.specs.declared.session.Session.{Session}
 use Rattle.reuse_session.proofs.lemmas.session.Answering.{answered_look, fails_early, preview_fails}
 use Rattle.reuse_session.proofs.lemmas.session.Peeking.{refused, same_refusal, reads_with_cause_err, reads_with_cause_ok}
 use Rattle.reuse_session.proofs.lemmas.session.Previewing.{alone_where, told_alone}
 use Rattle.reuse_undo.specs.run.Drawn.{planned_in, planned_unless, LeadsAsPreviewed, IsAnsweredWith, WouldLeave}
-use Rattle.reuse_session.specs.session.Requests.{IsAnswered, ReadsOnlyWithCause, Previews, replied}
-use Rattle.reuse_undo.specs.print.Told.{is_refused, IsAccepted}
+use Rattle.reuse_session.specs.session.Requests.{IsAnswered, ReadsOnlyWithCause, Previews, as_answer}
+use Rattle.reuse_undo.specs.print.Responses.{is_refused, IsAccepted}
 use Rattle.reuse_session.specs.declared.request.Request.{Request}
 use Rattle.reuse_session.specs.declared.request.Request.TheVariants as requests
 use Rattle.reuse_undo.specs.declared.run.line.planned.PlannedChanges.{PlannedChanges}
@@ -41,14 +41,14 @@ alone_reads_with_cause store (Ok previewed) old new reads_with_cause = reads_wit
 alone_reads_with_cause store (Err refusal) old new reads_with_cause = reads_with_cause_err store refusal old new reads_with_cause
 
 -- a look whose path outcomes are told alone
-module _ {S : Type 0} (store : Ghosts S) (answer : Result Previewed Refusal) (told : Result Response Refusal) (old new : Session S) (is : told ≡ replied replies.Preview (path_outcomes_alone answer))
+module _ {S : Type 0} (store : Ghosts S) (answer : Result Previewed Refusal) (told : Result Response Refusal) (old new : Session S) (is : told ≡ as_answer responses.Preview (path_outcomes_alone answer))
     (reads_with_cause : ReadsOnlyWithCause store answer old new) (broken : answer ≡ Err Broken ↔ (is_broken old ≡ true)) where
   pub call_answered : (call : Call) → (store.honest (store_of new) → (held : State) → StandsOn store.files old held → TellsNoFault answer → Previews call held (path_outcomes_alone answer))
       → IsAnswered store (requests.Preview call) told old new
   call_answered call right =
       let alone = alone_reads_with_cause store answer old new reads_with_cause in
       subst (λ a. IsAnswered store (requests.Preview call) a old new) (sym is)
-      (answered_look store (requests.Preview call) tt replies.Preview (path_outcomes_alone answer) old new alone (alone_where answer (path_outcomes_alone answer) refl Broken (is_broken old ≡ true) broken)
+      (answered_look store (requests.Preview call) tt responses.Preview (path_outcomes_alone answer) old new alone (alone_where answer (path_outcomes_alone answer) refl Broken (is_broken old ≡ true) broken)
       (fails_early (requests.Preview call) (preview_fails call) (path_outcomes_alone answer) alone.unstopped)
       (λ honest held stands t. (path_outcomes_alone answer, refl, right honest held stands (told_alone answer (path_outcomes_alone answer) refl t), refl)))
 
@@ -63,19 +63,19 @@ broken_same {A} first refusal is broken =
 -- ---- what would change
 
 -- it is there only where none of the path outcomes is a refusal
-accepted_in : (direction : Direction) (answer : Result Previewed Refusal) → IfSome (planned_in direction answer) (λ planned. IsAccepted (replied replies.Preview (path_outcomes_alone answer)))
+accepted_in : (direction : Direction) (answer : Result Previewed Refusal) → IfSome (planned_in direction answer) (λ planned. IsAccepted (as_answer responses.Preview (path_outcomes_alone answer)))
 accepted_in direction (Err refusal) = tt
 accepted_in direction (Ok previewed) = by_refusal (is_refused previewed.path_outcomes) refl
   where
-    by_refusal : (b : Bool) → is_refused previewed.path_outcomes ≡ b → IfSome (planned_unless b previewed.changes direction) (λ planned. IsAccepted (replied replies.Preview (path_outcomes_alone (Ok previewed))))
+    by_refusal : (b : Bool) → is_refused previewed.path_outcomes ≡ b → IfSome (planned_unless b previewed.changes direction) (λ planned. IsAccepted (as_answer responses.Preview (path_outcomes_alone (Ok previewed))))
     by_refusal true is = tt
     by_refusal false is = (previewed.path_outcomes, refl, is)
 
-same_path_outcomes : (one other : List PathOutcome) → replies.Preview one ≡ replies.Preview other → one ≡ other
+same_path_outcomes : (one other : List PathOutcome) → responses.Preview one ≡ responses.Preview other → one ≡ other
 same_path_outcomes one other is = cc
 
 -- and there it is
-accepted_some : (direction : Direction) (answer : Result Previewed Refusal) (IsThat : PlannedChanges → Type 0) → IsAccepted (replied replies.Preview (path_outcomes_alone answer))
+accepted_some : (direction : Direction) (answer : Result Previewed Refusal) (IsThat : PlannedChanges → Type 0) → IsAccepted (as_answer responses.Preview (path_outcomes_alone answer))
     → IfOk answer (λ previewed. is_refused previewed.path_outcomes ≡ false → IsThat (going direction previewed.changes)) → IsSomeAnd (planned_in direction answer) IsThat
 accepted_some direction (Err refusal) IsThat accepted all = absurd accepted
 accepted_some direction (Ok previewed) IsThat accepted all = by_refusal (is_refused previewed.path_outcomes) refl
@@ -94,7 +94,7 @@ none_first (path_outcome.Skipped path ∷ path_outcomes) none = none_first path_
 -- a run's changes lead to the tree of the command's outcome
 pub run_previews : (command : Command) (held : State) (answer : Result Previewed Refusal) (after : Files)
     → IfOk answer (λ previewed. first_refusal previewed.path_outcomes ≡ None → IsPlan (outcome_of command held.tree) held.tree previewed.changes) → outcome_of command held.tree ≡ Ok after
-    → IsAccepted (replied replies.Preview (path_outcomes_alone answer)) → IsSomeAnd (planned_in go.Forward answer) (λ planned. LeadsAsPreviewed planned held.tree after)
+    → IsAccepted (as_answer responses.Preview (path_outcomes_alone answer)) → IsSomeAnd (planned_in go.Forward answer) (λ planned. LeadsAsPreviewed planned held.tree after)
 run_previews command held answer after plan left accepted = accepted_some go.Forward answer (λ planned. LeadsAsPreviewed planned held.tree after) accepted (planned answer plan)
   where
     planned : (answer : Result Previewed Refusal) → IfOk answer (λ previewed. first_refusal previewed.path_outcomes ≡ None → IsPlan (outcome_of command held.tree) held.tree previewed.changes)
@@ -105,7 +105,7 @@ run_previews command held answer after plan left accepted = accepted_some go.For
 -- a step's changes lead to the tree that an undo or a redo leaves
 pub step_previews : (direction : Direction) (held : State) (answer : Result Previewed Refusal) (reply : Response) (new : State) (after : Files) → Replays direction (ahead direction held.journal) held (Ok reply) new
     → new.tree ≡ after → IfOk answer (λ previewed. changes_ahead (ahead direction held.journal) ≡ Some previewed.changes) → IfOk answer (λ previewed. IsEntry previewed.changes)
-    → IsAccepted (replied replies.Preview (path_outcomes_alone answer)) → IsSomeAnd (planned_in direction answer) (λ planned. LeadsAsPreviewed planned held.tree after)
+    → IsAccepted (as_answer responses.Preview (path_outcomes_alone answer)) → IsSomeAnd (planned_in direction answer) (λ planned. LeadsAsPreviewed planned held.tree after)
 step_previews direction held answer reply new after replays is next entry accepted = accepted_some direction answer (λ planned. LeadsAsPreviewed planned held.tree after) accepted (leads answer next entry)
   where
     leads : (answer : Result Previewed Refusal) → IfOk answer (λ previewed. changes_ahead (ahead direction held.journal) ≡ Some previewed.changes) → IfOk answer (λ previewed. IsEntry previewed.changes)
@@ -117,8 +117,8 @@ step_previews direction held answer reply new after replays is next entry accept
 -- ---- both
 
 pub answered_with : {S : Type 0} (store : Ghosts S) (request : Request) (direction : Direction) (answer : Result Previewed Refusal) (told : Result Response Refusal) (planned : Option PlannedChanges) (old new : Session S)
-    → told ≡ replied replies.Preview (path_outcomes_alone answer) → planned ≡ planned_in direction answer → IsAnswered store request told old new
-    → (store.honest (store_of new) → (held : State) → StandsOn store.files old held → (after : Files) → WouldLeave request held after → IsAccepted (replied replies.Preview (path_outcomes_alone answer))
+    → told ≡ as_answer responses.Preview (path_outcomes_alone answer) → planned ≡ planned_in direction answer → IsAnswered store request told old new
+    → (store.honest (store_of new) → (held : State) → StandsOn store.files old held → (after : Files) → WouldLeave request held after → IsAccepted (as_answer responses.Preview (path_outcomes_alone answer))
     → IsSomeAnd (planned_in direction answer) (λ planned. LeadsAsPreviewed planned held.tree after)) → IsAnsweredWith store request told planned old new
 answered_with store request direction answer told planned old new is was answered previews = record {
   answered = answered;

@@ -23,14 +23,14 @@ use Rattle.reuse_session.specs.journal.JournalFiles.{entry_in, entry_path}
 use Rattle.reuse_session.specs.plan.Outcome.{outcome_of}
 use Rattle.reuse_session.specs.plan.Plan.{IsPlan}
 use Rattle.reuse_session.specs.session.RevertCalls.{touched_later, GivesRevert, Reverts}
-use Rattle.reuse_session.specs.session.Requests.{Makes, replied}
+use Rattle.reuse_session.specs.session.Requests.{Makes, as_answer}
 use Rattle.reuse_session.specs.session.Session.{store_of, Runs, StandsOn}
 use Rattle.reuse_session.specs.declared.request.Call.TheVariants as calls
 use Rattle.reuse_session.specs.declared.command.Command.{Command}
 use Rattle.reuse_session.specs.declared.command.Command.TheVariants.{Revert}
 use Rattle.reuse_session.specs.declared.reply.Refusal.{Refusal}
 use Rattle.reuse_session.specs.declared.reply.Response.{Response}
-use Rattle.reuse_session.specs.declared.reply.Response.TheVariants as replies
+use Rattle.reuse_session.specs.declared.reply.Response.TheVariants as responses
 use Rattle.reuse_session.specs.declared.reply.Response.TheVariants.{Changed, NothingChanged}
 use Rattle.reuse_session.specs.declared.reply.Reverted.{Reverted}
 use Rattle.reuse_session.specs.declared.session.Session.{Session}
@@ -162,6 +162,6 @@ pub reverts_to : {S : Type 0} (files : S → Files) (session : Session S) (held 
     → GivesRevert number skip_moved held (Ok command) → (when : ℕ) (reply : Response) (new : State) → Makes (calls.Revert number skip_moved) when held (Ok reply) new → outcome_of command held.tree ≡ Ok new.tree
 reverts_to files session held stands number skip_moved command back when reply new (reverted, is, reverts) = by_reverted reverted is reverts
   where
-    by_reverted : (reverted : Result Reverted Refusal) → answered reply ≡ replied replies.Reverted reverted → Reverts number skip_moved when held reverted new → outcome_of command held.tree ≡ Ok new.tree
+    by_reverted : (reverted : Result Reverted Refusal) → answered reply ≡ as_answer responses.Reverted reverted → Reverts number skip_moved when held reverted new → outcome_of command held.tree ≡ Ok new.tree
     by_reverted (Ok done) is reverts = reverted_to files session held stands number skip_moved command back when done new reverts
     by_reverted (Err refusal) is reverts = absurd (cc)

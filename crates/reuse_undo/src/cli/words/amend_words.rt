@@ -60,7 +60,7 @@ impl Part {
         Ok(())
     }
 
-    // OLD and NEW by turns. The command line gives pairs.
+    // OLD and NEW by turns.
     fn replace_all(
         self,
         alloc: Global,
@@ -100,9 +100,9 @@ impl Part {
     }
 }
 
-/// What the words are to change. The first fault is told: that it is nothing; licences, holders and
-/// contributors come in this order, of each the replacements first; then the year, the prefix and
-/// the holder.
+/// What the words are to change. The first fault is reported: that it is nothing; licences, holders
+/// and contributors come in this order, of each the replacements first; then the year, the prefix
+/// and the holder.
 pub fn read_amendments(alloc: Global, matches: &ArgMatches<'_>) -> Result<Amendments, LineFault>
     ensures { IsDue (amendments_read (found_in matches.now)) result }
 {
@@ -197,7 +197,7 @@ fn set_holder(
     Ok(amendments.set_holder(alloc, holder)?)
 }
 
-/// The prefix of this name. The command line takes no other names.
+/// The prefix of this name.
 pub fn prefix_in(alloc: Global, name: &str) -> Result<Prefix, LineFault>
     ensures { IsDue (prefix_read name.now) result }
 {

@@ -2,14 +2,14 @@
 ghost use Rattle.std.specs.Prelude.{◌≡◌, IfOk, map, string_bytes};
 ghost use Rattle.std.specs.Option.{option_map};
 ghost use Rattle.clap.specs.Simple.{subcommand_rows_of};
-ghost use Rattle.reuse_undo.specs.cli.FileWords.{files_from_of, globs_of, globs_read, ids_of, number_read, place_read, places_read, root_of, steps_read, style_read, texts_folder_read};
+ghost use Rattle.reuse_undo.specs.cli.FileWords.{files_from_of, globs_of, globs_read, ids_of, number_read, place_read, places_read, root_of, step_read, steps_read, style_read, texts_folder_read};
 ghost use Rattle.reuse_undo.specs.cli.Found.{found_in};
 ghost use Rattle.reuse_undo.specs.cli.LineFaults.{IsDue, IsDueAs, all_read, each_read};
 
 use crate::cli::glob_word::globs_of_word;
 use crate::cli::line::{LineFault, Steps};
 use crate::cli::place_word::place_of_word;
-use crate::cli::words::found::{flag, number_of, subcommand, value, values};
+use crate::cli::words::found::{flag, number, number_of, subcommand, value, values};
 use crate::cli::words::unread_words::{or_unread, unread};
 use clap::ArgMatches;
 use reuse_dep5::Glob;
@@ -94,7 +94,7 @@ fn read_glob(alloc: Global, word: &str) -> Result<Vec<Glob>, LineFault>
     }
 }
 
-/// The style of all files, where one is named. The command line takes no other names.
+/// The style of all files, where one is named.
 pub fn read_style(alloc: Global, matches: &ArgMatches<'_>) -> Result<Option<Style>, LineFault>
     ensures { IsDue (style_read (found_in matches.now)) result }
 {
@@ -105,7 +105,7 @@ pub fn read_style(alloc: Global, matches: &ArgMatches<'_>) -> Result<Option<Styl
     Ok(Some(style))
 }
 
-/// The folder of the licence texts. The command line takes no download without it.
+/// The folder of the licence texts.
 pub fn read_texts(alloc: Global, matches: &ArgMatches<'_>) -> Result<String, LineFault>
     ensures { IsDueAs string_bytes (texts_folder_read (found_in matches.now)) result }
 {
@@ -132,7 +132,14 @@ fn ids_in(alloc: Global, words: &[&str]) -> Result<Vec<Bytes>, AllocError>
     Ok(ids)
 }
 
-/// The steps to be forgotten. The command line gives numbers that fit.
+/// The number of a step.
+pub fn read_step(alloc: Global, matches: &ArgMatches<'_>) -> Result<u32, LineFault>
+    ensures { IsDue (step_read (found_in matches.now)) result }
+{
+    or_unread(alloc, number(matches, "NUMBER"), "no number of a step")
+}
+
+/// The steps to be forgotten.
 pub fn read_steps(alloc: Global, matches: &ArgMatches<'_>) -> Result<Steps, LineFault>
     ensures { IsDue (steps_read (found_in matches.now)) result }
 {

@@ -44,11 +44,11 @@ pub fn number_of(text: &str) -> Option<u32>
     }
 }
 
-/// The number of an argument, or 0 where it has none.
-pub fn number(matches: &ArgMatches<'_>, name: &str) -> u32
+/// The number of an argument, if it has one.
+pub fn number(matches: &ArgMatches<'_>, name: &str) -> Option<u32>
     ensures { result ≡ number (found_in matches.now) name.now }
 {
-    matches.get_one(name).unwrap_or(0)
+    matches.get_one(name)
 }
 
 /// The subcommand, and what was found behind it.

@@ -1,12 +1,16 @@
-//! Words that the command line takes and nothing here reads. clap refuses them before, so that
-//! none come; each is answered by a fault.
+//! Words that clap refuses before anything here reads them: a subcommand, a style or a prefix of
+//! another name, a subcommand without what it requires, or one text of two.
+//!
+//! So none come, but no contract says so: those of clap speak of the values that it found only for
+//! a command line without global options, and this one has five. So such words are answered by a
+//! fault, all in this one way.
 ghost use Rattle.std.specs.Prelude.{◌≡◌, IfOk, Some};
 ghost use Rattle.reuse_undo.specs.cli.LineFaults.{IsDue, mistake_of, or_mistake, unread};
 
 use crate::cli::line::LineFault;
 use std::alloc::{AllocError, Global};
 
-/// The fault that tells so.
+/// The fault of such words.
 pub fn unread(alloc: Global, text: &str) -> Result<LineFault, AllocError>
     ensures { IfOk result (λ fault. mistake_of fault ≡ Some (unread text.now)) }
 {

@@ -115,7 +115,7 @@ fn draw_range<S: Store>(
 }
 
 // The same, of a file that was read. Where the range isn't within it, it isn't as it was looked at,
-// and nothing is told.
+// and nothing is printed.
 fn draw_within<'a>(
     text: &mut Vec<u8>,
     alloc: Global,

@@ -1,9 +1,9 @@
-//! Dry runs that are answered with what would change, of which a diff is drawn. What they tell and
+//! Dry runs that are answered with what would change, of which a diff is drawn. Their answers and
 //! what would change are of one plan.
 ghost use Rattle.std.specs.Prelude.{◌≡◌};
 ghost use Rattle.reuse_session.specs.session.Previews.{path_outcomes_alone};
 ghost use Rattle.reuse_undo.specs.run.Drawn.{planned_in, planned_unless, IsAnsweredWith};
-ghost use Rattle.reuse_session.specs.session.Requests.{replied};
+ghost use Rattle.reuse_session.specs.session.Requests.{as_answer};
 
 use super::printed::is_refused;
 use reuse_session::{Answer, Call, Changes, Previewed, Refusal, Request, Response, Session};
@@ -41,9 +41,9 @@ fn call_with_changes<S: Store + Drop>(
     ensures { IsAnsweredWith S.Store (Request.Preview call.now) result.0 result.1 session.old session.new }
 {
     match call {
-        Call::Run(command) => told_with(session.preview_changes(alloc, command), Forward),
-        Call::Undo => told_with(session.preview_step(alloc, Backward), Backward),
-        Call::Redo => told_with(session.preview_step(alloc, Forward), Forward),
+        Call::Run(command) => answer_with_changes(session.preview_changes(alloc, command), Forward),
+        Call::Undo => answer_with_changes(session.preview_step(alloc, Backward), Backward),
+        Call::Redo => answer_with_changes(session.preview_step(alloc, Forward), Forward),
         Call::Revert { number, skip_moved } => {
             revert_with_changes(alloc, session, *number, *skip_moved)
         }
@@ -63,18 +63,18 @@ fn revert_with_changes<S: Store + Drop>(
         Ok(command) => {
             let previewed = session.preview_changes(alloc, &command);
             drop(command);
-            told_with(previewed, Forward)
+            answer_with_changes(previewed, Forward)
         }
         Err(refusal) => (Err(refusal), None),
     }
 }
 
-// What is told of a preview, and what would change where none of the path outcomes is a refusal.
-fn told_with(
+// The answer of a preview, and what would change where none of the path outcomes is a refusal.
+fn answer_with_changes(
     answer: Result<Previewed, Refusal>,
     direction: Direction,
 ) -> (Answer, Option<PlannedChanges>)
-    ensures told { result.0 ≡ replied Response.Preview (path_outcomes_alone answer) }
+    ensures answer { result.0 ≡ as_answer Response.Preview (path_outcomes_alone answer) }
     ensures planned { result.1 ≡ planned_in direction answer }
 {
     match answer {

@@ -1,15 +1,15 @@
-//! What is told of an answer.
+//! What is printed of a response.
 ghost use Rattle.std.specs.Prelude.{◌≡◌, Err, IfOk, IfErr, IsOkAnd, OnOk};
 ghost use Rattle.reuse_undo.specs.print.DiffText.{AreRecords};
 ghost use Rattle.reuse_undo.specs.print.Outputs.{AddsSome};
 ghost use Rattle.reuse_undo.specs.print.RowLines.{AppendsSome};
 ghost use Rattle.reuse_undo.specs.run.RunLine.{IfNoDiff};
-ghost use Rattle.reuse_undo.specs.print.Told.{Accepts, Finishes, HasBehind, is_refusal, is_refused, IsBehind, IsDiffBehind, IsDiffOf, IsDrawnPreview, IsTextIn, IsToldText, TellsFailure};
+ghost use Rattle.reuse_undo.specs.print.Responses.{Accepts, Finishes, HasBehind, is_refusal, is_refused, IsBehind, IsDiffBehind, IsDiffOf, IsDrawnPreview, IsTextIn, IsPrintedText, ReportsFailure};
 ghost use Rattle.reuse_undo.specs.declared.run.fault.Fault.TheVariants as faults;
 
-use crate::cli::line::{OutputFormat, Telling};
+use crate::cli::line::{OutputFormat, PrintOptions};
 use crate::print::diff::print_record;
-use crate::print::lines::{path_count, print_reply};
+use crate::print::lines::{path_count, print_response};
 use crate::print::objects::{print_path_outcome_objects, print_row_objects, print_shown_object};
 use crate::print::output::{Sink, write_text};
 use crate::print::shown_name::Names;
@@ -19,78 +19,86 @@ use reuse_tree::Change;
 use std::alloc::Global;
 use std::io::{self, Write};
 
-/// Prints an answer, and behind it the diff where one is wanted; how many paths it tells that
+/// Prints a response, and behind it the diff where one is wanted; how many paths it reports that
 /// changed, or that would change. A preview of a call that would be refused is a fault.
 pub fn finish<O: Sink>(
     out: &mut O,
     alloc: Global,
-    told: Response,
-    telling: Telling,
+    response: Response,
+    options: PrintOptions,
     diff: Result<Vec<u8>, Fault>,
 ) -> Result<usize, Fault>
-    requires { IsDiffOf telling told diff }
-    ensures told { Finishes telling told (O.contents out.old) (O.contents out.new) result }
-    ensures behind { IsDrawnPreview telling told → IfOk result (λ count. IsOkAnd diff (λ text. AddsSome (O.contents out.old) (O.contents out.new) (HasBehind telling.names told text.items))) }
+    requires { IsDiffOf options response diff }
+    ensures finishes { Finishes options response (O.contents out.old) (O.contents out.new) result }
+    ensures behind { IsDrawnPreview options response → IfOk result (λ count. IsOkAnd diff
+        (λ text. AddsSome (O.contents out.old) (O.contents out.new) (HasBehind options.names response text.items))) }
     ensures undrawn { IfNoDiff result (λ refusal. (diff ≡ Err (faults.NoDiff refusal)) × (out.new ≡ out.old)) }
-    ensures failed { TellsFailure (O.failed out.old) (O.failed out.new) result }
+    ensures failed { ReportsFailure (O.failed out.old) (O.failed out.new) result }
 {
-    match print(out, alloc, &told, telling, diff) {
-        Ok(()) => accept(told),
+    match print(out, alloc, &response, options, diff) {
+        Ok(()) => accept(response),
         Err(fault) => {
-            drop(told);
+            drop(response);
             Err(fault)
         }
     }
 }
 
-// Prints an answer, and the diff behind it.
+// Prints a response, and the diff behind it.
 fn print<O: Sink>(
     out: &mut O,
     alloc: Global,
-    told: &Response,
-    telling: Telling,
+    response: &Response,
+    options: PrintOptions,
     diff: Result<Vec<u8>, Fault>,
 ) -> Result<(), Fault>
-    requires { IsDiffOf telling told.now diff }
-    ensures printed { OnOk result (AddsSome (O.contents out.old) (O.contents out.new) (IsToldText telling told.now)) }
-    ensures behind { IsDrawnPreview telling told.now → OnOk result (IsOkAnd diff (λ text. AddsSome (O.contents out.old) (O.contents out.new) (HasBehind telling.names told.now text.items))) }
+    requires { IsDiffOf options response.now diff }
+    ensures printed { OnOk result (AddsSome (O.contents out.old) (O.contents out.new) (IsPrintedText options response.now)) }
+    ensures behind { IsDrawnPreview options response.now → OnOk result (IsOkAnd diff
+        (λ text. AddsSome (O.contents out.old) (O.contents out.new) (HasBehind options.names response.now text.items))) }
     ensures kept { OnOk result (O.failed out.new ≡ O.failed out.old) }
-    ensures told { IfErr result (λ fault. Finishes telling told.now (O.contents out.old) (O.contents out.new) (Err fault)) }
+    ensures finishes { IfErr result
+        (λ fault. Finishes options response.now (O.contents out.old) (O.contents out.new) (Err fault)) }
     ensures undrawn { IfNoDiff result (λ refusal. (diff ≡ Err (faults.NoDiff refusal)) × (out.new ≡ out.old)) }
-    ensures failed { IfErr result (λ fault. TellsFailure (O.failed out.old) (O.failed out.new) (Err fault)) }
+    ensures failed { IfErr result (λ fault. ReportsFailure (O.failed out.old) (O.failed out.new) (Err fault)) }
 {
-    let diff = whole_diff(alloc, told, telling, diff)?;
-    let text = text_of(alloc, told, telling, diff.as_slice())?;
+    let diff = whole_diff(alloc, response, options, diff)?;
+    let text = text_of(alloc, response, options, diff.as_slice())?;
     write_text(out, text.as_slice())?;
     Ok(())
 }
 
-// What is told of an answer. No part of it is written before it is whole.
-fn text_of(alloc: Global, told: &Response, telling: Telling, diff: &[u8]) -> Result<Vec<u8>, Fault>
-    ensures text { (telling.format ≡ OutputFormat.Diff → IsDiffBehind told.now diff.now)
-        → IfOk result (λ text. IsToldText telling told.now text.items) }
-    ensures behind { telling.format ≡ OutputFormat.Diff
-        → IfOk result (λ text. HasBehind telling.names told.now diff.now text.items) }
+// What is printed of a response. No part of it is written before it is whole.
+fn text_of(
+    alloc: Global,
+    response: &Response,
+    options: PrintOptions,
+    diff: &[u8],
+) -> Result<Vec<u8>, Fault>
+    ensures text { (options.format ≡ OutputFormat.Diff → IsDiffBehind response.now diff.now)
+        → IfOk result (λ text. IsPrintedText options response.now text.items) }
+    ensures behind { options.format ≡ OutputFormat.Diff
+        → IfOk result (λ text. HasBehind options.names response.now diff.now text.items) }
     ensures fault { IfErr result (λ fault. fault ≡ faults.Memory) }
 {
     let mut text = Vec::new(alloc);
-    in_memory(print_told(&mut text, alloc, told, telling, diff))?;
+    in_memory(print_in_format(&mut text, alloc, response, options, diff))?;
     Ok(text)
 }
 
 // The diff of what would change, or that of a step that is shown.
 fn whole_diff(
     alloc: Global,
-    told: &Response,
-    telling: Telling,
+    response: &Response,
+    options: PrintOptions,
     diff: Result<Vec<u8>, Fault>,
 ) -> Result<Vec<u8>, Fault>
-    requires { IsDiffOf telling told.now diff }
-    ensures behind { IsBehind telling told.now result }
-    ensures same { IsDrawnPreview telling told.now → result ≡ diff }
+    requires { IsDiffOf options response.now diff }
+    ensures behind { IsBehind options response.now result }
+    ensures same { IsDrawnPreview options response.now → result ≡ diff }
     ensures undrawn { IfNoDiff result (λ refusal. diff ≡ Err (faults.NoDiff refusal)) }
 {
-    match (telling.format, told) {
+    match (options.format, response) {
         (OutputFormat::Diff, Response::Shown(shown)) => {
             drop(diff);
             records_of(alloc, shown.changes.as_slice())
@@ -111,24 +119,25 @@ fn records_of(alloc: Global, changes: &[Change]) -> Result<Vec<u8>, Fault>
     Ok(text)
 }
 
-fn print_told<W: Write>(
+fn print_in_format<W: Write>(
     out: &mut W,
     alloc: Global,
-    told: &Response,
-    telling: Telling,
+    response: &Response,
+    options: PrintOptions,
     diff: &[u8],
 ) -> io::Result<()>
-    ensures text { (telling.format ≡ OutputFormat.Diff → IsDiffBehind told.now diff.now)
-        → OnOk result (AppendsSome (W.contents out.old) (W.contents out.new) (IsToldText telling told.now)) }
-    ensures behind { telling.format ≡ OutputFormat.Diff → OnOk result (AppendsSome (W.contents out.old) (W.contents out.new) (HasBehind telling.names told.now diff.now)) }
+    ensures text { (options.format ≡ OutputFormat.Diff → IsDiffBehind response.now diff.now)
+        → OnOk result (AppendsSome (W.contents out.old) (W.contents out.new) (IsPrintedText options response.now)) }
+    ensures behind { options.format ≡ OutputFormat.Diff
+        → OnOk result (AppendsSome (W.contents out.old) (W.contents out.new) (HasBehind options.names response.now diff.now)) }
 {
-    match telling.format {
-        OutputFormat::Lines => print_reply(out, telling.names, told),
+    match options.format {
+        OutputFormat::Lines => print_response(out, options.names, response),
         OutputFormat::Diff => {
-            print_reply(out, telling.names, told)?;
+            print_response(out, options.names, response)?;
             out.write_all(diff)
         }
-        OutputFormat::Json => print_objects(out, alloc, telling.names, told),
+        OutputFormat::Json => print_objects(out, alloc, options.names, response),
     }
 }
 
@@ -137,11 +146,11 @@ fn print_objects<W: Write>(
     out: &mut W,
     alloc: Global,
     names: Names,
-    told: &Response,
+    response: &Response,
 ) -> io::Result<()>
-    ensures { OnOk result (AppendsSome (W.contents out.old) (W.contents out.new) (IsTextIn OutputFormat.Json names told.now)) }
+    ensures { OnOk result (AppendsSome (W.contents out.old) (W.contents out.new) (IsTextIn OutputFormat.Json names response.now)) }
 {
-    match told {
+    match response {
         Response::Log(rows) => print_row_objects(out, alloc, rows.as_slice()),
         Response::Preview(path_outcomes) => print_path_outcome_objects(
             out,
@@ -149,16 +158,16 @@ fn print_objects<W: Write>(
             path_outcomes.as_slice(),
         ),
         Response::Shown(shown) => print_shown_object(out, alloc, shown),
-        reply => print_reply(out, names, reply),
+        reply => print_response(out, names, reply),
     }
 }
 
-// How many paths an answer tells that changed, or would change, unless it is a preview with a
+// How many paths a response reports that changed, or would change, unless it is a preview with a
 // refusal.
-fn accept(told: Response) -> Result<usize, Fault>
-    ensures { Accepts told result }
+fn accept(response: Response) -> Result<usize, Fault>
+    ensures { Accepts response result }
 {
-    match told {
+    match response {
         Response::Preview(path_outcomes) => accept_path_outcomes(path_outcomes),
         reply => Ok(path_count(&reply)),
     }

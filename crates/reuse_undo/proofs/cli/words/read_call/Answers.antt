@@ -50,11 +50,18 @@ returns-in_ok-read_download-in-download c = (ap
     (λ name. call_read name (found_in c.args.matches.now) c.args.year) c.in-download.is)
     ∙ ap (λ command. Ok (calls.Run command)) (sym c.in_ok-read_download-in-download.ensures)
 
-pub returns-in-revert : goal.returns-in-revert
+pub returns-in_err-number-in-revert : goal.returns-in_err-number-in-revert
 unfolding call_read
-returns-in-revert c = (ap (λ name. call_read name (found_in c.args.matches.now) c.args.year) c.in-revert.is) ∙ ap
-    (λ n. Ok (calls.Revert n (flag (found_in c.args.matches.now) (codes "skip-moved")))) (sym c.number.ensures) ∙ ap
-    (λ b. Ok (calls.Revert c.number.result b)) (sym c.flag.ensures)
+returns-in_err-number-in-revert c =
+    due_after _ _ _ _ c.from_residual-in_err-number-in-revert.ensures.1
+    (mistake_same _ _ _ (ap (λ name. call_read name (found_in c.args.matches.now) c.args.year) c.in-revert.is)
+    (mistake_first _ _ _ c.in_err-number-in-revert.ensures))
+
+pub returns-in_ok-number-in-revert : goal.returns-in_ok-number-in-revert
+unfolding call_read
+returns-in_ok-number-in-revert c =
+    ap (λ name. call_read name (found_in c.args.matches.now) c.args.year) c.in-revert.is
+    ∙ read_on _ _ _ c.in_ok-number-in-revert.ensures ∙ ap (λ b. Ok (calls.Revert c.in_ok-number-in-revert.number b)) (sym c.flag.ensures)
 
 pub returns-in_ok-unread-in_default : goal.returns-in_ok-unread-in_default
 returns-in_ok-unread-in_default c =

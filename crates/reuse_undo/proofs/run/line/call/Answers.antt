@@ -83,8 +83,8 @@ pub returns-in-Ok-clause-diff : goal.returns-in-Ok-clause-diff
 returns-in-Ok-clause-diff g c =
     let asked = c.ask_for-answer in
     let drawn = c.draw_planned-store in
-    diff_for g.S.Store c.into_parts-store.result.0 drawn.result.0 c.args.telling asked.result.0 drawn.result.1 (is_some asked.result.1)
-    (λ some. wanted_where c.args.telling asked.result.0 (held_of asked.result.1 _ asked.ensures.wanted some)) (λ none. drawn.ensures.none (is_none_of asked.result.1 none)) drawn.ensures.diff
+    diff_for g.S.Store c.into_parts-store.result.0 drawn.result.0 c.args.options asked.result.0 drawn.result.1 (is_some asked.result.1)
+    (λ some. wanted_where c.args.options asked.result.0 (held_of asked.result.1 _ asked.ensures.wanted some)) (λ none. drawn.ensures.none (is_none_of asked.result.1 none)) drawn.ensures.diff
 
 pub returns-in-Ok-clause-undrawn : goal.returns-in-Ok-clause-undrawn
 returns-in-Ok-clause-undrawn g c =
@@ -104,7 +104,7 @@ returns-in-Ok-clause-drawn g c honest held standing =
     let was_honest = asked.ensures.answered.call.later.was_honest is_honest in
     let found =
     found_again files (files c.args.store) c.in-Ok.opened held standing (c.in-Ok.ensures.opened was_honest) (λ first second doubt. c.in-Ok.ensures.recovers first second doubt was_honest) in
-    drawn_where_wanted c.args.telling request held asked.result.0 drawn.result.1 (λ wanted look.
+    drawn_where_wanted c.args.options request held asked.result.0 drawn.result.1 (λ wanted look.
     let same = ap tree_of (ap files c.into_parts-store.ensures.store ∙ (asked.ensures.answered.reads_only look).files is_honest) ∙ found.0.standing.tree in
     diff_of_call request held drawn.result.1 (λ after would.
-    drawn.ensures.drawn honest held.tree after same (asked.ensures.previews (format_where c.args.telling asked.result.0 wanted) is_honest held found.0 after would (accepted_where c.args.telling asked.result.0 wanted))))
+    drawn.ensures.drawn honest held.tree after same (asked.ensures.previews (format_where c.args.options asked.result.0 wanted) is_honest held found.0 after would (accepted_where c.args.options asked.result.0 wanted))))

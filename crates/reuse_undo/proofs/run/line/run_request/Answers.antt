@@ -6,13 +6,13 @@ use Rattle.reuse_undo.specs.run.AfterStops.{AnswersAfterStop}
 use Rattle.reuse_undo.specs.run.Drawn.{IsDiffOfCall}
 use Rattle.reuse_session.specs.session.Requests.{HasCallClash}
 use Rattle.reuse_undo.specs.run.RunLine.{RequestLeaves, FollowsModel}
-use Rattle.reuse_undo.specs.print.Told.{IsDrawnPreview}
+use Rattle.reuse_undo.specs.print.Responses.{IsDrawnPreview}
 use Rattle.reuse_undo.specs.print.WriterFaults.{IsUndrawn}
 use Rattle.reuse_session.specs.declared.reply.Response.{Response}
-use Rattle.reuse_undo.proofs.lemmas.run.AfterStopLemmas.{answers_after_stop, told_of_end}
+use Rattle.reuse_undo.proofs.lemmas.run.AfterStopLemmas.{answers_after_stop, reports_end}
 use Rattle.reuse_undo.proofs.lemmas.run.DiffLemmas.{undrawn_told}
 use Rattle.reuse_undo.proofs.lemmas.run.DrawnLines.{drawn_in_lines, previews_tell, told_diff}
-use Rattle.reuse_undo.proofs.lemmas.run.ModelLemmas.{carries_as, carries_step, told_of, no_refusal}
+use Rattle.reuse_undo.proofs.lemmas.run.ModelLemmas.{carries_as, carries_step, reports_of, no_refusal}
 use Rattle.reuse_undo.proofs.run.line.run_request.Goals as goal
 
 pub returns-in-Ok : goal.returns-in-Ok
@@ -25,28 +25,28 @@ returns-in-Ok g c =
     let old = g.O.Sink.contents c.args.out.now in
     let new = g.O.Sink.contents c.finish.new.out in
     let outcome = c.finish.result in
-    let told = c.finish.ensures.told in
-    let carries = λ (honest : g.S.Store.honest left). carries_as before after request c.call-store.result.1 (Ok c.in-Ok.told) (c.call-store.ensures.carries honest) c.in-Ok.is in
+    let finishes = c.finish.ensures.finishes in
+    let carries = λ (honest : g.S.Store.honest left). carries_as before after request c.call-store.result.1 (Ok c.in-Ok.response) (c.call-store.ensures.carries honest) c.in-Ok.is in
     record {
-      exact = λ honest. told_of c.args.telling (λ answer. RequestLeaves before request answer after) c.in-Ok.told old new outcome (carries honest) told;
+      exact = λ honest. reports_of c.args.options (λ answer. RequestLeaves before request answer after) c.in-Ok.response old new outcome (carries honest) finishes;
       machine = λ honest state held.
-          told_of c.args.telling (λ answer. FollowsModel state request answer after) c.in-Ok.told old new outcome (carries_step state before request (Ok c.in-Ok.told) after held (carries honest)) told;
+          reports_of c.args.options (λ answer. FollowsModel state request answer after) c.in-Ok.response old new outcome (carries_step state before request (Ok c.in-Ok.response) after held (carries honest)) finishes;
       after_stop = λ honest start found.
           let Ends = (λ (end : Point). AreLeft after end.state end.next) in
-          told_of_end c.args.telling (λ end answer. AnswersAfterStop request answer start end) Ends old new outcome
-          (told_of c.args.telling (λ answer. (end : Point) × AnswersAfterStop request answer start end × Ends end) c.in-Ok.told old new outcome
-          (answers_after_stop before request (Ok c.in-Ok.told) after start found (carries honest)) told);
+          reports_end c.args.options (λ end answer. AnswersAfterStop request answer start end) Ends old new outcome
+          (reports_of c.args.options (λ answer. (end : Point) × AnswersAfterStop request answer start end × Ends end) c.in-Ok.response old new outcome
+          (answers_after_stop before request (Ok c.in-Ok.response) after start found (carries honest)) finishes);
       drawn = λ honest held standing wants tree would.
-          let tells = previews_tell request held tree before after c.in-Ok.told would (carries honest) in
-          drawn_in_lines c.args.telling held.tree tree c.in-Ok.told tells.0 old new outcome c.call-store.result.2 tells.1 wants told c.finish.ensures.behind
+          let tells = previews_tell request held tree before after c.in-Ok.response would (carries honest) in
+          drawn_in_lines c.args.options held.tree tree c.in-Ok.response tells.0 old new outcome c.call-store.result.2 tells.1 wants finishes c.finish.ensures.behind
           (λ planned. told_diff request held tree c.call-store.result.2 would
-          (IfOk-at_ok (λ (answer : Response). IsDrawnPreview c.args.telling answer → IfOk c.call-store.result.2 (λ text. IsDiffOfCall request held text.items)) c.in-Ok.is
+          (IfOk-at_ok (λ (answer : Response). IsDrawnPreview c.args.options answer → IfOk c.call-store.result.2 (λ text. IsDiffOfCall request held text.items)) c.in-Ok.is
           (c.call-store.ensures.drawn honest held standing) planned));
       reads_only = c.call-store.ensures.reads_only;
-      quiet = no_refusal _ _ _ _ outcome (λ refusal. c.finish.new.out ≡ c.args.out.now) told;
+      quiet = no_refusal _ _ _ _ outcome (λ refusal. c.finish.new.out ≡ c.args.out.now) finishes;
       failed = c.finish.ensures.failed;
-      fault = no_refusal _ _ _ _ outcome _ told;
-      clash = λ honest held standing. no_refusal _ _ _ _ outcome (HasCallClash request held before) told;
+      fault = no_refusal _ _ _ _ outcome _ finishes;
+      clash = λ honest held standing. no_refusal _ _ _ _ outcome (HasCallClash request held before) finishes;
       undrawn = undrawn_told outcome c.call-store.result.2 (IsUndrawn g.S.Store store left) (c.finish.new.out ≡ c.args.out.now) c.finish.ensures.undrawn c.call-store.ensures.undrawn;
       failures = c.call-store.ensures.failures;
       was_honest = c.call-store.ensures.was_honest;

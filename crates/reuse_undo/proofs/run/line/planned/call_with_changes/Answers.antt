@@ -17,12 +17,12 @@ returns-in-Run g c =
     let new = c.preview_changes.new.self in
     let answer = c.preview_changes.result in
     let told = c.preview_changes.ensures in
-    let with = c.told_with in
+    let with = c.answer_with_changes in
     let command = c.in-Run.command in
     let reads_with_cause = preview_reads_with_cause store answer old new told.reads_only told.refusal in
     subst (λ (call : Call). IsAnsweredWith store (requests.Preview call) with.result.0 with.result.1 old new) (sym c.in-Run.is)
-    (answered_with store (requests.Preview (calls.Run command)) go.Forward answer with.result.0 with.result.1 old new with.ensures.told with.ensures.planned
-    (call_answered store answer with.result.0 old new with.ensures.told reads_with_cause told.broken (calls.Run command) told.answers) (λ honest held stands after would.
+    (answered_with store (requests.Preview (calls.Run command)) go.Forward answer with.result.0 with.result.1 old new with.ensures.answer with.ensures.planned
+    (call_answered store answer with.result.0 old new with.ensures.answer reads_with_cause told.broken (calls.Run command) told.answers) (λ honest held stands after would.
     run_previews command held answer after (told.plan honest held stands) (ran_to command would.0 held would.1 would.2 would.3 ∙ ap (λ (tree : Files). Ok tree) would.4)))
 
 pub returns-in-Undo : goal.returns-in-Undo
@@ -32,11 +32,11 @@ returns-in-Undo g c =
     let new = c.preview_step.new.self in
     let answer = c.preview_step.result in
     let told = c.preview_step.ensures in
-    let with = c.told_with-in-Undo in
+    let with = c.answer_with_changes-in-Undo in
     let reads_with_cause = preview_reads_with_cause store answer old new told.reads_only told.refusal in
     subst (λ (call : Call). IsAnsweredWith store (requests.Preview call) with.result.0 with.result.1 old new) (sym c.in-Undo.is)
-    (answered_with store (requests.Preview calls.Undo) go.Backward answer with.result.0 with.result.1 old new with.ensures.told with.ensures.planned
-    (call_answered store answer with.result.0 old new with.ensures.told reads_with_cause told.broken calls.Undo told.exact) (λ honest held stands after would.
+    (answered_with store (requests.Preview calls.Undo) go.Backward answer with.result.0 with.result.1 old new with.ensures.answer with.ensures.planned
+    (call_answered store answer with.result.0 old new with.ensures.answer reads_with_cause told.broken calls.Undo told.exact) (λ honest held stands after would.
     step_previews go.Backward held answer would.1 would.2 after would.3 would.4 (told.changes honest held stands) told.good))
 
 pub returns-in-Redo : goal.returns-in-Redo
@@ -46,11 +46,11 @@ returns-in-Redo g c =
     let new = c.preview_step-in-Redo.new.self in
     let answer = c.preview_step-in-Redo.result in
     let told = c.preview_step-in-Redo.ensures in
-    let with = c.told_with-in-Redo in
+    let with = c.answer_with_changes-in-Redo in
     let reads_with_cause = preview_reads_with_cause store answer old new told.reads_only told.refusal in
     subst (λ (call : Call). IsAnsweredWith store (requests.Preview call) with.result.0 with.result.1 old new) (sym c.in-Redo.is)
-    (answered_with store (requests.Preview calls.Redo) go.Forward answer with.result.0 with.result.1 old new with.ensures.told with.ensures.planned
-    (call_answered store answer with.result.0 old new with.ensures.told reads_with_cause told.broken calls.Redo told.exact) (λ honest held stands after would.
+    (answered_with store (requests.Preview calls.Redo) go.Forward answer with.result.0 with.result.1 old new with.ensures.answer with.ensures.planned
+    (call_answered store answer with.result.0 old new with.ensures.answer reads_with_cause told.broken calls.Redo told.exact) (λ honest held stands after would.
     step_previews go.Forward held answer would.1 would.2 after would.3 would.4 (told.changes honest held stands) told.good))
 
 pub returns-in-Revert : goal.returns-in-Revert

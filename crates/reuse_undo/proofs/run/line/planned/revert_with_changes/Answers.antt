@@ -23,12 +23,12 @@ returns-in-Ok g c =
     let command = c.in-Ok.command in
     let answer = c.preview_changes-previewed.result in
     let told = c.preview_changes-previewed.ensures in
-    let with = c.told_with in
+    let with = c.answer_with_changes in
     let reads_only = c.revert_command.ensures.reads_only in
     let first = show_reads_with_cause store c.revert_command.result old mid c.revert_command.ensures.broken.1 reads_only.reads reads_only.kept reads_only.fails c.revert_command.ensures.call in
     let reads_with_cause = reads_with_cause_on store c.revert_command.result answer old mid new first (preview_reads_with_cause store answer mid new told.reads_only told.refusal) in
-    answered_with store (requests.Preview (calls.Revert number skip_moved)) go.Forward answer with.result.0 with.result.1 old new with.ensures.told with.ensures.planned
-    (call_answered store answer with.result.0 old new with.ensures.told reads_with_cause (broken_again old mid answer reads_only.kept.1 told.broken) (calls.Revert number skip_moved) (λ honest held stands tells.
+    answered_with store (requests.Preview (calls.Revert number skip_moved)) go.Forward answer with.result.0 with.result.1 old new with.ensures.answer with.ensures.planned
+    (call_answered store answer with.result.0 old new with.ensures.answer reads_with_cause (broken_again old mid answer reads_only.kept.1 told.broken) (calls.Revert number skip_moved) (λ honest held stands tells.
     let was_honest = told.reads_only.reads.was_honest honest in
     let still = still_stands store c.revert_command.result old mid held first was_honest stands in
     let back = c.in-Ok.ensures.exact was_honest held stands tt in
