@@ -5,6 +5,7 @@ pub mod FolderPlaces
 pub mod FolderReads
 pub mod FolderWrites
 pub mod FileStates
+pub mod Folders
 pub mod Honesty
 pub mod KeptOut
 pub mod Names
@@ -15,5 +16,6 @@ pub mod RolledBack
 pub mod SystemCall
 pub mod SystemCalls
 pub mod SystemLaws
+pub mod Trails
 pub mod Within
 pub mod Written

@@ -1,4 +1,5 @@
 -- Lemmas of folders.
+pub mod AlongLemmas
 pub mod FolderLemmas
 pub mod HonestFiles
 pub mod HostLemmas
@@ -15,3 +16,4 @@ pub mod ReadLemmas
 pub mod ReaderLemmas
 pub mod SlashLemmas
 pub mod SystemLemmas
+pub mod TrailLemmas

@@ -1,10 +1,12 @@
--- What a folder tells of a path, by the file of the path's own name in the folder that was entered for it.
-use Rattle.std.specs.Prelude.{◌≡◌, ◌-◌, ℕ, List, length, Option, Some, slice_get}
+-- What a folder tells of a path.
+use Rattle.std.specs.Prelude.{◌≡◌, ◌⊎◌, ◌-◌, ℕ, List, length, Option, None, Some, IsTrue, slice_get}
 use Rattle.std.specs.Option.{option_map}
 use Rattle.reuse_tree.specs.Store.{reading_of}
 use Rattle.reuse_tree.specs.declared.store.Reading.{Reading}
 use Rattle.reuse_tree.specs.declared.store.Reading.TheVariants as reading
 use Rattle.reuse_undo.specs.disk.FileStates.{StateFile, FileState, place_in}
+use Rattle.reuse_undo.specs.disk.Folders.{Folders, folder_above, file_at, IsBarred}
+use Rattle.reuse_undo.specs.disk.KeptOut.{is_kept_out}
 use Rattle.reuse_undo.specs.disk.Names.{IsNameOf}
 use Rattle.reuse_undo.specs.declared.disk.place.Identity.{Identity}
 use Rattle.reuse_undo.specs.declared.disk.place.Place.{Place}
@@ -24,15 +26,29 @@ pub record StandsIn (folder : Option Identity) (path : List ℕ) (held : FileSta
   pub is_named : IsNameOf path name
   pub stands : held (place_in in_folder name) ≡ Some one
 
--- where the path is told to be a regular file, one stands there that is so long
-abbrev pub IsPlaceIn : Option Identity → List ℕ → FileState → Place → Type 0
-IsPlaceIn folder path held (place.File status) =
-    (one : StateFile) × StandsIn folder path held one × (length one.bytes ≡ status.len)
-IsPlaceIn folder path held place = Unit {0}
+-- no file of the tree is at the path: the name is kept out, or a folder on the way is a bare repository
+abbrev pub IsHidden : Folders → FileState → List ℕ → Type 0
+IsHidden folders held path = IsTrue (is_kept_out path) ⊎ IsBarred folders held path
 
--- where a file was read, it stands in some folder under the path's own name, and all its bytes were read, or it is too
--- long
-abbrev pub IsReadIn : List ℕ → ℕ → FileState → Reading → Type 0
-IsReadIn path limit held reading.Absent = Unit {0}
-IsReadIn path limit held reading = (folder : Option Identity) × (one : StateFile) × StandsIn folder path held one
-    × (reading ≡ reading_of (Some one.bytes) limit)
+-- where the path is told to be a regular file, it lies in this folder
+abbrev pub LiesIn : Folders → List ℕ → Option Identity → Place → Type 0
+LiesIn folders path folder (place.File status) = folder_above folders path ≡ folder
+LiesIn folders path folder place = Unit {0}
+
+-- where the path is told to be a regular file, one stands in this folder that is so long; else no file is at the path
+abbrev pub IsPlaceAt : Folders → FileState → List ℕ → Option Identity → Place → Type 0
+IsPlaceAt folders held path folder (place.File status) =
+    (one : StateFile) × StandsIn folder path held one × (length one.bytes ≡ status.len)
+IsPlaceAt folders held path folder place.Other = (file_at folders held path ≡ None) ⊎ IsHidden folders held path
+IsPlaceAt folders held path folder place = file_at folders held path ≡ None
+
+-- all bytes of the file in this folder under the path's own name were read, or it is too long
+abbrev pub IsReadIn : Option Identity → List ℕ → ℕ → FileState → Reading → Type 0
+IsReadIn folder path limit held reading =
+    (one : StateFile) × StandsIn folder path held one × (reading ≡ reading_of (Some one.bytes) limit)
+
+-- what is read is what the file at the path holds, or nothing if there is none; of what is hidden it is nothing, too
+abbrev pub IsReadAt : Folders → FileState → List ℕ → ℕ → Reading → Type 0
+IsReadAt folders held path limit answer =
+    (answer ≡ reading_of (option_map (λ one. one.bytes) (file_at folders held path)) limit)
+    ⊎ (IsHidden folders held path × (answer ≡ reading.Absent))

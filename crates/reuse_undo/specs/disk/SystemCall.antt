@@ -1,9 +1,10 @@
--- A call of the system that changes regular files, or tells of what stands at a name.
+-- A call of the system that changes regular files, opens a folder, or tells of what stands at a name.
 use Rattle.std.specs.Prelude.{ℕ, ◌+◌, Bool, List, [], ◌∷◌, Result}
 use Rattle.reuse_tree.specs.declared.store.Reading.{Reading}
 use Rattle.reuse_undo.specs.disk.FileStates.{Place}
 use Rattle.reuse_undo.specs.declared.disk.fault.FolderFault.{FolderFault}
 use Rattle.reuse_undo.specs.declared.disk.place.Found.{Found}
+use Rattle.reuse_undo.specs.declared.disk.place.Identity.{Identity}
 
 -- a call, and whether it answered that it was done; of one that changes nothing, what it answered
 pub data SystemCall : Type 0 where
@@ -14,6 +15,9 @@ pub data SystemCall : Type 0 where
   RemoveCall : (place : Place) (is_done : Bool) → SystemCall
   LookCall : (place : Place) (answer : Result Found FolderFault) → SystemCall
   ReadCall : (place : Place) (said limit : ℕ) (answer : Result Reading FolderFault) → SystemCall
+  RootCall : (opened : Identity) → SystemCall
+  OpenCall : (above : Identity) (name : List ℕ) (opened : Identity) → SystemCall
+  NoFolderCall : (above : Identity) (name : List ℕ) (found : Found) → SystemCall
 
 -- how many files were to be made by these calls
 abbrev pub made_of : List SystemCall → ℕ
@@ -25,3 +29,6 @@ made_of (RenameCall from to is_done ∷ calls) = made_of calls
 made_of (RemoveCall place is_done ∷ calls) = made_of calls
 made_of (LookCall place answer ∷ calls) = made_of calls
 made_of (ReadCall place said limit answer ∷ calls) = made_of calls
+made_of (RootCall opened ∷ calls) = made_of calls
+made_of (OpenCall above name opened ∷ calls) = made_of calls
+made_of (NoFolderCall above name found ∷ calls) = made_of calls

@@ -1,24 +1,33 @@
 -- The calls of the system with their answers, and what names lead to after them.
-use Rattle.std.specs.Prelude.{ℕ, ◌+◌, zero, suc, Bool, true, false, if◌then◌else◌, List, [], ◌∷◌, ◌++◌, length, take, Option, None, Some, Result, Ok, Err, ◌==◌}
+use Rattle.std.specs.Prelude.{◌≡◌, ℕ, ◌+◌, zero, suc, Bool, true, false, if◌then◌else◌, List, [], ◌∷◌, ◌++◌, length, take, Option, None, Some, Result, Ok, Err, ◌==◌}
+use Rattle.std.specs.List.{list_any}
 use Rattle.std.specs.Str.{bytes_eq}
 use Rattle.reuse_undo.specs.disk.FileStates.{FileKey, StateFile, Place, FileState, file, place_in}
 use Rattle.reuse_undo.specs.disk.FileStates.FileKey.{Found, Made}
+use Rattle.reuse_undo.specs.disk.Folders.{Folders, folder_in}
 use Rattle.reuse_undo.specs.disk.SystemCall.{SystemCall, made_of}
-use Rattle.reuse_undo.specs.disk.SystemCall.SystemCall.{MakeCall, AppendCall, SyncCall, RenameCall, RemoveCall, LookCall, ReadCall}
-use Rattle.reuse_undo.specs.disk.SystemLaws.{IsSeen, IsReadOf}
+use Rattle.reuse_undo.specs.disk.SystemCall.SystemCall.{MakeCall, AppendCall, SyncCall, RenameCall, RemoveCall, LookCall, ReadCall, RootCall, OpenCall, NoFolderCall}
+use Rattle.reuse_undo.specs.disk.SystemLaws.{IsSeen, IsReadOf, IsNoFolder}
 use Rattle.reuse_tree.specs.declared.store.Reading.{Reading}
 use Rattle.reuse_tree.specs.declared.store.Reading.TheVariants as reading
 use Rattle.reuse_undo.specs.declared.disk.fault.FolderFault.{FolderFault}
+use Rattle.reuse_undo.specs.declared.disk.place.Identity.{Identity}
 use Rattle.reuse_undo.specs.declared.disk.system.record.CallKind.{CallKind}
 use Rattle.reuse_undo.specs.declared.disk.system.record.CallKind.TheVariants as kind
 use Rattle.reuse_undo.specs.declared.disk.system.record.ReadKind.{ReadKind}
 use Rattle.reuse_undo.specs.declared.disk.system.record.ReadKind.TheVariants as read
 
--- what nobody can know of a system at its start: each name that leads to a file, with the number of that file, its
--- bytes, and whether a loss of power surely leaves it these; and of each call that is to come its fate: how much of an
--- appending that fails is written, whether another call that fails takes effect, which is 1 or more, and whether the
--- old name stays where a renaming is done, which is 1
+-- the device and the number of the root; each name that leads to a folder, with the device and the number of that; and
+-- the names that lead to something else that is no regular file
+abbrev pub FolderStart : Type 0
+FolderStart = (ℕ × ℕ) × (List (Place × (ℕ × ℕ)) × List Place)
+
+-- what nobody can know of a system at its start: its folders; each name that leads to a file, with the number of that
+-- file, its bytes, and whether a loss of power surely leaves it these; and of each call that is to come its fate: how
+-- much of an appending that fails is written, whether another call that fails takes effect, which is 1 or more, and
+-- whether the old name stays where a renaming is done, which is 1
 pub record SystemStart : Type 0 where
+  pub folders : FolderStart
   pub files : List (Place × (ℕ × (List ℕ × Bool)))
   pub fates : List ℕ
 
@@ -32,6 +41,20 @@ abbrev pub held_at_start : List (Place × (ℕ × (List ℕ × Bool))) → FileS
 held_at_start [] place = None
 held_at_start (entry ∷ entries) place =
     if bytes_eq place entry.0 then file (Found entry.1.0) entry.1.1.0 entry.1.1.1 else held_at_start entries place
+
+-- the folder that the place leads to
+abbrev pub folder_among : List (Place × (ℕ × ℕ)) → Place → Option Identity
+folder_among [] place = None
+folder_among (entry ∷ entries) place = if bytes_eq place entry.0 then Some (record { device = entry.1.0; number = entry.1.1 }) else folder_among entries place
+
+-- what names lead to at the start but for regular files
+abbrev pub folders_of : FolderStart → Folders
+folders_of start =
+    record {
+      root = record { device = start.0.0; number = start.0.1 };
+      below = folder_among start.1.0;
+      is_other = λ place. list_any (bytes_eq place) start.1.1;
+    }
 
 -- the place leads to this
 abbrev pub set : FileState → Place → Option StateFile → FileState
@@ -74,6 +97,9 @@ held_by fate made (RemoveCall place true) held = set held place None
 held_by fate made (RemoveCall place false) held = set_by fate held place None
 held_by fate made (LookCall place answer) held = held
 held_by fate made (ReadCall place said limit answer) held = held
+held_by fate made (RootCall opened) held = held
+held_by fate made (OpenCall above name opened) held = held
+held_by fate made (NoFolderCall above name found) held = held
 
 -- what names lead to after these calls, the newest first
 abbrev pub held_after : List (Place × (ℕ × (List ℕ × Bool))) → List ℕ → List SystemCall → FileState
@@ -81,16 +107,19 @@ held_after files fates [] = held_at_start files
 held_after files fates (call ∷ calls) =
     held_by (fate_at fates (length calls)) (made_of calls) call (held_after files fates calls)
 
--- a call may answer so where names lead to these files and nobody else writes
-abbrev pub MayAnswer : FileState → SystemCall → Type 0
-MayAnswer held (LookCall place answer) = IsSeen (held place) answer
-MayAnswer held (ReadCall place said limit answer) = IsReadOf said limit (held place) answer
-MayAnswer held call = Unit {0}
+-- a call may answer so where names lead to these folders and files and nobody else writes
+abbrev pub MayAnswer : Folders → FileState → SystemCall → Type 0
+MayAnswer folders held (LookCall place answer) = IsSeen (held place) answer
+MayAnswer folders held (ReadCall place said limit answer) = IsReadOf said limit (held place) answer
+MayAnswer folders held (RootCall opened) = opened ≡ folders.root
+MayAnswer folders held (OpenCall above name opened) = folder_in folders above name ≡ Some opened
+MayAnswer folders held (NoFolderCall above name found) = IsNoFolder folders held (folder_in folders above name) found
+MayAnswer folders held call = Unit {0}
 
 -- each of these calls was answered so
-abbrev pub IsHonest : List (Place × (ℕ × (List ℕ × Bool))) → List ℕ → List SystemCall → Type 0
-IsHonest files fates [] = Unit {0}
-IsHonest files fates (call ∷ calls) = MayAnswer (held_after files fates calls) call × IsHonest files fates calls
+abbrev pub IsHonest : Folders → List (Place × (ℕ × (List ℕ × Bool))) → List ℕ → List SystemCall → Type 0
+IsHonest folders files fates [] = Unit {0}
+IsHonest folders files fates (call ∷ calls) = MayAnswer folders (held_after files fates calls) call × IsHonest folders files fates calls
 
 -- what a reading of this kind answered
 abbrev pub reading_of_kind : ReadKind → List ℕ → Result Reading FolderFault
@@ -107,5 +136,7 @@ call_of (kind.Sync number is_done) name other = SyncCall number is_done
 call_of (kind.Rename from to is_done) name other = RenameCall (place_in from name) (place_in to other) is_done
 call_of (kind.Remove folder is_done) name other = RemoveCall (place_in folder name) is_done
 call_of (kind.Look folder answer) name other = LookCall (place_in folder name) answer
-call_of (kind.Read folder said limit answer) name bytes =
-    ReadCall (place_in folder name) said limit (reading_of_kind answer bytes)
+call_of (kind.Read folder said limit answer) name bytes = ReadCall (place_in folder name) said limit (reading_of_kind answer bytes)
+call_of (kind.Root opened) name other = RootCall opened
+call_of (kind.Open above opened) name other = OpenCall above name opened
+call_of (kind.NoFolder above found) name other = NoFolderCall above name found

@@ -2,10 +2,14 @@
 use Rattle.std.specs.Prelude.{◌≡◌, ◌≢◌, ◌⊎◌, ℕ, Bool, true, false, List, [], ◌++◌, length, Option, None, Some, Result, Ok, Err}
 use Rattle.reuse_tree.specs.declared.store.Reading.{Reading}
 use Rattle.reuse_undo.specs.disk.FileStates.{FileKey, StateFile, Place, FileState, file, IsNot}
+use Rattle.reuse_undo.specs.disk.Folders.{Folders, folder_in, IsBare}
 use Rattle.reuse_undo.specs.disk.Readings.{IsReadingOf}
 use Rattle.reuse_undo.specs.declared.disk.fault.FolderFault.{FolderFault}
 use Rattle.reuse_undo.specs.declared.disk.place.Found.{Found}
+use Rattle.reuse_undo.specs.declared.disk.handle.Below.{Below}
+use Rattle.reuse_undo.specs.declared.disk.handle.Below.TheVariants as below
 use Rattle.reuse_undo.specs.declared.disk.place.Found.TheVariants as found
+use Rattle.reuse_undo.specs.declared.disk.place.Identity.{Identity}
 
 -- nothing differs
 abbrev pub IsAlike : FileState → FileState → Type 0
@@ -63,6 +67,17 @@ abbrev pub IsSeen : Option StateFile → Result Found FolderFault → Type 0
 IsSeen one (Ok (found.File status)) = (held : StateFile) × (one ≡ Some held) × (length held.bytes ≡ status.len)
 IsSeen one (Ok found) = one ≡ None
 IsSeen one (Err fault) = Unit {0}
+
+-- what may be told where a name leads to this folder, or to none, and no folder is opened: a bare repository of git is told as a link is
+abbrev pub IsNoFolder : Folders → FileState → Option Identity → Found → Type 0
+IsNoFolder folders held one found.Other = (one ≡ None) ⊎ IsBare folders held one
+IsNoFolder folders held one found = one ≡ None
+
+-- what opening the folder of this name in a folder may tell
+abbrev pub IsOpenedBelow : Folders → FileState → Identity → List ℕ → Result Below FolderFault → Type 0
+IsOpenedBelow folders held above name (Ok (below.Folder folder)) = folder_in folders above name ≡ Some folder.identity
+IsOpenedBelow folders held above name (Ok (below.Other found)) = IsNoFolder folders held (folder_in folders above name) found
+IsOpenedBelow folders held above name (Err fault) = Unit {0}
 
 -- what a reading may answer of it: what is read of a reader that has its bytes
 abbrev pub IsReadOf : (said limit : ℕ) → Option StateFile → Result Reading FolderFault → Type 0

@@ -1,14 +1,20 @@
 //! Removing folders that hold nothing but folders.
+ghost use Rattle.std.specs.Prelude.{◌≡◌, IfOk, string_bytes};
+ghost use Rattle.reuse_undo.specs.disk.Trails.{path_below};
+
 use crate::disk::fault::{FolderFault, Obstacle};
 use crate::disk::listing::{MOST_NAMES, push_text};
 use crate::disk::place::folder_and_name;
+use crate::disk::system::{HostSystem, System};
 use crate::disk::trail::Trail;
 use std::alloc::{AllocError, Global};
 use std::fs::{self, DirEntry, File};
 use std::rt::Files;
 
 /// The path of this name in a folder, both below the root.
-pub fn path_in(alloc: Global, folder: &str, name: &str) -> Result<String, AllocError> {
+pub fn path_in(alloc: Global, folder: &str, name: &str) -> Result<String, AllocError>
+    ensures { IfOk result (λ path. string_bytes path ≡ path_below folder.now name.now) }
+{
     let mut path = String::from_str(alloc, folder)?;
     if !folder.is_empty() {
         path.push('/')?;
@@ -34,14 +40,16 @@ fn push_folder<R: Files>(
 
 /// Adds the folders that lie in this one. Where anything else lies in it, that is in the way.
 fn push_folders<R: Files<File = File> + AllocGlobal + Clone + Drop>(
-    rt: &R,
+    system: &mut HostSystem<R>,
     alloc: Global,
     trail: &mut Trail,
     folder: &str,
     folders: &mut Vec<String>,
-) -> Result<(), FolderFault> {
-    let opened = trail.enter_seen(rt, alloc, folder)?;
-    for entry in fs::read_dir(rt, opened.path())? {
+) -> Result<(), FolderFault>
+    ensures kept { ⟦<HostSystem<R> as System>⟧.holds system.new ≡ ⟦<HostSystem<R> as System>⟧.holds system.old }
+{
+    trail.enter_seen(system, alloc, folder)?;
+    for entry in fs::read_dir(system.rt(), trail.current()?.path())? {
         push_folder(alloc, folder, &entry?, folders)?;
     }
     Ok(())
@@ -49,11 +57,13 @@ fn push_folders<R: Files<File = File> + AllocGlobal + Clone + Drop>(
 
 /// The folder and all below it, each above those that lie in it, where there is nothing else.
 fn folders_below<R: Files<File = File> + AllocGlobal + Clone + Drop>(
-    rt: &R,
+    system: &mut HostSystem<R>,
     alloc: Global,
     trail: &mut Trail,
     folder: &str,
-) -> Result<Vec<String>, FolderFault> {
+) -> Result<Vec<String>, FolderFault>
+    ensures kept { ⟦<HostSystem<R> as System>⟧.holds system.new ≡ ⟦<HostSystem<R> as System>⟧.holds system.old }
+{
     let mut folders = Vec::new(alloc);
     push_text(alloc, &mut folders, folder)?;
     for index in 0..MOST_NAMES {
@@ -61,7 +71,7 @@ fn folders_below<R: Files<File = File> + AllocGlobal + Clone + Drop>(
             return Ok(folders);
         };
         let folder = String::from_str(alloc, folder.as_str())?;
-        push_folders(rt, alloc, trail, folder.as_str(), &mut folders)?;
+        push_folders(system, alloc, trail, folder.as_str(), &mut folders)?;
     }
     Err(FolderFault::Device(Obstacle::TooManyNames))
 }
@@ -69,16 +79,19 @@ fn folders_below<R: Files<File = File> + AllocGlobal + Clone + Drop>(
 /// Removes the folder and those below it. Where anything but folders lies in one, nothing is
 /// removed.
 pub fn remove_folders<R: Files<File = File> + AllocGlobal + Clone + Drop>(
-    rt: &R,
+    system: &mut HostSystem<R>,
     alloc: Global,
     trail: &mut Trail,
     folder: &str,
-) -> Result<(), FolderFault> {
-    let folders = folders_below(rt, alloc, trail, folder)?;
+) -> Result<(), FolderFault>
+    ensures kept { ⟦<HostSystem<R> as System>⟧.holds system.new ≡ ⟦<HostSystem<R> as System>⟧.holds system.old }
+{
+    let folders = folders_below(system, alloc, trail, folder)?;
     for folder in folders.iter().rev() {
         let (above, name) = folder_and_name(folder.as_str());
-        let above = trail.enter_seen(rt, alloc, above)?;
-        fs::remove_dir(rt, above.path_of(alloc, name)?.as_str())?;
+        trail.enter_seen(system, alloc, above)?;
+        let path = trail.current()?.path_of(alloc, name)?;
+        fs::remove_dir(system.rt(), path.as_str())?;
     }
     Ok(())
 }

@@ -59,11 +59,13 @@ pub struct RootFolder<R: Files<File = File> + AllocGlobal + Clone + Drop> {
 }
 
 impl<R: Files<File = File> + AllocGlobal + Clone + Drop> RootFolder<R> {
-    ghost use Rattle.reuse_undo.specs.disk.FolderReads.{IsPlaceIn, current_of};
+    ghost use Rattle.reuse_undo.specs.disk.FolderReads.{IsPlaceAt, LiesIn, current_of};
+    ghost use Rattle.reuse_undo.specs.disk.Trails.{AreOpened};
 
     /// The folder at this path, in which what is written is made lasting or not.
     pub fn new(rt: R, root: String, syncs: Syncs, keeping: Keeping) -> RootFolder<R>
         ghost start: { SystemStart }
+        ensures { AreOpened (⟦<HostSystem<R> as System>⟧.folders result.system) result.trail }
     {
         let trail = Trail::new(rt.alloc(), root, keeping.process());
         let listed = String::new(rt.alloc());
@@ -99,7 +101,7 @@ impl<R: Files<File = File> + AllocGlobal + Clone + Drop> RootFolder<R> {
     /// `come_back`.
     pub fn go_to_handles(&mut self, env: &impl Env, alloc: Global) {
         self.new_file = None;
-        self.trail.go_to_handles(self.system.rt(), env, alloc);
+        self.trail.go_to_handles(&mut self.system, env, alloc);
     }
 
     /// Comes back to the folder that the process was called in.
@@ -141,11 +143,19 @@ impl<R: Files<File = File> + AllocGlobal + Clone + Drop> RootFolder<R> {
     /// What stands at the path. The folder that it lies in is entered, if it is there.
     fn look(&mut self, alloc: Global, path: &PathText) -> Result<Place, FolderFault>
         ensures kept { ⟦<HostSystem<R> as System>⟧.holds self.new.system ≡ ⟦<HostSystem<R> as System>⟧.holds self.old.system }
+        ensures still { ⟦<HostSystem<R> as System>⟧.folders self.new.system ≡ ⟦<HostSystem<R> as System>⟧.folders self.old.system }
         ensures earlier { ⟦<HostSystem<R> as System>⟧.honest self.new.system
             → ⟦<HostSystem<R> as System>⟧.honest self.old.system }
         ensures remembered { self.new.remembered ≡ self.old.remembered }
-        ensures seen { ⟦<HostSystem<R> as System>⟧.honest self.new.system
-            → IfOk result (IsPlaceIn (current_of self.new.trail) path.now (⟦<HostSystem<R> as System>⟧.holds self.new.system)) }
+        ensures opened { (⟦<HostSystem<R> as System>⟧.honest self.old.system
+            → AreOpened (⟦<HostSystem<R> as System>⟧.folders self.old.system) self.old.trail)
+            → ⟦<HostSystem<R> as System>⟧.honest self.new.system → AreOpened (⟦<HostSystem<R> as System>⟧.folders self.new.system) self.new.trail }
+        ensures lies { (⟦<HostSystem<R> as System>⟧.honest self.old.system
+            → AreOpened (⟦<HostSystem<R> as System>⟧.folders self.old.system) self.old.trail) → ⟦<HostSystem<R> as System>⟧.honest self.new.system
+            → IfOk result (LiesIn (⟦<HostSystem<R> as System>⟧.folders self.new.system) path.now (current_of self.new.trail)) }
+        ensures seen { (⟦<HostSystem<R> as System>⟧.honest self.old.system
+            → AreOpened (⟦<HostSystem<R> as System>⟧.folders self.old.system) self.old.trail) → ⟦<HostSystem<R> as System>⟧.honest self.new.system
+            → IfOk result (IsPlaceAt (⟦<HostSystem<R> as System>⟧.folders self.new.system) (⟦<HostSystem<R> as System>⟧.holds self.new.system) path.now (current_of self.new.trail)) }
         ensures kept_out { IsTrue (is_kept_out path.now) → result ≡ Ok Place.Other }
     {
         self.look_unless_seen(alloc, path, None)
@@ -159,19 +169,27 @@ impl<R: Files<File = File> + AllocGlobal + Clone + Drop> RootFolder<R> {
         seen: Option<FileStatus>,
     ) -> Result<Place, FolderFault>
         ensures kept { ⟦<HostSystem<R> as System>⟧.holds self.new.system ≡ ⟦<HostSystem<R> as System>⟧.holds self.old.system }
+        ensures still { ⟦<HostSystem<R> as System>⟧.folders self.new.system ≡ ⟦<HostSystem<R> as System>⟧.folders self.old.system }
         ensures earlier { ⟦<HostSystem<R> as System>⟧.honest self.new.system
             → ⟦<HostSystem<R> as System>⟧.honest self.old.system }
         ensures syncs { self.new.unsynced.syncs ≡ self.old.unsynced.syncs }
         ensures remembered { self.new.remembered ≡ self.old.remembered }
-        ensures seen { ⟦<HostSystem<R> as System>⟧.honest self.new.system → seen ≡ None
-            → IfOk result (IsPlaceIn (current_of self.new.trail) path.now (⟦<HostSystem<R> as System>⟧.holds self.new.system)) }
+        ensures opened { (⟦<HostSystem<R> as System>⟧.honest self.old.system
+            → AreOpened (⟦<HostSystem<R> as System>⟧.folders self.old.system) self.old.trail)
+            → ⟦<HostSystem<R> as System>⟧.honest self.new.system → AreOpened (⟦<HostSystem<R> as System>⟧.folders self.new.system) self.new.trail }
+        ensures lies { (⟦<HostSystem<R> as System>⟧.honest self.old.system
+            → AreOpened (⟦<HostSystem<R> as System>⟧.folders self.old.system) self.old.trail) → ⟦<HostSystem<R> as System>⟧.honest self.new.system
+            → IfOk result (LiesIn (⟦<HostSystem<R> as System>⟧.folders self.new.system) path.now (current_of self.new.trail)) }
+        ensures seen { (⟦<HostSystem<R> as System>⟧.honest self.old.system
+            → AreOpened (⟦<HostSystem<R> as System>⟧.folders self.old.system) self.old.trail) → ⟦<HostSystem<R> as System>⟧.honest self.new.system → seen ≡ None
+            → IfOk result (IsPlaceAt (⟦<HostSystem<R> as System>⟧.folders self.new.system) (⟦<HostSystem<R> as System>⟧.holds self.new.system) path.now (current_of self.new.trail)) }
         ensures kept_out { IsTrue (is_kept_out path.now) → result ≡ Ok Place.Other }
     {
         if is_kept_out(path.text()) {
             return Ok(Place::Other);
         }
         let (folder, name) = folder_and_name(path.text());
-        match self.trail.enter(self.system.rt(), alloc, folder)? {
+        match self.trail.enter(&mut self.system, alloc, folder)? {
             None => {}
             Some(Place::Nothing) => return self.nothing(alloc),
             Some(place) => return Ok(place),
@@ -208,7 +226,7 @@ impl<R: Files<File = File> + AllocGlobal + Clone + Drop> RootFolder<R> {
             }
         }
         self.new_file = None;
-        listing.walk(self.system.rt(), alloc, &mut self.trail, &mut self.listed)?;
+        listing.walk(&mut self.system, alloc, &mut self.trail, &mut self.listed)?;
         let (paths, mut passed) = listing.into_found();
         self.passed_over.append(&mut passed)?;
         Ok(paths)
@@ -238,7 +256,7 @@ impl<R: Files<File = File> + AllocGlobal + Clone + Drop> RootFolder<R> {
 
     /// Whose the journal is.
     pub fn journal_owners(&mut self, alloc: Global) -> Result<JournalOwners, FolderFault> {
-        journal_owners(self.system.rt(), alloc, &mut self.trail)
+        journal_owners(&mut self.system, alloc, &mut self.trail)
     }
 
     /// Whether the file at the path can be written anew: it keeps its owner, or needn't. What isn't
@@ -254,7 +272,7 @@ impl<R: Files<File = File> + AllocGlobal + Clone + Drop> RootFolder<R> {
     /// hold, whoever wrote them, and all that was put and removed here.
     pub fn sync(&mut self, alloc: Global, changes: &[Change]) -> Result<(), FolderFault> {
         self.unsynced
-            .sync(self.system.rt(), alloc, &mut self.trail, changes)
+            .sync(&mut self.system, alloc, &mut self.trail, changes)
     }
 }
 

@@ -6,6 +6,7 @@ ghost use Rattle.reuse_undo.specs.disk.Owners.{is_of_other, is_journal_of_other}
 use crate::disk::fault::FolderFault;
 use crate::disk::kept_out::{ABOVE_JOURNAL, HEAD, JOURNAL};
 use crate::disk::place::Found;
+use crate::disk::system::{HostSystem, System};
 use crate::disk::trail::Trail;
 use std::alloc::Global;
 use std::fs::File;
@@ -45,15 +46,15 @@ impl JournalOwners {
 
 /// Whose the journal below the root of this trail is. Nothing of it is read. What is opened is what
 /// is looked at, and stays open.
-pub fn journal_owners(
-    rt: &impl Files<File = File>,
+pub fn journal_owners<R: Files<File = File> + AllocGlobal + Drop>(
+    system: &mut HostSystem<R>,
     alloc: Global,
     trail: &mut Trail,
 ) -> Result<JournalOwners, FolderFault> {
-    let above = folder_owner(rt, alloc, trail, ABOVE_JOURNAL)?;
-    let folder = folder_owner(rt, alloc, trail, JOURNAL)?;
+    let above = folder_owner(system, alloc, trail, ABOVE_JOURNAL)?;
+    let folder = folder_owner(system, alloc, trail, JOURNAL)?;
     let head = match folder {
-        Some(_) => match trail.current()?.look(rt, alloc, HEAD)? {
+        Some(_) => match trail.current()?.look(system.rt(), alloc, HEAD)? {
             Found::File(status) => Some(status.owner.user),
             _ => None,
         },
@@ -66,13 +67,13 @@ pub fn journal_owners(
     })
 }
 
-fn folder_owner(
-    rt: &impl Files<File = File>,
+fn folder_owner<S: System>(
+    system: &mut S,
     alloc: Global,
     trail: &mut Trail,
     folder: &str,
 ) -> Result<Option<u32>, FolderFault> {
-    match trail.enter(rt, alloc, folder)? {
+    match trail.enter(system, alloc, folder)? {
         None => Ok(Some(trail.current()?.owner().user)),
         Some(_) => Ok(None),
     }

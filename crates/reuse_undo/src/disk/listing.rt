@@ -8,6 +8,7 @@ ghost use Rattle.reuse_undo.specs.disk.KeptOut.{is_kept_out};
 use crate::disk::empty_folders::path_in;
 use crate::disk::fault::{FolderFault, Obstacle};
 use crate::disk::kept_out::{is_folder_kept_out, is_kept_out};
+use crate::disk::system::{HostSystem, System};
 use crate::disk::trail::Trail;
 use reuse_tree::{NoPruning, PathText, Pruning};
 use std::alloc::{AllocError, Global};
@@ -105,15 +106,17 @@ impl<'a, P: Pruning> Listing<'a, P> {
     /// Takes in the names of one folder, which is the root where it is empty.
     fn look_into<R: Files<File = File> + AllocGlobal + Clone + Drop>(
         &mut self,
-        rt: &R,
+        system: &mut HostSystem<R>,
         alloc: Global,
         trail: &mut Trail,
         folder: &str,
-    ) -> Result<(), FolderFault> {
-        let Some(opened) = trail.enter_listed(rt, alloc, folder)? else {
+    ) -> Result<(), FolderFault>
+        ensures kept { ⟦<HostSystem<R> as System>⟧.holds system.new ≡ ⟦<HostSystem<R> as System>⟧.holds system.old }
+    {
+        if !trail.enter_listed(system, alloc, folder)? {
             return Ok(());
-        };
-        for entry in fs::read_dir(rt, opened.path())? {
+        }
+        for entry in fs::read_dir(system.rt(), trail.current()?.path())? {
             self.take(alloc, folder, &entry?)?;
         }
         Ok(())
@@ -123,16 +126,18 @@ impl<'a, P: Pruning> Listing<'a, P> {
     /// that was looked at last, where a listing that fails has failed.
     pub fn walk<R: Files<File = File> + AllocGlobal + Clone + Drop>(
         &mut self,
-        rt: &R,
+        system: &mut HostSystem<R>,
         alloc: Global,
         trail: &mut Trail,
         last: &mut String,
-    ) -> Result<(), FolderFault> {
+    ) -> Result<(), FolderFault>
+        ensures kept { ⟦<HostSystem<R> as System>⟧.holds system.new ≡ ⟦<HostSystem<R> as System>⟧.holds system.old }
+    {
         for _ in 0..=MOST_NAMES {
             match self.next_folder() {
                 Some(folder) => {
                     *last = folder;
-                    self.look_into(rt, alloc, trail, last.as_str())?;
+                    self.look_into(system, alloc, trail, last.as_str())?;
                 }
                 None => return Ok(()),
             }
@@ -154,15 +159,17 @@ impl<'a, P: Pruning> Listing<'a, P> {
 /// The paths of the regular files below this folder, in byte order. `last` becomes the folder that
 /// was looked at last, where a listing that fails has failed.
 pub fn list_below<R: Files<File = File> + AllocGlobal + Clone + Drop>(
-    rt: &R,
+    system: &mut HostSystem<R>,
     alloc: Global,
     trail: &mut Trail,
     folder: &str,
     last: &mut String,
-) -> Result<Vec<PathText>, FolderFault> {
+) -> Result<Vec<PathText>, FolderFault>
+    ensures kept { ⟦<HostSystem<R> as System>⟧.holds system.new ≡ ⟦<HostSystem<R> as System>⟧.holds system.old }
+{
     let mut listing = Listing::new(alloc, &NoPruning);
     listing.take_folder(alloc, folder)?;
-    listing.walk(rt, alloc, trail, last)?;
+    listing.walk(system, alloc, trail, last)?;
     let (paths, _) = listing.into_found();
     Ok(paths)
 }

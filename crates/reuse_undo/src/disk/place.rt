@@ -1,7 +1,7 @@
 //! What stands at a path below a root. No link is followed.
 ghost use Rattle.std.specs.Prelude.{◌≡◌};
 ghost use Rattle.reuse_undo.specs.disk.Owners.{rights_of_mode};
-ghost use Rattle.reuse_undo.specs.disk.Names.{IsNameOf};
+ghost use Rattle.reuse_undo.specs.disk.Names.{IsNameOf, IsSplit};
 
 use crate::disk::fault::FolderFault;
 use crate::disk::owner::{Owner, Rights};
@@ -215,7 +215,8 @@ impl Found {
 
 /// The folder that the path lies in, which is empty for the root, and the name there.
 pub fn folder_and_name(path: &str) -> (&str, &str)
-    ensures { IsNameOf path.now result.1.now }
+    ensures name { IsNameOf path.now result.1.now }
+    ensures split { IsSplit path.now result.0.now result.1.now }
 {
     path.rsplit_once('/').unwrap_or(("", path))
 }

@@ -20,9 +20,7 @@ use crate::disk::trail::Trail;
 use reuse_tree::Change;
 use std::alloc::{AllocError, Global};
 use std::collections::BTreeSet;
-use std::fs::File;
 use std::io;
-use std::rt::Files;
 
 /// Whether what is written is made lasting.
 #[derive(Clone, Copy, Debug, PartialEq, Eq)]
@@ -129,9 +127,9 @@ impl Unsynced {
 
     /// A barrier: makes lasting the names in the journal's folder, in the folders above the paths
     /// of the changes, and in all folders that are noted.
-    pub fn sync<R: Files<File = File>>(
+    pub fn sync<S: System>(
         &mut self,
-        rt: &R,
+        system: &mut S,
         alloc: Global,
         trail: &mut Trail,
         changes: &[Change],
@@ -149,7 +147,7 @@ impl Unsynced {
         if let Some(obstacle) = self.failed {
             return Err(FolderFault::Device(obstacle));
         }
-        let synced = self.sync_all(rt, alloc, trail, changes);
+        let synced = self.sync_all(system, alloc, trail, changes);
         match synced {
             Ok(()) => {
                 self.folders.clear();
@@ -161,9 +159,9 @@ impl Unsynced {
         synced
     }
 
-    fn sync_all<R: Files<File = File>>(
+    fn sync_all<S: System>(
         &mut self,
-        rt: &R,
+        system: &mut S,
         alloc: Global,
         trail: &mut Trail,
         changes: &[Change],
@@ -171,10 +169,11 @@ impl Unsynced {
         ensures failed { self.new.failed ≡ self.old.failed }
     {
         self.note_changes(alloc, changes)?;
-        let there = self.folders_there(rt, alloc, trail)?;
+        let there = self.folders_there(system, alloc, trail)?;
         for folder in &there {
             self.set_last(folder.as_str());
-            trail.enter_seen(rt, alloc, folder.as_str())?.sync()?;
+            trail.enter_seen(system, alloc, folder.as_str())?;
+            trail.current()?.sync()?;
         }
         Ok(())
     }
@@ -195,15 +194,15 @@ impl Unsynced {
 
     /// The folders that are noted, each once. In place of one that isn't there stands the nearest
     /// one above it that is.
-    fn folders_there<R: Files<File = File>>(
+    fn folders_there<S: System>(
         &self,
-        rt: &R,
+        system: &mut S,
         alloc: Global,
         trail: &mut Trail,
     ) -> Result<BTreeSet<String>, FolderFault> {
         let mut there = BTreeSet::new(alloc);
         for folder in &self.folders {
-            trail.enter(rt, alloc, folder.as_str())?;
+            trail.enter(system, alloc, folder.as_str())?;
             let nearest = String::from_str(alloc, trail.path())?;
             there.insert(nearest).map_err(AllocError::from)?;
         }

@@ -1,8 +1,9 @@
-//! The calls of the system that change regular files, look at them or read them: what they make of
-//! these, and what they tell of them. What a call says holds as long as nobody else writes in the
-//! folders.
+//! The calls of the system that open folders, and those that change regular files, look at them or
+//! read them: what they make of these, and what they tell of them. What a call tells holds as long
+//! as nobody else writes in the folders.
 ghost use Rattle.std.specs.Prelude.{◌≡◌, IfOk, IfSome, MatchResult};
 ghost use Rattle.reuse_undo.specs.disk.FileStates.{FileState};
+ghost use Rattle.reuse_undo.specs.disk.Folders.{Folders};
 
 mod host;
 mod make_file;
@@ -10,9 +11,10 @@ mod open_file;
 mod record;
 
 use crate::disk::fault::FolderFault;
-use crate::disk::handle::OpenFolder;
+use crate::disk::handle::{Below, OpenFolder, Start};
 use crate::disk::owner::Owner;
 use crate::disk::place::{FileStatus, Found, Identity, kept_bits};
+use crate::disk::process::ProcessIds;
 pub use host::HostSystem;
 use reuse_tree::Reading;
 use std::alloc::Global;
@@ -64,15 +66,18 @@ pub struct OpenedFile {
     name: String,
 }
 
-/// The calls of the system on files. What a look or a reading tells of them holds where the system
-/// is honest after the call; what is said of `holds` holds always.
+/// The calls of the system on folders and files. What a call tells of them holds if the system is
+/// honest after the call; what is said of `holds` and `folders` holds always.
 pub trait System {
-    ghost use Rattle.reuse_undo.specs.disk.SystemLaws.{IsAlikeBut, IsAlikeButFile, IsMade, IsAppended, IsSynced, IsRenamed, IsRemoved, MayBeRenamed, IsSeen, IsReadOf};
+    ghost use Rattle.reuse_undo.specs.disk.SystemLaws.{IsAlikeBut, IsAlikeButFile, IsMade, IsAppended, IsSynced, IsRenamed, IsRemoved, MayBeRenamed, IsSeen, IsReadOf, IsOpenedBelow};
     ghost use Rattle.reuse_undo.specs.disk.Asides.{name_in, place_of, opened_at, key_of};
     ghost use Rattle.reuse_undo.specs.disk.Within.{IsWithin};
 
     /// The regular file that each name in a folder leads to.
     ghost holds: { Self → FileState };
+
+    /// The root, and what else names lead to.
+    ghost folders: { Self → Folders };
 
     /// So far nobody else has written in the folders, and what was told of a file is what it is. A
     /// call can lose this, and never gain it.
@@ -114,9 +119,36 @@ pub trait System {
             (λ _. IsRemoved (name_in folder.now name.now) (holds self.old) (holds self.new))
             (λ _. IsAlikeBut (name_in folder.now name.now) (holds self.old) (holds self.new)) };
 
+    /// Opens the root, which is at this path.
+    fn open_root(
+        &mut self,
+        alloc: Global,
+        path: &str,
+        process: ProcessIds,
+        start: Start,
+    ) -> Result<OpenFolder, FolderFault>
+        ensures kept { holds self.new ≡ holds self.old }
+        ensures still { folders self.new ≡ folders self.old }
+        ensures earlier { honest self.new → honest self.old }
+        ensures root { honest self.new → IfOk result (λ folder. folder.identity ≡ (folders self.new).root) };
+
+    /// The folder of this name, opened, or what stands there in its place.
+    fn open_below(
+        &mut self,
+        alloc: Global,
+        above: &OpenFolder,
+        name: &str,
+    ) -> Result<Below, FolderFault>
+        ensures kept { holds self.new ≡ holds self.old }
+        ensures still { folders self.new ≡ folders self.old }
+        ensures earlier { honest self.new → honest self.old }
+        ensures opened { honest self.new
+            → IsOpenedBelow (folders self.new) (holds self.new) above.now.identity name.now result };
+
     /// What stands at this name. No link is followed.
     fn look(&mut self, folder: &OpenFolder, name: &str) -> Result<Found, FolderFault>
         ensures kept { holds self.new ≡ holds self.old }
+        ensures still { folders self.new ≡ folders self.old }
         ensures earlier { honest self.new → honest self.old }
         ensures seen { honest self.new → IsSeen (holds self.new (name_in folder.now name.now)) result };
 
@@ -140,6 +172,7 @@ pub trait System {
         limit: usize,
     ) -> Result<Reading, FolderFault>
         ensures kept { holds self.new ≡ holds self.old }
+        ensures still { folders self.new ≡ folders self.old }
         ensures earlier { honest self.new → honest self.old }
         ensures within { IfOk result (IsWithin limit) }
         ensures read { honest self.new → IsReadOf said limit (holds self.new (opened_at opened)) result };

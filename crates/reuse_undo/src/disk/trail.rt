@@ -1,8 +1,10 @@
 //! The folders that are open: the root, and those along the path that was worked in last. Calls
 //! come in the order of their paths, so most find their folder open. A folder is opened through the
 //! handle of the one above it.
-ghost use Rattle.std.specs.Prelude.{◌≡◌, IfOk, IfSome, Some};
+ghost use Rattle.std.specs.Prelude.{◌≡◌, ◌∷◌, [], IfOk, IfSome, MatchOption, Some, string_bytes};
 ghost use Rattle.reuse_undo.specs.disk.FolderPlaces.{IsNoFile};
+ghost use Rattle.reuse_undo.specs.disk.Folders.{Folders, folder_along, folder_at};
+ghost use Rattle.reuse_undo.specs.disk.Trails.{IsNext, IsRest};
 
 use crate::disk::empty_folders::path_in;
 use crate::disk::fault::{FolderFault, Obstacle};
@@ -12,6 +14,7 @@ use crate::disk::origin::Origin;
 use crate::disk::place::{Found, Place, folder_and_name};
 use crate::disk::process::ProcessIds;
 use crate::disk::syncs::Unsynced;
+use crate::disk::system::{HostSystem, System};
 use std::alloc::{AllocError, Global};
 use std::fs::{self, File};
 use std::rt::{Env, Files};
@@ -41,10 +44,13 @@ pub struct Trail {
 
 impl Trail {
     ghost use Rattle.reuse_undo.specs.disk.FolderReads.{current_of};
+    ghost use Rattle.reuse_undo.specs.disk.Trails.{AreOpened, HasNoSlash, IsEntered, IsOnWay, path_of};
 
     /// The trail of this process that begins at the root of this path. Nothing is asked of the
     /// system yet.
-    pub fn new(alloc: Global, root: String, process: ProcessIds) -> Trail {
+    pub fn new(alloc: Global, root: String, process: ProcessIds) -> Trail
+        ensures { result.steps.items ≡ [] }
+    {
         Trail {
             root,
             process,
@@ -56,11 +62,16 @@ impl Trail {
     /// Goes to where the system shows the handles of the process, so that paths through open
     /// folders are short, until `come_back`. If the root can't be opened, or handles aren't shown,
     /// the process stays where it is.
-    pub fn go_to_handles(&mut self, rt: &impl Files<File = File>, env: &impl Env, alloc: Global) {
-        if self.go_back(rt, alloc, "").is_err() || self.is_by_path() {
+    pub fn go_to_handles<R: Files<File = File> + AllocGlobal + Drop>(
+        &mut self,
+        system: &mut HostSystem<R>,
+        env: &impl Env,
+        alloc: Global,
+    ) {
+        if self.go_back(system, alloc, "").is_err() || self.is_by_path() {
             return;
         }
-        self.origin = Origin::leave(rt, env, alloc, self.process);
+        self.origin = Origin::leave(system.rt(), env, alloc, self.process);
         self.tell_from_start(alloc);
     }
 
@@ -112,40 +123,63 @@ impl Trail {
     }
 
     /// The path of that folder, which is empty for the root.
-    pub fn path(&self) -> &str {
+    pub fn path(&self) -> &str
+        ensures { result.now ≡ path_of self.now }
+    {
         match self.steps.last() {
             Some(step) => step.path.as_str(),
             None => "",
         }
     }
 
-    /// Opens the root, and closes the folders that aren't on the way to this one.
-    fn go_back(
-        &mut self,
-        rt: &impl Files<File = File>,
-        alloc: Global,
-        folder: &str,
-    ) -> Result<(), FolderFault> {
-        if self.steps.is_empty() {
-            let path = self.root_path(alloc)?;
-            let root = OpenFolder::root(rt, alloc, path.as_str(), self.process, self.start())?;
-            self.push(String::new(alloc), root)?;
+    /// Opens the root, if no folder is open.
+    fn open_root<S: System>(&mut self, system: &mut S, alloc: Global) -> Result<(), FolderFault>
+        ensures kept { S.holds system.new ≡ S.holds system.old }
+        ensures still { S.folders system.new ≡ S.folders system.old }
+        ensures earlier { S.honest system.new → S.honest system.old }
+        ensures opened { (S.honest system.old → AreOpened (S.folders system.old) self.old)
+            → S.honest system.new → AreOpened (S.folders system.new) self.new }
+    {
+        if !self.steps.is_empty() {
+            return Ok(());
         }
+        let path = self.root_path(alloc)?;
+        let root = system.open_root(alloc, path.as_str(), self.process, self.start())?;
+        Ok(self.push(String::new(alloc), root)?)
+    }
+
+    /// Opens the root, and closes the folders that aren't on the way to this one. Gives what of its
+    /// path lies below the one that was entered last.
+    fn go_back<'a, S: System>(
+        &mut self,
+        system: &mut S,
+        alloc: Global,
+        folder: &'a str,
+    ) -> Result<&'a str, FolderFault>
+        ensures kept { S.holds system.new ≡ S.holds system.old }
+        ensures still { S.folders system.new ≡ S.folders system.old }
+        ensures earlier { S.honest system.new → S.honest system.old }
+        ensures opened { (S.honest system.old → AreOpened (S.folders system.old) self.old)
+            → S.honest system.new → AreOpened (S.folders system.new) self.new }
+        ensures way { (S.honest system.old → AreOpened (S.folders system.old) self.old) → S.honest system.new
+            → IfOk result (λ rest. IsOnWay (S.folders system.new) (S.holds system.new) (current_of self.new) rest.now folder.now) }
+    {
+        self.open_root(system, alloc)?;
         for _ in 0..self.steps.len() {
-            if rest_below(self.path(), folder).is_some() {
-                break;
+            if let Some(rest) = rest_below(self.path(), folder) {
+                return Ok(rest);
             }
             self.steps.pop();
         }
-        Ok(())
+        // Not reached: the first open folder is the root, and each path lies below that.
+        Err(FolderFault::Device(Obstacle::NoRoot))
     }
 
-    /// What of the path of a folder lies below the one that was entered last.
-    fn rest_of<'a>(&self, folder: &'a str) -> &'a str {
-        rest_below(self.path(), folder).unwrap_or("")
-    }
-
-    fn push(&mut self, path: String, folder: OpenFolder) -> Result<(), AllocError> {
+    fn push(&mut self, path: String, folder: OpenFolder) -> Result<(), AllocError>
+        ensures opened { (folders : Folders) → AreOpened folders self.old
+            → folder_at folders (string_bytes path) ≡ Some folder.identity → AreOpened folders self.new }
+        ensures current { IfOk result (λ _. current_of self.new ≡ Some folder.identity) }
+    {
         if self.steps.len() >= MOST_OPEN {
             self.steps.remove(1);
         }
@@ -154,12 +188,12 @@ impl Trail {
     }
 
     /// Takes a step into the folder of this name in the one that was entered last.
-    fn step_into(
-        &mut self,
-        alloc: Global,
-        name: &str,
-        folder: OpenFolder,
-    ) -> Result<(), AllocError> {
+    fn step_into(&mut self, alloc: Global, name: &str, folder: OpenFolder) -> Result<(), AllocError>
+        ensures opened { (folders : Folders) → HasNoSlash name.now → AreOpened folders self.old
+            → folder_along folders (current_of self.old) (name.now ∷ []) ≡ Some folder.identity
+            → AreOpened folders self.new }
+        ensures current { IfOk result (λ _. current_of self.new ≡ Some folder.identity) }
+    {
         let path = path_in(alloc, self.path(), name)?;
         self.push(path, folder)
     }
@@ -167,20 +201,28 @@ impl Trail {
     /// Enters the folder at this path, which is empty for the root. If a part of the path is no
     /// folder, what a path below it is; the folder that was entered last is then the one that this
     /// part would lie in.
-    pub fn enter(
+    pub fn enter<S: System>(
         &mut self,
-        rt: &impl Files<File = File>,
+        system: &mut S,
         alloc: Global,
         folder: &str,
     ) -> Result<Option<Place>, FolderFault>
-        ensures { IfOk result (λ place. IfSome place IsNoFile) }
+        ensures kept { S.holds system.new ≡ S.holds system.old }
+        ensures still { S.folders system.new ≡ S.folders system.old }
+        ensures earlier { S.honest system.new → S.honest system.old }
+        ensures no_file { IfOk result (λ place. IfSome place IsNoFile) }
+        ensures opened { (S.honest system.old → AreOpened (S.folders system.old) self.old)
+            → S.honest system.new → AreOpened (S.folders system.new) self.new }
+        ensures entered { (S.honest system.old → AreOpened (S.folders system.old) self.old) → S.honest system.new
+            → IfOk result (IsEntered (S.folders system.new) (S.holds system.new) folder.now (current_of self.new)) }
     {
-        self.go_back(rt, alloc, folder)?;
-        for name in self.rest_of(folder).split_terminator('/') {
-            match self.current()?.open_below(rt, alloc, name)? {
-                Below::Folder(folder) => self.step_into(alloc, name, folder)?,
+        let mut rest = self.go_back(system, alloc, folder)?;
+        while let Some((name, below)) = next_name(rest) {
+            match system.open_below(alloc, self.current()?, name)? {
+                Below::Folder(opened) => self.step_into(alloc, name, opened)?,
                 Below::Other(found) => return Ok(Some(found.into_place_below())),
             }
+            rest = below;
         }
         Ok(None)
     }
@@ -189,35 +231,46 @@ impl Trail {
     ///
     /// # Errors
     /// `Changing` if a part of the path is no folder; else what the system says.
-    pub fn enter_seen(
+    pub fn enter_seen<S: System>(
         &mut self,
-        rt: &impl Files<File = File>,
+        system: &mut S,
         alloc: Global,
         folder: &str,
-    ) -> Result<&OpenFolder, FolderFault> {
-        match self.enter(rt, alloc, folder)? {
-            None => self.current(),
+    ) -> Result<(), FolderFault>
+        ensures kept { S.holds system.new ≡ S.holds system.old }
+        ensures still { S.folders system.new ≡ S.folders system.old }
+        ensures earlier { S.honest system.new → S.honest system.old }
+        ensures opened { (S.honest system.old → AreOpened (S.folders system.old) self.old)
+            → S.honest system.new → AreOpened (S.folders system.new) self.new }
+        ensures entered { (S.honest system.old → AreOpened (S.folders system.old) self.old) → S.honest system.new
+            → IfOk result (λ _. folder_at (S.folders system.new) folder.now ≡ current_of self.new) }
+    {
+        match self.enter(system, alloc, folder)? {
+            None => Ok(()),
             Some(_) => Err(FolderFault::Device(Obstacle::Changing)),
         }
     }
 
-    /// Enters the folder at this path where it is to be there, unless it is a bare repository.
+    /// Enters the folder at this path where it is to be there, unless it is a bare repository: says
+    /// whether.
     ///
     /// # Errors
     /// As `enter_seen`.
-    pub fn enter_listed(
+    pub fn enter_listed<R: Files<File = File> + AllocGlobal + Drop>(
         &mut self,
-        rt: &impl Files<File = File>,
+        system: &mut HostSystem<R>,
         alloc: Global,
         folder: &str,
-    ) -> Result<Option<&OpenFolder>, FolderFault> {
-        match self.enter(rt, alloc, folder)? {
-            None => Ok(Some(self.current()?)),
+    ) -> Result<bool, FolderFault>
+        ensures kept { ⟦<HostSystem<R> as System>⟧.holds system.new ≡ ⟦<HostSystem<R> as System>⟧.holds system.old }
+    {
+        match self.enter(system, alloc, folder)? {
+            None => Ok(true),
             // What stands there is a folder that wasn't entered.
             Some(Place::Other) => {
                 let (_, name) = folder_and_name(folder);
-                match self.current()?.look(rt, alloc, name)? {
-                    Found::Folder(_) => Ok(None),
+                match self.current()?.look(system.rt(), alloc, name)? {
+                    Found::Folder(_) => Ok(false),
                     _ => Err(FolderFault::Device(Obstacle::Changing)),
                 }
             }
@@ -232,41 +285,44 @@ impl Trail {
     /// `Foreign` if a part of the path is no folder; else what the system says.
     pub fn make<R: Files<File = File> + AllocGlobal + Clone + Drop>(
         &mut self,
-        rt: &R,
+        system: &mut HostSystem<R>,
         alloc: Global,
         folder: &str,
         unsynced: &mut Unsynced,
     ) -> Result<(), FolderFault>
-        ensures { unsynced.new.syncs ≡ unsynced.old.syncs }
+        ensures kept { ⟦<HostSystem<R> as System>⟧.holds system.new ≡ ⟦<HostSystem<R> as System>⟧.holds system.old }
+        ensures syncs { unsynced.new.syncs ≡ unsynced.old.syncs }
     {
-        self.go_back(rt, alloc, folder)?;
-        for name in self.rest_of(folder).split_terminator('/') {
-            match self.open_or_make(rt, alloc, name, unsynced)? {
-                Below::Folder(folder) => self.step_into(alloc, name, folder)?,
+        let mut rest = self.go_back(system, alloc, folder)?;
+        while let Some((name, below)) = next_name(rest) {
+            match self.open_or_make(system, alloc, name, unsynced)? {
+                Below::Folder(opened) => self.step_into(alloc, name, opened)?,
                 Below::Other(_) => return Err(FolderFault::Device(Obstacle::Foreign)),
             }
+            rest = below;
         }
         Ok(())
     }
 
     fn open_or_make<R: Files<File = File> + AllocGlobal + Clone + Drop>(
         &self,
-        rt: &R,
+        system: &mut HostSystem<R>,
         alloc: Global,
         name: &str,
         unsynced: &mut Unsynced,
     ) -> Result<Below, FolderFault>
-        ensures { unsynced.new.syncs ≡ unsynced.old.syncs }
+        ensures kept { ⟦<HostSystem<R> as System>⟧.holds system.new ≡ ⟦<HostSystem<R> as System>⟧.holds system.old }
+        ensures syncs { unsynced.new.syncs ≡ unsynced.old.syncs }
     {
         let above = self.current()?;
-        match above.open_below(rt, alloc, name)? {
+        match system.open_below(alloc, above, name)? {
             Below::Other(Found::Nothing) => {
                 unsynced.note(alloc, self.path())?;
-                fs::create_dir(rt, above.path_of(alloc, name)?.as_str())?;
+                fs::create_dir(system.rt(), above.path_of(alloc, name)?.as_str())?;
                 if self.process.is_of_root() {
-                    return open_made_by_root(rt, alloc, above, name);
+                    return open_made_by_root(system.rt(), alloc, above, name);
                 }
-                above.open_below(rt, alloc, name)
+                system.open_below(alloc, above, name)
             }
             below => Ok(below),
         }
@@ -299,7 +355,9 @@ impl Trail {
 
 /// What of a path lies below this folder, without a slash before it, or none where the path isn't
 /// the folder and doesn't lie below it.
-fn rest_below<'a>(folder: &str, path: &'a str) -> Option<&'a str> {
+fn rest_below<'a>(folder: &str, path: &'a str) -> Option<&'a str>
+    ensures { IfSome result (λ rest. IsRest folder.now path.now rest.now) }
+{
     if folder.is_empty() {
         return Some(path);
     }
@@ -308,4 +366,14 @@ fn rest_below<'a>(folder: &str, path: &'a str) -> Option<&'a str> {
         return Some(rest);
     }
     rest.strip_prefix('/')
+}
+
+/// The name that a path begins with, and what lies behind that and its slash; none for no path.
+fn next_name(path: &str) -> Option<(&str, &str)>
+    ensures { MatchOption result (path.now ≡ []) (λ next. IsNext path.now next.0.now next.1.now) }
+{
+    if path.is_empty() {
+        return None;
+    }
+    Some(path.split_once('/').unwrap_or((path, "")))
 }

@@ -11,7 +11,7 @@ onto_append : (x : ℕ) (xss yss : List (List ℕ)) → xss ≢ [] → onto_firs
 onto_append x [] yss some = absurd (some refl)
 onto_append x (xs ∷ xss) yss some = refl
 
-between-some : (xs : List ℕ) → between_slashes xs ≢ []
+pub between-some : (xs : List ℕ) → between_slashes xs ≢ []
 between-some xs e = let count = length-slice_split (λ byte. byte == 47) xs in omega (arith, ap length e, count)
 
 split_step : (x : ℕ) (one more parts : List (List ℕ)) (b : Bool) → more ≡ one ++ parts → one ≢ [] → cond b ([] ∷ more) (onto_first x more) ≡ cond b ([] ∷ one) (onto_first x one) ++ parts
@@ -41,7 +41,7 @@ last_of-append (one ∷ next ∷ above) name = last_of-append (next ∷ above) n
 pub last_same : (above other : List (List ℕ)) (name one : List ℕ) → above ++ name ∷ [] ≡ other ++ one ∷ [] → name ≡ one
 last_same above other name one is = sym (last_of-append above name) ∙ ap last_of is ∙ last_of-append other one
 
-by_parts : (path name : List ℕ) → IsNameOf path name → (name ≡ path) ⊎ ((folder : List ℕ) × (path ≡ folder ++ 47 ∷ name)) → (above : List (List ℕ)) × (between_slashes path ≡ above ++ name ∷ [])
+pub by_parts : (path name : List ℕ) → IsNameOf path name → (name ≡ path) ⊎ ((folder : List ℕ) × (path ≡ folder ++ 47 ∷ name)) → (above : List (List ℕ)) × (between_slashes path ≡ above ++ name ∷ [])
 by_parts path name named (inl is) = ([], ap between_slashes (sym is) ∙ no_slash name named.last)
 by_parts path name named (inr at) =
     (between_slashes at.0, ap between_slashes at.1 ∙ between-append at.0 name ∙ ap (λ names. between_slashes at.0 ++ names) (no_slash name named.last))

@@ -1,8 +1,9 @@
 -- The last slash of a path.
-use Rattle.std.proofs.Common.{◌≡◌, ◌≢◌, ◌⊎◌, ◌<◌, ◌≤◌, ◌+◌, inl, inr, ℕ, List, [], ◌∷◌, ◌++◌, length, take, drop, get_or, Option, None, Some, MatchOption, Bor, refl, sym, ◌∙◌, ap, subst, arith, take-append-drop}
-use Rattle.std.proofs.lemmas.Str.Pattern.{NoCharPasses-char, drop_at_char}
+use Rattle.std.proofs.Common.{◌≡◌, ◌≢◌, ◌⊎◌, ◌<◌, ◌≤◌, ◌+◌, inl, inr, ℕ, zero, suc, false, ◌==◌, length-append, List, [], ◌∷◌, ◌++◌, length, take, drop, get_or, Option, None, Some, MatchOption, Bor, refl, sym, ◌∙◌, ap, subst, arith, take-append-drop}
+use Rattle.std.proofs.lemmas.Str.Pattern.{NoCharPasses-char, drop_at_char, split_parts, IsSplitOnceResult}
 use Rattle.std.specs.Str.Pattern.{RFindsChar}
-use Rattle.reuse_undo.specs.disk.Names.{IsNameOf}
+use Rattle.reuse_undo.specs.disk.Trails.{IsNext}
+use Rattle.reuse_undo.specs.disk.Names.{IsNameOf, IsSplit}
 
 named : (text name rest : List ℕ) → name ≡ rest → (rest ≡ text) ⊎ ((folder : List ℕ) × (text ≡ folder ++ 47 ∷ rest)) → ((i : ℕ) → i < length rest → get_or rest i 0 ≢ 47) → IsNameOf text name
 named text name rest e behind last = rw e (record { behind = behind; last = last })
@@ -18,3 +19,36 @@ name_behind text name (Some x) h e =
     named text name (drop j text) (e ∙ h.4)
     (inr (take i text, sym (take-append-drop i text) ∙ ap (λ l. take i text ++ l) (drop_at_char 47 text i j h.2.1 (omega arith))))
     (λ n short. NoCharPasses-char 47 (drop j text) n h.2.0 (omega arith) short)
+
+split : (text folder name above rest : List ℕ) → folder ≡ above → name ≡ rest → ((above ≡ []) × (rest ≡ text)) ⊎ (text ≡ above ++ 47 ∷ rest)
+    → ((i : ℕ) → i < length rest → get_or rest i 0 ≢ 47) → IsSplit text folder name
+split text folder name above rest same e parts last = rw (same, e) (record { parts = parts; last = last })
+
+-- the same of the folder before it
+pub split_behind : (text folder name : List ℕ) (r : Option (Bor (List ℕ) × Bor (List ℕ)))
+    → MatchOption r (RFindsChar 47 text None) (λ x. (i : ℕ) × (j : ℕ) × RFindsChar 47 text (Some (i, j)) × (x.0.now ≡ take i text) × (x.1.now ≡ drop j text) × (i ≤ j) × (length x.0.now ≡ i) × (length x.1.now + j ≡ length text))
+    → MatchOption r (folder ≡ []) (λ x. folder ≡ x.0.now) → MatchOption r (name ≡ text) (λ x. name ≡ x.1.now) → IsSplit text folder name
+split_behind text folder name None none same e = split text folder name [] text same e (inl (refl, refl)) (λ i short. NoCharPasses-char 47 text i none (omega arith) short)
+split_behind text folder name (Some x) h same e =
+    let i = h.0 in
+    let j = h.1 in
+    split text folder name (take i text) (drop j text) (same ∙ h.3) (e ∙ h.4)
+    (inr (sym (take-append-drop i text) ∙ ap (λ l. take i text ++ l) (drop_at_char 47 text i j h.2.1 (omega arith))))
+    (λ n short. NoCharPasses-char 47 (drop j text) n h.2.0 (omega arith) short)
+
+next : (text name rest front behind : List ℕ) → name ≡ front → rest ≡ behind → (text ≡ front ++ 47 ∷ behind) ⊎ ((text ≡ front) × (behind ≡ []))
+    → ((i : ℕ) → i < length front → get_or front i 0 ≢ 47) → length behind < length text → IsNext text name rest
+next text name rest front behind e same parts last less = rw (e, same) (record { parts = parts; has_no_slash = last; is_shorter = less })
+
+-- takes a clause of `split_once` at a slash
+pub next_of : (text name rest : List ℕ) (r : Option (Bor (List ℕ) × Bor (List ℕ))) → IsSplitOnceResult 47 text r → 0 < length text
+    → MatchOption r (name ≡ text) (λ x. name ≡ x.0.now) → MatchOption r (rest ≡ []) (λ x. rest ≡ x.1.now) → IsNext text name rest
+next_of text name rest None h some e same = next text name rest text [] e same (inr (refl, refl)) (split_parts 47 text None h (omega arith)) some
+next_of text name rest (Some x) h some e same =
+    let parts = split_parts 47 text (Some x) h (omega arith) in
+    let long : length text ≡ length x.0.now + suc (length x.1.now) = ap length parts.0 ∙ length-append x.0.now (47 ∷ x.1.now) in
+    next text name rest x.0.now x.1.now e same (inl parts.0) parts.1 (omega (arith, long))
+
+pub some_length : (n : ℕ) → (n == 0) ≡ false → 0 < n
+some_length zero e = absurd (cc)
+some_length (suc n) e = omega arith

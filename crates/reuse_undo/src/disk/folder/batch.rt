@@ -146,15 +146,13 @@ impl<R: Files<File = File> + AllocGlobal + Clone + Drop> RootFolder<R> {
         let found = self.make_room(alloc, write.path, seen.next_at(write.path))?;
         self.unsynced.note(alloc, folder)?;
         let mut new_file = self.take_new_file(alloc)?;
-        let target = match self.trail.enter_seen(self.system.rt(), alloc, folder) {
-            Ok(target) => target,
-            Err(fault) => {
-                // The new files before this one are still to be named, by the folder that it holds
-                // open.
-                self.new_file = Some(new_file);
-                return Err(fault);
-            }
-        };
+        if let Err(fault) = self.trail.enter_seen(&mut self.system, alloc, folder) {
+            // The new files before this one are still to be named, by the folder that it holds
+            // open.
+            self.new_file = Some(new_file);
+            return Err(fault);
+        }
+        let target = self.trail.current()?;
         let content = Content {
             parts,
             wanted: self.keeping.wanted(target, found),
@@ -214,8 +212,9 @@ impl<R: Files<File = File> + AllocGlobal + Clone + Drop> RootFolder<R> {
     ) -> Result<(), FolderFault> {
         let path = write.path.text();
         let (folder, name) = folder_and_name(path);
+        self.trail.enter_seen(&mut self.system, alloc, folder)?;
         let target = Target {
-            folder: self.trail.enter_seen(self.system.rt(), alloc, folder)?,
+            folder: self.trail.current()?,
             name,
             path,
         };

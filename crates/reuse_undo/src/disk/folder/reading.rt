@@ -18,7 +18,8 @@ use std::rt::Files;
 const MOST_SEEN: usize = 1_024;
 
 impl<R: Files<File = File> + AllocGlobal + Clone + Drop> RootFolder<R> {
-    ghost use Rattle.reuse_undo.specs.disk.FolderReads.{IsPlaceIn, IsReadIn, current_of};
+    ghost use Rattle.reuse_undo.specs.disk.FolderReads.{IsPlaceAt, IsReadAt, IsReadIn, LiesIn, current_of};
+    ghost use Rattle.reuse_undo.specs.disk.Trails.{AreOpened};
 
     /// The bytes of the regular file at the path, where they are at most `limit`. One that is longer
     /// isn't opened, so it needn't be readable.
@@ -31,11 +32,16 @@ impl<R: Files<File = File> + AllocGlobal + Clone + Drop> RootFolder<R> {
         ensures within { IfOk result (IsWithin limit) }
         ensures kept_out { IsTrue (is_kept_out path.now) → IfOk result (λ reading. reading ≡ Reading.Absent) }
         ensures kept { ⟦<HostSystem<R> as System>⟧.holds self.new.system ≡ ⟦<HostSystem<R> as System>⟧.holds self.old.system }
+        ensures still { ⟦<HostSystem<R> as System>⟧.folders self.new.system ≡ ⟦<HostSystem<R> as System>⟧.folders self.old.system }
         ensures earlier { ⟦<HostSystem<R> as System>⟧.honest self.new.system
             → ⟦<HostSystem<R> as System>⟧.honest self.old.system }
+        ensures opened { (⟦<HostSystem<R> as System>⟧.honest self.old.system
+            → AreOpened (⟦<HostSystem<R> as System>⟧.folders self.old.system) self.old.trail)
+            → ⟦<HostSystem<R> as System>⟧.honest self.new.system → AreOpened (⟦<HostSystem<R> as System>⟧.folders self.new.system) self.new.trail }
         // Of a file that is remembered the bytes aren't read again.
-        ensures read { ⟦<HostSystem<R> as System>⟧.honest self.new.system → self.old.remembered.files.items ≡ []
-            → IfOk result (IsReadIn path.now limit (⟦<HostSystem<R> as System>⟧.holds self.new.system)) }
+        ensures read { (⟦<HostSystem<R> as System>⟧.honest self.old.system
+            → AreOpened (⟦<HostSystem<R> as System>⟧.folders self.old.system) self.old.trail) → ⟦<HostSystem<R> as System>⟧.honest self.new.system → self.old.remembered.files.items ≡ []
+            → IfOk result (IsReadAt (⟦<HostSystem<R> as System>⟧.folders self.new.system) (⟦<HostSystem<R> as System>⟧.holds self.new.system) path.now limit) }
     {
         let Place::File(status) = self.look(alloc, path)? else {
             return Ok(Reading::Absent);
@@ -83,15 +89,43 @@ impl<R: Files<File = File> + AllocGlobal + Clone + Drop> RootFolder<R> {
     ) -> Result<Reading, FolderFault>
         ensures within { IfOk result (IsWithin limit) }
         ensures kept { ⟦<HostSystem<R> as System>⟧.holds self.new.system ≡ ⟦<HostSystem<R> as System>⟧.holds self.old.system }
+        ensures still { ⟦<HostSystem<R> as System>⟧.folders self.new.system ≡ ⟦<HostSystem<R> as System>⟧.folders self.old.system }
         ensures earlier { ⟦<HostSystem<R> as System>⟧.honest self.new.system
             → ⟦<HostSystem<R> as System>⟧.honest self.old.system }
-        ensures read { ⟦<HostSystem<R> as System>⟧.honest self.new.system
-            → IsPlaceIn (current_of self.old.trail) path.now (⟦<HostSystem<R> as System>⟧.holds self.old.system) (Place.File status)
-            → IfOk result (IsReadIn path.now limit (⟦<HostSystem<R> as System>⟧.holds self.new.system)) }
+        ensures opened { (⟦<HostSystem<R> as System>⟧.honest self.old.system
+            → AreOpened (⟦<HostSystem<R> as System>⟧.folders self.old.system) self.old.trail)
+            → ⟦<HostSystem<R> as System>⟧.honest self.new.system → AreOpened (⟦<HostSystem<R> as System>⟧.folders self.new.system) self.new.trail }
+        ensures read { (⟦<HostSystem<R> as System>⟧.honest self.old.system
+            → AreOpened (⟦<HostSystem<R> as System>⟧.folders self.old.system) self.old.trail) → ⟦<HostSystem<R> as System>⟧.honest self.new.system
+            → LiesIn (⟦<HostSystem<R> as System>⟧.folders self.old.system) path.now (current_of self.old.trail) (Place.File status)
+            → IsPlaceAt (⟦<HostSystem<R> as System>⟧.folders self.old.system) (⟦<HostSystem<R> as System>⟧.holds self.old.system) path.now (current_of self.old.trail) (Place.File status)
+            → IfOk result (IsReadAt (⟦<HostSystem<R> as System>⟧.folders self.new.system) (⟦<HostSystem<R> as System>⟧.holds self.new.system) path.now limit) }
     {
-        if let Some(reading) = self.read_anew(alloc, path, limit, status)? {
-            return Ok(reading);
+        match self.read_anew(alloc, path, limit, status)? {
+            Some(reading) => Ok(reading),
+            None => self.read_again(alloc, path, limit),
         }
+    }
+
+    /// Looks at the path once more, and reads the file that is there now.
+    fn read_again(
+        &mut self,
+        alloc: Global,
+        path: &PathText,
+        limit: usize,
+    ) -> Result<Reading, FolderFault>
+        ensures within { IfOk result (IsWithin limit) }
+        ensures kept { ⟦<HostSystem<R> as System>⟧.holds self.new.system ≡ ⟦<HostSystem<R> as System>⟧.holds self.old.system }
+        ensures still { ⟦<HostSystem<R> as System>⟧.folders self.new.system ≡ ⟦<HostSystem<R> as System>⟧.folders self.old.system }
+        ensures earlier { ⟦<HostSystem<R> as System>⟧.honest self.new.system
+            → ⟦<HostSystem<R> as System>⟧.honest self.old.system }
+        ensures opened { (⟦<HostSystem<R> as System>⟧.honest self.old.system
+            → AreOpened (⟦<HostSystem<R> as System>⟧.folders self.old.system) self.old.trail)
+            → ⟦<HostSystem<R> as System>⟧.honest self.new.system → AreOpened (⟦<HostSystem<R> as System>⟧.folders self.new.system) self.new.trail }
+        ensures read { (⟦<HostSystem<R> as System>⟧.honest self.old.system
+            → AreOpened (⟦<HostSystem<R> as System>⟧.folders self.old.system) self.old.trail) → ⟦<HostSystem<R> as System>⟧.honest self.new.system
+            → IfOk result (IsReadAt (⟦<HostSystem<R> as System>⟧.folders self.new.system) (⟦<HostSystem<R> as System>⟧.holds self.new.system) path.now limit) }
+    {
         let Place::File(status) = self.look(alloc, path)? else {
             return Ok(Reading::Absent);
         };
@@ -113,11 +147,13 @@ impl<R: Files<File = File> + AllocGlobal + Clone + Drop> RootFolder<R> {
     ) -> Result<Option<Reading>, FolderFault>
         ensures within { IfOk result (λ read. IfSome read (IsWithin limit)) }
         ensures kept { ⟦<HostSystem<R> as System>⟧.holds self.new.system ≡ ⟦<HostSystem<R> as System>⟧.holds self.old.system }
+        ensures still { ⟦<HostSystem<R> as System>⟧.folders self.new.system ≡ ⟦<HostSystem<R> as System>⟧.folders self.old.system }
         ensures earlier { ⟦<HostSystem<R> as System>⟧.honest self.new.system
             → ⟦<HostSystem<R> as System>⟧.honest self.old.system }
+        ensures trail { self.new.trail ≡ self.old.trail }
         ensures read { ⟦<HostSystem<R> as System>⟧.honest self.new.system
-            → IsPlaceIn (current_of self.old.trail) path.now (⟦<HostSystem<R> as System>⟧.holds self.old.system) (Place.File status)
-            → IfOk result (λ read. IfSome read (IsReadIn path.now limit (⟦<HostSystem<R> as System>⟧.holds self.new.system))) }
+            → IsPlaceAt (⟦<HostSystem<R> as System>⟧.folders self.old.system) (⟦<HostSystem<R> as System>⟧.holds self.old.system) path.now (current_of self.old.trail) (Place.File status)
+            → IfOk result (λ read. IfSome read (IsReadIn (current_of self.old.trail) path.now limit (⟦<HostSystem<R> as System>⟧.holds self.old.system))) }
     {
         if status.len > limit as u64 {
             self.note_read(alloc, path, status)?;
@@ -142,7 +178,8 @@ impl<R: Files<File = File> + AllocGlobal + Clone + Drop> RootFolder<R> {
         status: FileStatus,
         reading: &Reading,
     ) -> Result<(), AllocError>
-        ensures { self.new.system ≡ self.old.system }
+        ensures system { self.new.system ≡ self.old.system }
+        ensures trail { self.new.trail ≡ self.old.trail }
     {
         if let Reading::Found(bytes) = reading
             && self.remembered.note(alloc, path, &status, bytes)
@@ -159,7 +196,8 @@ impl<R: Files<File = File> + AllocGlobal + Clone + Drop> RootFolder<R> {
         path: &PathText,
         status: FileStatus,
     ) -> Result<(), AllocError>
-        ensures { self.new.system ≡ self.old.system }
+        ensures system { self.new.system ≡ self.old.system }
+        ensures trail { self.new.trail ≡ self.old.trail }
     {
         if self.reads.len() >= MOST_SEEN {
             self.reads.clear();

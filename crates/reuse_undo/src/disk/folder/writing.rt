@@ -64,7 +64,7 @@ impl<R: Files<File = File> + AllocGlobal + Clone + Drop> RootFolder<R> {
         match self.look_unless_seen(alloc, path, seen)? {
             Place::Nothing => {
                 self.trail
-                    .make(self.system.rt(), alloc, folder, &mut self.unsynced)?;
+                    .make(&mut self.system, alloc, folder, &mut self.unsynced)?;
                 Ok(None)
             }
             Place::File(status) => {
@@ -94,8 +94,9 @@ impl<R: Files<File = File> + AllocGlobal + Clone + Drop> RootFolder<R> {
         let (folder, name) = folder_and_name(path.text());
         self.unsynced.note(alloc, folder)?;
         let mut new_file = self.take_new_file(alloc)?;
+        self.trail.enter_seen(&mut self.system, alloc, folder)?;
         let target = Target {
-            folder: self.trail.enter_seen(self.system.rt(), alloc, folder)?,
+            folder: self.trail.current()?,
             name,
             path: path.text(),
         };
@@ -144,7 +145,7 @@ impl<R: Files<File = File> + AllocGlobal + Clone + Drop> RootFolder<R> {
         ensures syncs { self.new.unsynced.syncs ≡ self.old.unsynced.syncs }
     {
         self.trail
-            .make(self.system.rt(), alloc, JOURNAL, &mut self.unsynced)?;
+            .make(&mut self.system, alloc, JOURNAL, &mut self.unsynced)?;
         let folder = self.trail.current()?.try_clone(alloc)?;
         let names = new_names(self.system.rt(), alloc, &folder)?;
         let new_file = NewFile::in_folder(alloc, folder);
@@ -154,17 +155,17 @@ impl<R: Files<File = File> + AllocGlobal + Clone + Drop> RootFolder<R> {
 
     /// Removes a folder without files, so that a file can take its place; with files it is a clash.
     fn clear_folder(&mut self, alloc: Global, path: &PathText) -> Result<(), FolderFault>
-        ensures kept { self.new.system ≡ self.old.system }
+        ensures kept { ⟦<HostSystem<R> as System>⟧.holds self.new.system ≡ ⟦<HostSystem<R> as System>⟧.holds self.old.system }
         ensures syncs { self.new.unsynced.syncs ≡ self.old.unsynced.syncs }
     {
-        let (rt, trail) = (self.system.rt(), &mut self.trail);
-        let files = list_below(rt, alloc, trail, path.text(), &mut self.listed)?;
+        let (system, trail) = (&mut self.system, &mut self.trail);
+        let files = list_below(system, alloc, trail, path.text(), &mut self.listed)?;
         if !files.is_empty() {
             return Err(FolderFault::Clash);
         }
         let (folder, _) = folder_and_name(path.text());
         self.unsynced.note(alloc, folder)?;
-        remove_folders(rt, alloc, trail, path.text())
+        remove_folders(system, alloc, trail, path.text())
     }
 
     /// Removes the regular file at the path, if there is one, and no folder.

@@ -5,8 +5,9 @@ ghost use Rattle.reuse_undo.specs.disk.SystemCall.{made_of};
 
 use crate::disk::fault::FolderFault;
 use crate::disk::file_reading::read_file;
-use crate::disk::handle::OpenFolder;
+use crate::disk::handle::{Below, OpenFolder, Start};
 use crate::disk::place::{FileStatus, Found};
+use crate::disk::process::ProcessIds;
 use crate::disk::system::make_file::make_file;
 use crate::disk::system::open_file::open_file;
 use crate::disk::system::record::{CallKind, SystemRecord};
@@ -17,9 +18,9 @@ use std::fs::{self, File};
 use std::io::{self, ErrorKind, Write};
 use std::rt::Files;
 
-/// The system that the program runs on. The files that names lead to are those of its record: those
-/// of the start, which no code knows, as the calls have left them. So the contract holds for
-/// whatever files there were.
+/// The system that the program runs on. The folders and the files that names lead to are those of
+/// its record: those of the start, which no code knows, as the calls have left them. So the contract
+/// holds for whatever folders and files there were.
 #[derive(Drop)]
 pub struct HostSystem<R: Files<File = File> + AllocGlobal + Drop> {
     rt: R,
@@ -30,12 +31,13 @@ pub struct HostSystem<R: Files<File = File> + AllocGlobal + Drop> {
 }
 
 impl<R: Files<File = File> + AllocGlobal + Drop> HostSystem<R> {
-    ghost use Rattle.reuse_undo.specs.disk.SystemCalls.{SystemStart, held_at_start};
+    ghost use Rattle.reuse_undo.specs.disk.SystemCalls.{SystemStart, folders_of, held_at_start};
 
     /// The system, of which nothing is asked yet.
     pub fn new(rt: R) -> HostSystem<R>
         ghost start: { SystemStart }
-        ensures { ⟦<HostSystem<R> as System>⟧.holds result ≡ held_at_start start.files }
+        ensures files { ⟦<HostSystem<R> as System>⟧.holds result ≡ held_at_start start.files }
+        ensures folders { ⟦<HostSystem<R> as System>⟧.folders result ≡ folders_of start.folders }
     {
         HostSystem {
             rt,
@@ -75,11 +77,13 @@ fn remove_in<R: Files<File = File> + AllocGlobal>(
 }
 
 impl<R: Files<File = File> + AllocGlobal + Drop> System for HostSystem<R> {
-    ghost use Rattle.reuse_undo.specs.disk.SystemCalls.{held_after, IsHonest};
+    ghost use Rattle.reuse_undo.specs.disk.SystemCalls.{folders_of, held_after, IsHonest};
 
     ghost holds = { λ system. held_after system.noted.files system.noted.fates system.noted.calls };
 
-    ghost honest = { λ system. IsHonest system.noted.files system.noted.fates system.noted.calls };
+    ghost folders = { λ system. folders_of system.noted.folders };
+
+    ghost honest = { λ system. IsHonest (folders_of system.noted.folders) system.noted.files system.noted.fates system.noted.calls };
 
     fn make(&mut self, folder: &OpenFolder, name: &str, mode: Option<u32>) -> io::Result<Aside> {
         let number = self.made;
@@ -124,6 +128,36 @@ impl<R: Files<File = File> + AllocGlobal + Drop> System for HostSystem<R> {
     fn remove(&mut self, folder: &OpenFolder, name: &str) -> io::Result<()> {
         let answer = remove_in(&self.rt, folder, name);
         let kind = CallKind::Remove(folder.identity(), answer.is_ok());
+        self.noted.note(&kind, name.as_bytes(), b"");
+        answer
+    }
+
+    fn open_root(
+        &mut self,
+        alloc: Global,
+        path: &str,
+        process: ProcessIds,
+        start: Start,
+    ) -> Result<OpenFolder, FolderFault> {
+        let answer = OpenFolder::root(&self.rt, alloc, path, process, start);
+        if let Ok(root) = &answer {
+            self.noted.note(&CallKind::Root(root.identity()), b"", b"");
+        }
+        answer
+    }
+
+    fn open_below(
+        &mut self,
+        alloc: Global,
+        above: &OpenFolder,
+        name: &str,
+    ) -> Result<Below, FolderFault> {
+        let answer = above.open_below(&self.rt, alloc, name);
+        let kind = match &answer {
+            Ok(Below::Folder(folder)) => CallKind::Open(above.identity(), folder.identity()),
+            Ok(Below::Other(found)) => CallKind::NoFolder(above.identity(), *found),
+            Err(_) => return answer,
+        };
         self.noted.note(&kind, name.as_bytes(), b"");
         answer
     }

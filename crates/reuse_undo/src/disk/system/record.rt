@@ -29,6 +29,12 @@ pub enum CallKind {
     Look(Identity, Result<Found, FolderFault>),
     /// A file in this folder was read, which was said to have so many bytes, up to a limit.
     Read(Identity, u64, usize, ReadKind),
+    /// The root was opened, and it is this folder.
+    Root(Identity),
+    /// A name in the first folder was opened, and it is the second one.
+    Open(Identity, Identity),
+    /// A name in this folder was to be opened, and this was told in place of a folder.
+    NoFolder(Identity, Found),
 }
 
 /// What a reading answered, but for the bytes.
@@ -40,11 +46,12 @@ pub enum ReadKind {
     Failed(FolderFault),
 }
 
-/// The files at the start, the fates of the calls to come, and the calls since then with their
+/// The folders and the files at the start, the fates of the calls to come, and the calls since then with their
 /// answers, the newest first. It takes no bytes, and nothing runs.
 #[derive(Drop)]
 pub struct SystemRecord {
     marker: PhantomData<u8>,
+    pub ghost folders: { (ℕ × ℕ) × (List (Place × (ℕ × ℕ)) × List Place) } by { coded× (coded× coded_ℕ coded_ℕ) (coded× (coded_list (coded× (coded_list coded_ℕ) (coded× coded_ℕ coded_ℕ))) (coded_list (coded_list coded_ℕ))) },
     pub ghost files: { List (Place × (ℕ × (List ℕ × Bool))) } by { coded_list (coded× (coded_list coded_ℕ) (coded× coded_ℕ (coded× (coded_list coded_ℕ) coded_bool))) },
     pub ghost fates: { List ℕ } by { coded_list coded_ℕ },
     pub ghost calls: { List SystemCall },
@@ -57,10 +64,11 @@ impl Model for SystemRecord {
 impl SystemRecord {
     ghost use Rattle.reuse_undo.specs.disk.SystemCalls.{SystemStart, call_of};
 
-    /// A record of no calls, with any files at the start and any fates of the calls to come.
+    /// A record of no calls, with any folders and files at the start and any fates of the calls to
+    /// come.
     pub fn new() -> SystemRecord
         ghost start: { SystemStart }
-        ensures { (result.files ≡ start.files) × (result.fates ≡ start.fates) × (result.calls ≡ []) }
+        ensures { (result.folders ≡ start.folders) × (result.files ≡ start.files) × (result.fates ≡ start.fates) × (result.calls ≡ []) }
     {
         SystemRecord {
             marker: PhantomData,

@@ -3,17 +3,18 @@ use Rattle.reuse_undo.proofs.lemmas.disk.FolderLemmas.{nothing_cleared, cleared_
 use Rattle.reuse_undo.proofs.disk.folder.RootFolder.open_new_file.Goals as goal
 
 pub returns-in_err-make-clause-cleared : goal.returns-in_err-make-clause-cleared
-returns-in_err-make-clause-cleared g c = nothing_cleared _ c.from_residual.result c.from_residual.ensures.0
+returns-in_err-make-clause-cleared g c = rw c.make.ensures.kept (nothing_cleared _ c.from_residual.result c.from_residual.ensures.0)
 
 pub returns-in_err-current-clause-cleared : goal.returns-in_err-current-clause-cleared
-returns-in_err-current-clause-cleared g c = nothing_cleared _ c.from_residual-in_err-current.result c.from_residual-in_err-current.ensures.0
+returns-in_err-current-clause-cleared g c = rw c.make.ensures.kept (nothing_cleared _ c.from_residual-in_err-current.result c.from_residual-in_err-current.ensures.0)
 
 pub returns-in_err-folder-clause-cleared : goal.returns-in_err-folder-clause-cleared
-returns-in_err-folder-clause-cleared g c = nothing_cleared _ c.from_residual-in_err-folder.result c.from_residual-in_err-folder.ensures.0
+returns-in_err-folder-clause-cleared g c = rw c.make.ensures.kept (nothing_cleared _ c.from_residual-in_err-folder.result c.from_residual-in_err-folder.ensures.0)
 
 pub returns-in_err-names-clause-cleared : goal.returns-in_err-names-clause-cleared
-returns-in_err-names-clause-cleared g c = nothing_cleared _ c.from_residual-in_err-names.result c.from_residual-in_err-names.ensures.0
+returns-in_err-names-clause-cleared g c = rw c.make.ensures.kept (nothing_cleared _ c.from_residual-in_err-names.result c.from_residual-in_err-names.ensures.0)
 
 pub returns-in_err-clear-clause-cleared : goal.returns-in_err-clear-clause-cleared
 returns-in_err-clear-clause-cleared g c =
-    cleared_at_error c.in_folder-new_file.result.folder.identity _ _ c.from_residual-in_err-clear.result c.from_residual-in_err-clear.ensures.0 c.clear.ensures
+    rw (← c.make.ensures.kept)
+    (cleared_at_error c.in_folder-new_file.result.folder.identity _ _ c.from_residual-in_err-clear.result c.from_residual-in_err-clear.ensures.0 c.clear.ensures)

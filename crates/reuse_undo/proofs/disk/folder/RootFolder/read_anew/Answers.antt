@@ -15,8 +15,7 @@ returns-clause-read g c honest at =
     let second = c.read.new.self.noted in
     let old = held_after first.files first.fates first.calls in
     let new = held_after second.files second.fates second.calls in
-    let was = c.in_ok-reading.ensures.read (rw c.remember.ensures at honest) in
+    let was = c.in_ok-reading.ensures.read (rw c.remember.ensures.system at honest) in
     let opened = rw c.in-Some.is at c.in_ok-file.ensures in
-    rw (c.remember.ensures, c.in_ok-reading.ensures.kept)
-    (read_in (current_of c.args.self.now.trail) folder c.args.path.now name c.args.limit old c.args.status c.in_ok-reading.reading c.in_ok-folder.ensures named at
-    (read_opened folder name (opened_at c.in-Some.file) c.args.status.len c.args.limit old new c.in_ok-reading.reading opened c.in_ok-reading.ensures.kept was))
+    read_in (current_of c.args.self.now.trail) folder c.args.path.now name c.args.limit old c.args.status c.in_ok-reading.reading c.in_ok-folder.ensures named at
+    (read_opened folder name (opened_at c.in-Some.file) c.args.status.len c.args.limit old new c.in_ok-reading.reading opened c.in_ok-reading.ensures.kept was)

@@ -18,7 +18,7 @@ use Rattle.reuse_undo.proofs.disk.system.record.SystemRecord.new.Statement.{stat
 use Rattle.reuse_undo.proofs.disk.system.record.SystemRecord.new.Code as code
 
 abbrev made : SystemStart → SystemRecord
-made start = record { marker = record {}; files = start.files; fates = start.fates; calls = [] }
+made start = record { marker = record {}; folders = start.folders; files = start.files; fates = start.fates; calls = [] }
 
 abbrev stored : Val
 stored = vstruct (vcons (vstruct vnil) vnil)
@@ -34,5 +34,5 @@ new_spec 𝓤 𝓛 𝓜 𝓡 wired =
     sets ! (agg ! (no_more !)) refl (tt, tt) $ sets ! (agg ! (and_then ! (get ! refl) (no_more !))) refl (tt, (tt, tt)) $
     returns ! (look_at ! 0 refl) $ free_all ! refl $
     pure_i ! (R.own_val (made g) (stored ∷ [])) ((λ vss. (tt, ((λ uss. (tt, tt)), tt))), tt) (((vstruct vnil ∷ [], tt), (refl, ((tt, (refl, tt)), tt))), tt) $
-    suffices ! _ (ends_at 𝓛 f.ended tt c ((κs, qs, bounds, a, tt), g) stored (made g) tt tt) $ says ! (refl, refl, refl) $
+    suffices ! _ (ends_at 𝓛 f.ended tt c ((κs, qs, bounds, a, tt), g) stored (made g) tt tt) $ says ! (refl, refl, refl, refl) $
     nothing ! $ join ! $ nothing ! $ done !))

@@ -1,0 +1,11 @@
+use Rattle.std.proofs.Common.{◌≡◌}
+use Rattle.reuse_undo.specs.disk.SystemCalls.{held_after}
+use Rattle.reuse_undo.proofs.disk.empty_folders.remove_folders.Given as goal
+
+abbrev pub invariant-loop-folder : goal.invariant-loop-folder
+invariant-loop-folder g l =
+    let now = l.system.noted in
+    let first = l.fn.system.noted in
+    (goal.iterator-loop-folder g).can_next l.folder-iterator ×
+    (goal.iterator-loop-folder g).is_finite l.folder-iterator ×
+    (held_after now.files now.fates now.calls ≡ held_after first.files first.fates first.calls)

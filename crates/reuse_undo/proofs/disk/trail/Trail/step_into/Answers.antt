@@ -1,0 +1,11 @@
+use Rattle.std.proofs.Common.{◌≡◌, ◌∷◌, [], List, ℕ, Option, None, Some, string_bytes, rules}
+use Rattle.reuse_undo.specs.disk.FolderReads.{current_of}
+use Rattle.reuse_undo.specs.disk.Folders.{folder_along, folder_at}
+use Rattle.reuse_undo.specs.disk.Trails.{path_below}
+use Rattle.reuse_undo.proofs.lemmas.disk.TrailLemmas.{step_at}
+use Rattle.reuse_undo.proofs.disk.trail.Trail.step_into.Goals as goal
+
+pub returns-clause-opened : goal.returns-clause-opened
+returns-clause-opened c folders apart opened leads =
+    c.push.ensures.opened folders opened
+    (rw (c.in_ok-path.ensures, c.path.ensures) (step_at folders c.args.self.now.steps.items c.args.name.now c.args.folder.identity apart opened leads))
