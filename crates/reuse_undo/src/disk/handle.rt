@@ -30,7 +30,7 @@ pub struct OpenFolder {
     identity: Identity,
     /// What stands before a name in the folder, where a call takes a path.
     prefix: String,
-    directions: Directions,
+    environment: Environment,
     /// Whether others than the process' user, and root, may put something else at a name in the
     /// folder.
     is_shared: bool,
@@ -47,9 +47,9 @@ pub enum Start {
     Handles,
 }
 
-/// What the system offers for all folders of a run.
+/// What holds for all folders of a run.
 #[derive(Clone, Copy)]
-struct Directions {
+struct Environment {
     /// Whether the system shows a handle as a path, so that calls go through it.
     is_shown: bool,
     process: ProcessIds,
@@ -81,17 +81,17 @@ impl OpenFolder {
         let path = root_path(alloc, root)?;
         let identity = root_identity(rt, path.as_str())?;
         let handle = open_folder(rt, path.as_str())?;
-        let directions = Directions {
+        let environment = Environment {
             is_shown: true,
             process,
             start,
         };
-        let shown = handle_path(alloc, &handle, directions)?;
-        let directions = Directions {
+        let shown = handle_path(alloc, &handle, environment)?;
+        let environment = Environment {
             is_shown: identity.is_at(rt, shown.as_str()),
-            ..directions
+            ..environment
         };
-        OpenFolder::of(alloc, handle, path, directions)?.seen_as(identity)
+        OpenFolder::of(alloc, handle, path, environment)?.seen_as(identity)
     }
 
     /// The folder that was opened at this path, which has a slash at its end.
@@ -99,11 +99,11 @@ impl OpenFolder {
         alloc: Global,
         handle: File,
         path: String,
-        directions: Directions,
+        environment: Environment,
     ) -> Result<OpenFolder, FolderFault> {
         let metadata = handle.metadata()?;
-        let prefix = if directions.is_shown {
-            handle_path(alloc, &handle, directions)?
+        let prefix = if environment.is_shown {
+            handle_path(alloc, &handle, environment)?
         } else {
             path
         };
@@ -111,8 +111,8 @@ impl OpenFolder {
             handle,
             identity: Identity::of(&metadata),
             prefix,
-            directions,
-            is_shared: is_shared(&metadata, directions.process.user),
+            environment,
+            is_shared: is_shared(&metadata, environment.process.user),
             owner: Owner::of(&metadata),
             passes_group: metadata.mode() & PASSES_GROUP != 0,
         })
@@ -121,13 +121,13 @@ impl OpenFolder {
     /// From now on paths through the folder, and through those below it, are told from there. If
     /// handles aren't shown they stay.
     pub fn tell_from(&mut self, alloc: Global, start: Start) -> Result<(), AllocError> {
-        if self.directions.is_shown {
-            let directions = Directions {
+        if self.environment.is_shown {
+            let environment = Environment {
                 start,
-                ..self.directions
+                ..self.environment
             };
-            self.prefix = handle_path(alloc, &self.handle, directions)?;
-            self.directions = directions;
+            self.prefix = handle_path(alloc, &self.handle, environment)?;
+            self.environment = environment;
         }
         Ok(())
     }
@@ -184,7 +184,7 @@ impl OpenFolder {
 
     /// Whether calls go through the handle, and not by the folder's path.
     pub fn is_shown(&self) -> bool {
-        self.directions.is_shown
+        self.environment.is_shown
     }
 
     /// Whose the folder is.
@@ -226,7 +226,7 @@ impl OpenFolder {
         };
         path.push('/')?;
         let handle = open_folder(rt, path.as_str())?;
-        let folder = OpenFolder::of(alloc, handle, path, self.directions)?.seen_as(identity)?;
+        let folder = OpenFolder::of(alloc, handle, path, self.environment)?.seen_as(identity)?;
         if is_bare_repository(rt, alloc, &folder)? {
             return Ok(Below::Other(Found::Other));
         }
@@ -268,7 +268,7 @@ impl OpenFolder {
     pub fn try_clone(&self, alloc: Global) -> Result<OpenFolder, FolderFault> {
         let handle = self.handle.try_clone()?;
         let path = String::from_str(alloc, self.prefix.as_str())?;
-        OpenFolder::of(alloc, handle, path, self.directions)
+        OpenFolder::of(alloc, handle, path, self.environment)
     }
 
     /// Makes lasting which names the folder has. A file system that can't sync folders does that in
@@ -352,9 +352,13 @@ fn is_shared(folder: &Metadata, user: u32) -> bool {
 
 /// The path at which the system shows an open folder of this process. By the number of the process
 /// the system comes there sooner than by `self`, which is a link.
-fn handle_path(alloc: Global, handle: &File, directions: Directions) -> Result<String, AllocError> {
+fn handle_path(
+    alloc: Global,
+    handle: &File,
+    environment: Environment,
+) -> Result<String, AllocError> {
     let handle = handle.as_raw_fd();
-    match (directions.start, directions.process.number) {
+    match (environment.start, environment.process.number) {
         (Start::Handles, _) => format!(in alloc; "{handle}/"),
         (Start::Root, Some(number)) => format!(in alloc; "/proc/{number}/fd/{handle}/"),
         (Start::Root, None) => format!(in alloc; "/proc/self/fd/{handle}/"),
