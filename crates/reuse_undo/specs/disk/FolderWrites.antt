@@ -1,10 +1,12 @@
--- What a folder makes of the files that names lead to, where a path is put or removed. Which folder the path lies in,
--- and which folder is that of new files, is not said.
-use Rattle.std.specs.Prelude.{◌≡◌, ℕ, Bool, List, Result, IfOk}
+-- What a folder makes of the files that names lead to, where a path is put or removed. Which folder a path lies in that
+-- is put, and which folder is that of new files, is not said.
+use Rattle.std.specs.Prelude.{◌≡◌, ◌⊎◌, ℕ, Bool, List, Option, None, Some, Result, IfOk}
 use Rattle.reuse_undo.specs.disk.Asides.{IsNewIn, IsNewPlace}
 use Rattle.reuse_undo.specs.disk.FileStates.{FileState, place_in}
+use Rattle.reuse_undo.specs.disk.FolderReads.{IsHidden}
+use Rattle.reuse_undo.specs.disk.Folders.{Folders, folder_above, file_at}
 use Rattle.reuse_undo.specs.disk.Names.{IsNameOf}
-use Rattle.reuse_undo.specs.disk.SystemLaws.{IsAlikeBut, IsAlikeUnless}
+use Rattle.reuse_undo.specs.disk.SystemLaws.{IsAlike, IsAlikeBut, IsAlikeUnless}
 use Rattle.reuse_undo.specs.disk.Written.{IsWritten}
 use Rattle.reuse_undo.specs.declared.disk.new_file.NewFile.{NewFile}
 use Rattle.reuse_undo.specs.declared.disk.place.Identity.{Identity}
@@ -24,6 +26,17 @@ pub record IsRemovedAt (path : List ℕ) (old new : FileState) : Type 0 where
   pub name : List ℕ
   pub is_named : IsNameOf path name
   pub others : IsAlikeBut (place_in folder name) old new
+
+-- nothing differs but, perhaps, at the path's own name in the folder that the path lies in
+abbrev pub IsRemovedIn : Folders → List ℕ → FileState → FileState → Type 0
+IsRemovedIn folders path old new =
+    IsAlike old new
+    ⊎ ((folder : Identity) × (name : List ℕ) × (folder_above folders path ≡ Some folder) × IsNameOf path name
+    × IsAlikeBut (place_in folder name) old new)
+
+-- no regular file is at the path, or none of the tree
+abbrev pub IsGone : Folders → FileState → List ℕ → Type 0
+IsGone folders held path = (file_at folders held path ≡ None) ⊎ IsHidden folders held path
 
 -- nothing differs but new files in some folder, and that is the folder of these new files, where there are any
 pub record IsCleared {E : Type 0} (old new : FileState) (answer : Result NewFile E) : Type 0 where

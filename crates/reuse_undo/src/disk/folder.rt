@@ -60,6 +60,7 @@ pub struct RootFolder<R: Files<File = File> + AllocGlobal + Clone + Drop> {
 
 impl<R: Files<File = File> + AllocGlobal + Clone + Drop> RootFolder<R> {
     ghost use Rattle.reuse_undo.specs.disk.FolderReads.{IsPlaceAt, LiesIn, current_of};
+    ghost use Rattle.reuse_undo.specs.disk.FolderPlaces.{IsNoFile};
     ghost use Rattle.reuse_undo.specs.disk.Trails.{AreOpened};
 
     /// The folder at this path, in which what is written is made lasting or not.
@@ -180,6 +181,10 @@ impl<R: Files<File = File> + AllocGlobal + Clone + Drop> RootFolder<R> {
         ensures lies { (⟦<HostSystem<R> as System>⟧.honest self.old.system
             → AreOpened (⟦<HostSystem<R> as System>⟧.folders self.old.system) self.old.trail) → ⟦<HostSystem<R> as System>⟧.honest self.new.system
             → IfOk result (LiesIn (⟦<HostSystem<R> as System>⟧.folders self.new.system) path.now (current_of self.new.trail)) }
+        // What was seen may be another file by now; what is no file is told as it is.
+        ensures apart { (⟦<HostSystem<R> as System>⟧.honest self.old.system
+            → AreOpened (⟦<HostSystem<R> as System>⟧.folders self.old.system) self.old.trail) → ⟦<HostSystem<R> as System>⟧.honest self.new.system
+            → IfOk result (λ place. IsNoFile place → IsPlaceAt (⟦<HostSystem<R> as System>⟧.folders self.new.system) (⟦<HostSystem<R> as System>⟧.holds self.new.system) path.now (current_of self.new.trail) place) }
         ensures seen { (⟦<HostSystem<R> as System>⟧.honest self.old.system
             → AreOpened (⟦<HostSystem<R> as System>⟧.folders self.old.system) self.old.trail) → ⟦<HostSystem<R> as System>⟧.honest self.new.system → seen ≡ None
             → IfOk result (IsPlaceAt (⟦<HostSystem<R> as System>⟧.folders self.new.system) (⟦<HostSystem<R> as System>⟧.holds self.new.system) path.now (current_of self.new.trail)) }

@@ -115,9 +115,11 @@ pub trait System {
 
     /// Removes the file of this name. Where that fails, it may be done.
     fn remove(&mut self, folder: &OpenFolder, name: &str) -> io::Result<()>
-        ensures { MatchResult result
+        ensures removed { MatchResult result
             (λ _. IsRemoved (name_in folder.now name.now) (holds self.old) (holds self.new))
-            (λ _. IsAlikeBut (name_in folder.now name.now) (holds self.old) (holds self.new)) };
+            (λ _. IsAlikeBut (name_in folder.now name.now) (holds self.old) (holds self.new)) }
+        ensures still { folders self.new ≡ folders self.old }
+        ensures earlier { honest self.new → honest self.old };
 
     /// Opens the root, which is at this path.
     fn open_root(

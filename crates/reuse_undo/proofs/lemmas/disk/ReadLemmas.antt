@@ -1,5 +1,6 @@
 -- What was read of a file that was looked at, and where a path leads.
-use Rattle.std.proofs.Common.{◌≡◌, ◌≢◌, ◌⊎◌, inl, inr, ℕ, ◌<◌, List, [], ◌∷◌, ◌++◌, length, Option, None, Some, Result, Ok, Err, IfOk, IfSome, option_map, refl, sym, ◌∙◌, ap, subst, arith}
+use Rattle.std.proofs.Common.{◌≡◌, ◌≢◌, ◌⊎◌, inl, inr, ℕ, ◌<◌, List, [], ◌∷◌, ◌++◌, length, Option, None, Some, Result, Ok, Err, IfOk, IfSome, MatchResult, option_map, refl, sym, ◌∙◌, ap, subst, arith}
+use Rattle.std.specs.declared.io.Error.{Error}
 use Rattle.reuse_tree.specs.Store.{reading_of}
 use Rattle.reuse_tree.specs.declared.store.Reading.{Reading}
 use Rattle.reuse_tree.specs.declared.store.Reading.TheVariants.{Absent, Found as FoundBytes, TooLong}
@@ -9,7 +10,8 @@ use Rattle.reuse_undo.specs.disk.Folders.{Folders, folder_above, folder_at, file
 use Rattle.reuse_undo.specs.disk.FolderPlaces.{IsNoFile, place_below, place_of_found}
 use Rattle.reuse_undo.specs.disk.Names.{IsNameOf, IsSplit}
 use Rattle.reuse_undo.specs.disk.Readings.{IsReadingOf, IsWholeOf}
-use Rattle.reuse_undo.specs.disk.SystemLaws.{IsSeen}
+use Rattle.reuse_undo.specs.disk.FolderWrites.{IsGone, IsRemovedIn}
+use Rattle.reuse_undo.specs.disk.SystemLaws.{IsAlikeBut, IsRemoved, IsSeen}
 use Rattle.reuse_undo.specs.disk.Trails.{IsEntered}
 use Rattle.reuse_undo.specs.declared.disk.fault.FolderFault.{FolderFault}
 use Rattle.reuse_undo.specs.declared.disk.place.FileStatus.{FileStatus}
@@ -169,3 +171,29 @@ no_lies folders path current place.BelowFile free = tt
 no_lies folders path current (place.File status) free = absurd free
 no_lies folders path current place.Folder free = tt
 no_lies folders path current place.Other free = tt
+
+pub freely : (answer : Result Place FolderFault) (Told : Place → Type 0) → IfOk answer Told → IfOk answer (λ one. IsNoFile one → Told one)
+freely (Ok one) Told at = λ free. at
+freely (Err fault) Told at = tt
+
+-- ---- what was removed
+
+-- in the folder that the path lies in
+pub removed_in : (folders : Folders) (path name : List ℕ) (current : Option Identity) (folder : Identity) (a b : FileState) (answer : Result (Unit {0}) Error) → IsNameOf path name
+    → folder_above folders path ≡ current → current ≡ Some folder
+    → MatchResult answer (λ _. IsRemoved (place_in folder name) a b) (λ _. IsAlikeBut (place_in folder name) a b) → IsRemovedIn folders path a b
+removed_in folders path name current folder a b (Ok done) named above is removed = inr (folder, name, above ∙ is, named, removed.others)
+removed_in folders path name current folder a b (Err error) named above is alike = inr (folder, name, above ∙ is, named, alike)
+
+pub gone_here : (folders : Folders) (path name : List ℕ) (current : Option Identity) (folder : Identity) (held : FileState) → IsNameOf path name → folder_above folders path ≡ current → current ≡ Some folder
+    → held (place_in folder name) ≡ None → IsGone folders held path
+gone_here folders path name current folder held named above is none =
+    inl (file_of_name folders held path name named ∙ ap (λ o. file_in held o name) (above ∙ is) ∙ none)
+
+-- where no regular file was told
+pub gone_told : (folders : Folders) (held : FileState) (path : List ℕ) (current : Option Identity) (place : Place) → IsNoFile place → IsPlaceAt folders held path current place → IsGone folders held path
+gone_told folders held path current place.Nothing free at = inl at
+gone_told folders held path current place.BelowFile free at = inl at
+gone_told folders held path current (place.File status) free at = absurd free
+gone_told folders held path current place.Folder free at = inl at
+gone_told folders held path current place.Other free at = at

@@ -1,6 +1,6 @@
 //! Putting and removing a file. What a put makes of the names is stated by what each call of the
 //! system makes of them, whatever was there.
-ghost use Rattle.std.specs.Prelude.{◌≡◌, is_ok, IsErr, IsTrue};
+ghost use Rattle.std.specs.Prelude.{◌≡◌, is_ok, IfOk, IsErr, IsTrue};
 ghost use Rattle.reuse_undo.specs.disk.KeptOut.{is_kept_out};
 
 use super::RootFolder;
@@ -18,13 +18,15 @@ use std::fs::File;
 use std::rt::Files;
 
 impl<R: Files<File = File> + AllocGlobal + Clone + Drop> RootFolder<R> {
-    ghost use Rattle.reuse_undo.specs.disk.FolderWrites.{IsCleared, IsPutAt, IsRemovedAt};
+    ghost use Rattle.reuse_undo.specs.disk.FolderWrites.{IsCleared, IsGone, IsPutAt, IsRemovedAt, IsRemovedIn};
+    ghost use Rattle.reuse_undo.specs.disk.Trails.{AreOpened};
     ghost use Rattle.reuse_undo.specs.disk.Written.{is_kept};
     ghost use Rattle.reuse_tree.specs.Parts.{joined};
 
     /// What was seen at the path, if it was the last one that was read. What was seen is forgotten.
     fn take_last_seen(&mut self, path: &PathText) -> Option<FileStatus>
         ensures kept { self.new.system ≡ self.old.system }
+        ensures trail { self.new.trail ≡ self.old.trail }
         ensures syncs { self.new.unsynced.syncs ≡ self.old.unsynced.syncs }
     {
         let last = self.reads.pop();
@@ -170,7 +172,17 @@ impl<R: Files<File = File> + AllocGlobal + Clone + Drop> RootFolder<R> {
 
     /// Removes the regular file at the path, if there is one, and no folder.
     pub fn remove(&mut self, alloc: Global, path: &PathText) -> Result<(), FolderFault>
-        ensures { IsRemovedAt path.now (⟦<HostSystem<R> as System>⟧.holds self.old.system) (⟦<HostSystem<R> as System>⟧.holds self.new.system) }
+        ensures removed { IsRemovedAt path.now (⟦<HostSystem<R> as System>⟧.holds self.old.system) (⟦<HostSystem<R> as System>⟧.holds self.new.system) }
+        ensures still { ⟦<HostSystem<R> as System>⟧.folders self.new.system ≡ ⟦<HostSystem<R> as System>⟧.folders self.old.system }
+        ensures opened { (⟦<HostSystem<R> as System>⟧.honest self.old.system
+            → AreOpened (⟦<HostSystem<R> as System>⟧.folders self.old.system) self.old.trail)
+            → ⟦<HostSystem<R> as System>⟧.honest self.new.system → AreOpened (⟦<HostSystem<R> as System>⟧.folders self.new.system) self.new.trail }
+        ensures place { (⟦<HostSystem<R> as System>⟧.honest self.old.system
+            → AreOpened (⟦<HostSystem<R> as System>⟧.folders self.old.system) self.old.trail) → ⟦<HostSystem<R> as System>⟧.honest self.new.system
+            → IsRemovedIn (⟦<HostSystem<R> as System>⟧.folders self.new.system) path.now (⟦<HostSystem<R> as System>⟧.holds self.old.system) (⟦<HostSystem<R> as System>⟧.holds self.new.system) }
+        ensures gone { (⟦<HostSystem<R> as System>⟧.honest self.old.system
+            → AreOpened (⟦<HostSystem<R> as System>⟧.folders self.old.system) self.old.trail) → ⟦<HostSystem<R> as System>⟧.honest self.new.system
+            → IfOk result (λ _. IsGone (⟦<HostSystem<R> as System>⟧.folders self.new.system) (⟦<HostSystem<R> as System>⟧.holds self.new.system) path.now) }
     {
         let seen = self.take_last_seen(path);
         match self.look_unless_seen(alloc, path, seen)? {

@@ -1,10 +1,10 @@
 use Rattle.std.proofs.Common.{rules, ◌≡◌, ◌∙◌, refl, subst, ap, Some}
-use Rattle.reuse_undo.specs.disk.FolderReads.{current_of}
+use Rattle.reuse_undo.specs.disk.FolderReads.{IsPlaceAt, current_of}
 use Rattle.reuse_undo.specs.disk.Folders.{folder_at}
 use Rattle.reuse_undo.specs.disk.Names.{IsSplit}
 use Rattle.reuse_undo.specs.disk.SystemCalls.{folders_of, held_after}
 use Rattle.reuse_undo.specs.disk.Trails.{IsEntered}
-use Rattle.reuse_undo.proofs.lemmas.disk.ReadLemmas.{told_above, told_look, nothing_told, entered_none, no_file_some, no_lies}
+use Rattle.reuse_undo.proofs.lemmas.disk.ReadLemmas.{freely, told_above, told_look, nothing_told, entered_none, no_file_some, no_lies}
 use Rattle.reuse_undo.specs.declared.disk.place.Found.{Found}
 use Rattle.reuse_undo.specs.declared.disk.place.Found.TheVariants as found
 use Rattle.reuse_undo.specs.declared.disk.place.Place.{Place}
@@ -93,6 +93,68 @@ returns-in_default-2-clause-lies g c right honest =
 
 pub returns-in_default-2-clause-seen : goal.returns-in_default-2-clause-seen
 returns-in_default-2-clause-seen g c right honest none =
+    let noted = c.look.new.self.noted in
+    let before = folders_of c.enter.new.system.noted.folders in
+    let folders = folders_of noted.folders in
+    let held = held_after noted.files noted.fates noted.calls in
+    let path = c.args.path.now in
+    let folder = c.folder_and_name.result.0.now in
+    let name = c.folder_and_name.result.1.now in
+    let current = current_of c.enter.new.self in
+    let above = c.in_ok-current.field-0.now.identity in
+    let split : IsSplit path folder name = search rules in
+    let was = held_after c.enter.new.system.noted.files c.enter.new.system.noted.fates c.enter.new.system.noted.calls in
+    let entered = subst (IsEntered before was folder current) c.in-None.is (c.in_ok-enter.ensures.entered right (c.look.ensures.earlier honest)) in
+    told_look folders held before path folder name current above c.in_ok-found.found c.into_place.result c.look.ensures.still entered c.in_ok-current.ensures split (c.in_ok-found.ensures.seen honest)
+    c.into_place.ensures
+
+pub returns-in-Some-Nothing-clause-apart : goal.returns-in-Some-Nothing-clause-apart
+returns-in-Some-Nothing-clause-apart g c right honest =
+    let noted = c.enter.new.system.noted in
+    let folders = folders_of noted.folders in
+    let held = held_after noted.files noted.fates noted.calls in
+    let path = c.args.path.now in
+    let folder = c.folder_and_name.result.0.now in
+    let name = c.folder_and_name.result.1.now in
+    let current = current_of c.enter.new.self in
+    let split : IsSplit path folder name = search rules in
+    let entered = subst (IsEntered folders held folder current) (c.in-Some-Nothing.is ∙ ap (λ p. Some p) c.in-Some-Nothing.field-0-is) (c.in_ok-enter.ensures.entered right honest) in
+    freely c.nothing.result (IsPlaceAt folders held path current) (nothing_told folders held path current c.nothing.result c.nothing.ensures (told_above folders held path folder name current current place.Nothing split tt entered))
+
+pub returns-in-Some-clause-apart : goal.returns-in-Some-clause-apart
+returns-in-Some-clause-apart g c right honest none =
+    let noted = c.enter.new.system.noted in
+    let folders = folders_of noted.folders in
+    let held = held_after noted.files noted.fates noted.calls in
+    let path = c.args.path.now in
+    let folder = c.folder_and_name.result.0.now in
+    let name = c.folder_and_name.result.1.now in
+    let current = current_of c.enter.new.self in
+    let split : IsSplit path folder name = search rules in
+    let is : c.in_ok-enter.field-0 ≡ Some c.in-Some.place = cc in
+    told_above folders held path folder name current current c.in-Some.place split (no_file_some c.in_ok-enter.field-0 c.in-Some.place is c.in_ok-enter.ensures.no_file)
+    (subst (IsEntered folders held folder current) is (c.in_ok-enter.ensures.entered right honest))
+
+pub returns-in-Nothing-clause-apart : goal.returns-in-Nothing-clause-apart
+returns-in-Nothing-clause-apart g c right honest =
+    let noted = c.look.new.self.noted in
+    let before = folders_of c.enter.new.system.noted.folders in
+    let folders = folders_of noted.folders in
+    let held = held_after noted.files noted.fates noted.calls in
+    let path = c.args.path.now in
+    let folder = c.folder_and_name.result.0.now in
+    let name = c.folder_and_name.result.1.now in
+    let current = current_of c.enter.new.self in
+    let above = c.in_ok-current.field-0.now.identity in
+    let split : IsSplit path folder name = search rules in
+    let was = held_after c.enter.new.system.noted.files c.enter.new.system.noted.fates c.enter.new.system.noted.calls in
+    let entered = subst (IsEntered before was folder current) c.in-None.is (c.in_ok-enter.ensures.entered right (c.look.ensures.earlier honest)) in
+    let seen = rw c.in-Nothing.is at (c.in_ok-found.ensures.seen honest) in
+    freely c.nothing-in-Nothing.result (IsPlaceAt folders held path current) (nothing_told folders held path current c.nothing-in-Nothing.result c.nothing-in-Nothing.ensures
+    (told_look folders held before path folder name current above found.Nothing place.Nothing c.look.ensures.still entered c.in_ok-current.ensures split seen refl))
+
+pub returns-in_default-2-clause-apart : goal.returns-in_default-2-clause-apart
+returns-in_default-2-clause-apart g c right honest none =
     let noted = c.look.new.self.noted in
     let before = folders_of c.enter.new.system.noted.folders in
     let folders = folders_of noted.folders in
