@@ -12,6 +12,7 @@ pub mod Names
 pub mod OwnerChanges
 pub mod Owners
 pub mod Readings
+pub mod RootFolders
 pub mod RolledBack
 pub mod SystemCall
 pub mod SystemCalls

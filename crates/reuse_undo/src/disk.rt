@@ -4,10 +4,15 @@
 //! synced and renamed. Each call of the system is noted with its answer, and the contracts speak of
 //! these notes. The room `run` opens a store, with the lock of its folder in hand. Tested by
 //! `folder.sh`, `races.sh`, `syncs.sh`, `owners.sh` and `fail_system_calls.sh` in `tests/`.
-ghost use Rattle.std.specs.Prelude.{◌≡◌, ◌<◌, ℕ, ◌∷◌, List, IfErr, length};
+ghost use Rattle.std.specs.Prelude.{◌≡◌, ◌≢◌, ◌<◌, ℕ, [], ◌∷◌, List, IfErr, IfOk, MatchResult, is_ok, length};
+ghost use Rattle.std.specs.FinMap as map;
+ghost use Rattle.reuse_tree.specs.Store.{reading_of};
+ghost use Rattle.reuse_undo.specs.disk.FolderReads.{IsReadAt};
+ghost use Rattle.reuse_undo.specs.disk.FolderWrites.{IsGone, IsPutIn, IsRemovedIn, IsStoredAt};
+ghost use Rattle.reuse_undo.specs.disk.Written.{is_kept};
 ghost use Rattle.std.specs.Result.{result_map_both};
 ghost use Rattle.reuse_tree.specs.Calls.Call.{ListCall};
-ghost use Rattle.reuse_tree.specs.Asked.{IsLater, IsPut, IsRemoval, IsWrite, AreWrites};
+ghost use Rattle.reuse_tree.specs.Asked.{FailsAsRead, OnlyReads, IsLater, IsPut, IsRemoval, IsWrite, AreWrites};
 ghost use Rattle.reuse_tree.specs.Parts.{joined};
 ghost use Rattle.reuse_tree.specs.Calls.{Start, failures_of, written_of, mutations_of};
 ghost use Rattle.reuse_tree.specs.Files.{AreFiles};
@@ -58,6 +63,7 @@ use std::fs::File;
 use std::rt::{Env, Files};
 use std::time::Duration;
 pub use syncs::Syncs;
+use system::{HostSystem, System};
 
 /// The files of a folder. It is honest as long as each call was answered as a folder answers that
 /// held the files of the start and that nobody else writes. No contract says that a folder is:
@@ -174,6 +180,8 @@ impl<R: Files<File = File> + AllocGlobal + Clone + Drop> DiskStore<R> {
     ) -> Result<(), StoreFault>
         ensures puts { IsPut ⟦<DiskStore<R> as Store>⟧ path.now (joined parts.entry) self.old self.new result }
         ensures later { IsLater ⟦<DiskStore<R> as Store>⟧ self.old self.new }
+        ensures folder { self.new.folder ≡ self.old.folder }
+        ensures done { is_ok result ≡ is_ok answer }
         ensures ok { answer ≡ Ok tt → result ≡ Ok tt }
         ensures fails { IfErr answer (λ fault. result ≡ Err (fault_of_store fault)) }
     {
@@ -194,6 +202,8 @@ impl<R: Files<File = File> + AllocGlobal + Clone + Drop> DiskStore<R> {
     ) -> Result<(), StoreFault>
         ensures removes { IsRemoval ⟦<DiskStore<R> as Store>⟧ path.now self.old self.new result }
         ensures later { IsLater ⟦<DiskStore<R> as Store>⟧ self.old self.new }
+        ensures folder { self.new.folder ≡ self.old.folder }
+        ensures done { is_ok result ≡ is_ok answer }
         ensures ok { answer ≡ Ok tt → result ≡ Ok tt }
         ensures fails { IfErr answer (λ fault. result ≡ Err (fault_of_store fault)) }
     {
@@ -310,7 +320,16 @@ impl<R: Files<File = File> + AllocGlobal + Clone + Drop> Store for DiskStore<R> 
         alloc: Global,
         path: &PathText,
         limit: usize,
-    ) -> Result<Reading, StoreFault> {
+    ) -> Result<Reading, StoreFault>
+        ensures kept { ⟦<DiskStore<R> as Store>⟧.honest self.old
+            → MatchResult result (λ reading. reading ≡ reading_of (map.get (⟦<DiskStore<R> as Store>⟧.files self.old) path.now) limit → ⟦<DiskStore<R> as Store>⟧.honest self.new) (λ fault. fault ≢ StoreFault.Clash → ⟦<DiskStore<R> as Store>⟧.honest self.new) }
+        ensures reading { ⟦<DiskStore<R> as Store>⟧.honest self.new → IfOk result (λ reading. reading ≡ reading_of (map.get (⟦<DiskStore<R> as Store>⟧.files self.old) path.now) limit) }
+        ensures fails { FailsAsRead ⟦<DiskStore<R> as Store>⟧ self.old self.new result }
+        ensures reads { OnlyReads ⟦<DiskStore<R> as Store>⟧ self.old self.new }
+        // What is read is what the file at the path holds on the disk, if none is remembered.
+        ensures read { ⟦<HostSystem<R> as System>⟧.honest self.new.folder.system → self.old.folder.remembered.files.items ≡ []
+            → IfOk result (IsReadAt (⟦<HostSystem<R> as System>⟧.folders self.new.folder.system) (⟦<HostSystem<R> as System>⟧.holds self.new.folder.system) path.now limit) }
+    {
         let answer = self.folder.read(alloc, path, limit);
         self.failure.note(alloc, Asked::Read, path.text(), &answer);
         let answer = answer.map_err(StoreFault::from);
@@ -323,12 +342,29 @@ impl<R: Files<File = File> + AllocGlobal + Clone + Drop> Store for DiskStore<R> 
         alloc: Global,
         path: &PathText,
         parts: Parts,
-    ) -> Result<(), StoreFault> {
+    ) -> Result<(), StoreFault>
+        ensures puts { IsPut ⟦<DiskStore<R> as Store>⟧ path.now (joined parts.entry) self.old self.new result }
+        ensures later { IsLater ⟦<DiskStore<R> as Store>⟧ self.old self.new }
+        // On the disk the file at the path has these bytes, and nothing else differs.
+        ensures stands { ⟦<HostSystem<R> as System>⟧.honest self.new.folder.system
+            → IfOk result (λ _. IsStoredAt (⟦<HostSystem<R> as System>⟧.folders self.new.folder.system) (⟦<HostSystem<R> as System>⟧.holds self.new.folder.system) path.now (joined parts.entry) (is_kept self.old.folder.unsynced.syncs)) }
+        ensures place { ⟦<HostSystem<R> as System>⟧.honest self.new.folder.system
+            → IsPutIn (⟦<HostSystem<R> as System>⟧.folders self.new.folder.system) path.now (joined parts.entry) (is_kept self.old.folder.unsynced.syncs)
+            (⟦<HostSystem<R> as System>⟧.holds self.old.folder.system) (⟦<HostSystem<R> as System>⟧.holds self.new.folder.system) (is_ok result) }
+    {
         let answer = self.folder.put(alloc, path, parts);
         self.note_put(alloc, path, parts, answer)
     }
 
-    fn remove(&mut self, alloc: Global, path: &PathText) -> Result<(), StoreFault> {
+    fn remove(&mut self, alloc: Global, path: &PathText) -> Result<(), StoreFault>
+        ensures removes { IsRemoval ⟦<DiskStore<R> as Store>⟧ path.now self.old self.new result }
+        ensures later { IsLater ⟦<DiskStore<R> as Store>⟧ self.old self.new }
+        // On the disk no file is at the path, and nothing else differs.
+        ensures gone { ⟦<HostSystem<R> as System>⟧.honest self.new.folder.system
+            → IfOk result (λ _. IsGone (⟦<HostSystem<R> as System>⟧.folders self.new.folder.system) (⟦<HostSystem<R> as System>⟧.holds self.new.folder.system) path.now) }
+        ensures place { ⟦<HostSystem<R> as System>⟧.honest self.new.folder.system
+            → IsRemovedIn (⟦<HostSystem<R> as System>⟧.folders self.new.folder.system) path.now (⟦<HostSystem<R> as System>⟧.holds self.old.folder.system) (⟦<HostSystem<R> as System>⟧.holds self.new.folder.system) }
+    {
         let answer = self.folder.remove(alloc, path);
         self.note_removal(alloc, path, answer)
     }

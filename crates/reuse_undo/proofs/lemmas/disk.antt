@@ -6,12 +6,14 @@ pub mod HostLemmas
 pub mod LeftBySyncs
 pub mod LastNames
 pub mod Listed
+pub mod MadeFolders
 pub mod NameLemmas
 pub mod NewNameLemmas
 pub mod NotedWrites
 pub mod OwnerLemmas
 pub mod PrunedFolders
 pub mod PutKept
+pub mod PutLemmas
 pub mod ReadLemmas
 pub mod ReaderLemmas
 pub mod SlashLemmas

@@ -1,8 +1,8 @@
--- What a folder makes of the files that names lead to, where a path is put or removed. Which folder a path lies in that
--- is put, and which folder is that of new files, is not said.
-use Rattle.std.specs.Prelude.{◌≡◌, ◌⊎◌, ℕ, Bool, List, Option, None, Some, Result, IfOk}
+-- What a folder makes of the files that names lead to, where a path is put or removed. Which folder is that of new
+-- files is not said.
+use Rattle.std.specs.Prelude.{◌≡◌, ◌⊎◌, ℕ, Bool, false, List, Option, None, Some, Result, IfOk}
 use Rattle.reuse_undo.specs.disk.Asides.{IsNewIn, IsNewPlace}
-use Rattle.reuse_undo.specs.disk.FileStates.{FileState, place_in}
+use Rattle.reuse_undo.specs.disk.FileStates.{FileKey, FileState, file, place_in}
 use Rattle.reuse_undo.specs.disk.FolderReads.{IsHidden}
 use Rattle.reuse_undo.specs.disk.Folders.{Folders, folder_above, file_at}
 use Rattle.reuse_undo.specs.disk.Names.{IsNameOf}
@@ -19,6 +19,17 @@ pub record IsPutAt (path bytes : List ℕ) (is_lasting : Bool) (old new : FileSt
   pub name : List ℕ
   pub is_named : IsNameOf path name
   pub written : IsWritten (IsNewPlace new_files folder) (place_in folder name) bytes is_lasting old new is_done
+
+-- so they were in the folder that the path lies in; or they weren't, and nothing differs but new files in some folder
+abbrev pub IsPutIn : Folders → (path bytes : List ℕ) → Bool → FileState → FileState → Bool → Type 0
+IsPutIn folders path bytes is_lasting old new is_done =
+    ((is_done ≡ false) × ((new_files : Identity) × IsAlikeUnless (IsNewIn new_files) old new))
+    ⊎ ((put : IsPutAt path bytes is_lasting old new is_done) × (folder_above folders path ≡ Some put.folder))
+
+-- the regular file at the path has these bytes
+abbrev pub IsStoredAt : Folders → FileState → (path bytes : List ℕ) → Bool → Type 0
+IsStoredAt folders held path bytes is_lasting =
+    (key : FileKey) × (file_at folders held path ≡ file key bytes is_lasting)
 
 -- nothing differs but at the path's own name in some folder
 pub record IsRemovedAt (path : List ℕ) (old new : FileState) : Type 0 where

@@ -10,6 +10,17 @@ pub record Folders : Type 0 where
   pub below : Place → Option Identity
   pub is_other : Place → Bool
 
+-- the root is the same, and each folder stays where it was
+pub record IsGrown (old new : Folders) : Type 0 where
+  pub root : new.root ≡ old.root
+  pub stays : (place : Place) (one : Identity) → old.below place ≡ Some one → new.below place ≡ Some one
+
+-- nothing differs but the folder at this place
+pub record IsAlikeFoldersBut (place : Place) (old new : Folders) : Type 0 where
+  pub root : new.root ≡ old.root
+  pub is_other : new.is_other ≡ old.is_other
+  pub others : (other : Place) → other ≢ place → new.below other ≡ old.below other
+
 -- the folder of this name in a folder; an empty name leads to the folder itself
 abbrev pub folder_in : Folders → Identity → List ℕ → Option Identity
 folder_in folders at [] = Some at

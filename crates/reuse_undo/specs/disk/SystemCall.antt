@@ -1,4 +1,4 @@
--- A call of the system that changes regular files, opens a folder, or tells of what stands at a name.
+-- A call of the system that changes regular files or folders, opens a folder, or tells of what stands at a name.
 use Rattle.std.specs.Prelude.{ℕ, ◌+◌, Bool, List, [], ◌∷◌, Result}
 use Rattle.reuse_tree.specs.declared.store.Reading.{Reading}
 use Rattle.reuse_undo.specs.disk.FileStates.{Place}
@@ -18,6 +18,8 @@ pub data SystemCall : Type 0 where
   RootCall : (opened : Identity) → SystemCall
   OpenCall : (above : Identity) (name : List ℕ) (opened : Identity) → SystemCall
   NoFolderCall : (above : Identity) (name : List ℕ) (found : Found) → SystemCall
+  MakeFolderCall : (above : Identity) (name : List ℕ) (is_done : Bool) → SystemCall
+  RemoveFolderCall : (place : Place) (is_done : Bool) → SystemCall
 
 -- how many files were to be made by these calls
 abbrev pub made_of : List SystemCall → ℕ
@@ -32,3 +34,5 @@ made_of (ReadCall place said limit answer ∷ calls) = made_of calls
 made_of (RootCall opened ∷ calls) = made_of calls
 made_of (OpenCall above name opened ∷ calls) = made_of calls
 made_of (NoFolderCall above name found ∷ calls) = made_of calls
+made_of (MakeFolderCall above name is_done ∷ calls) = made_of calls
+made_of (RemoveFolderCall place is_done ∷ calls) = made_of calls

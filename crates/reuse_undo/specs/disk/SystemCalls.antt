@@ -1,12 +1,13 @@
 -- The calls of the system with their answers, and what names lead to after them.
 use Rattle.std.specs.Prelude.{◌≡◌, ℕ, ◌+◌, zero, suc, Bool, true, false, if◌then◌else◌, List, [], ◌∷◌, ◌++◌, length, take, Option, None, Some, Result, Ok, Err, ◌==◌}
 use Rattle.std.specs.List.{list_any}
+use Rattle.std.specs.Option.{unwrap_or}
 use Rattle.std.specs.Str.{bytes_eq}
 use Rattle.reuse_undo.specs.disk.FileStates.{FileKey, StateFile, Place, FileState, file, place_in}
 use Rattle.reuse_undo.specs.disk.FileStates.FileKey.{Found, Made}
 use Rattle.reuse_undo.specs.disk.Folders.{Folders, folder_in}
 use Rattle.reuse_undo.specs.disk.SystemCall.{SystemCall, made_of}
-use Rattle.reuse_undo.specs.disk.SystemCall.SystemCall.{MakeCall, AppendCall, SyncCall, RenameCall, RemoveCall, LookCall, ReadCall, RootCall, OpenCall, NoFolderCall}
+use Rattle.reuse_undo.specs.disk.SystemCall.SystemCall.{MakeCall, AppendCall, SyncCall, RenameCall, RemoveCall, LookCall, ReadCall, RootCall, OpenCall, NoFolderCall, MakeFolderCall, RemoveFolderCall}
 use Rattle.reuse_undo.specs.disk.SystemLaws.{IsSeen, IsReadOf, IsNoFolder}
 use Rattle.reuse_tree.specs.declared.store.Reading.{Reading}
 use Rattle.reuse_tree.specs.declared.store.Reading.TheVariants as reading
@@ -24,8 +25,9 @@ FolderStart = (ℕ × ℕ) × (List (Place × (ℕ × ℕ)) × List Place)
 
 -- what nobody can know of a system at its start: its folders; each name that leads to a file, with the number of that
 -- file, its bytes, and whether a loss of power surely leaves it these; and of each call that is to come its fate: how
--- much of an appending that fails is written, whether another call that fails takes effect, which is 1 or more, and
--- whether the old name stays where a renaming is done, which is 1
+-- much of an appending that fails is written, whether another call that fails takes effect, which is 1 or more,
+-- whether the old name stays where a renaming is done, which is 1, and the number of a folder that is made, or 1 more
+-- than that where its making fails
 pub record SystemStart : Type 0 where
   pub folders : FolderStart
   pub files : List (Place × (ℕ × (List ℕ × Bool)))
@@ -100,12 +102,54 @@ held_by fate made (ReadCall place said limit answer) held = held
 held_by fate made (RootCall opened) held = held
 held_by fate made (OpenCall above name opened) held = held
 held_by fate made (NoFolderCall above name found) held = held
+held_by fate made (MakeFolderCall above name is_done) held = held
+held_by fate made (RemoveFolderCall place is_done) held = held
 
 -- what names lead to after these calls, the newest first
 abbrev pub held_after : List (Place × (ℕ × (List ℕ × Bool))) → List ℕ → List SystemCall → FileState
 held_after files fates [] = held_at_start files
 held_after files fates (call ∷ calls) =
     held_by (fate_at fates (length calls)) (made_of calls) call (held_after files fates calls)
+
+-- the place leads to this folder, if it led to none
+abbrev pub with_folder : Place → Identity → Folders → Folders
+with_folder place one folders =
+    record folders { below = λ other. if bytes_eq other place then Some (unwrap_or (folders.below other) one) else folders.below other }
+
+abbrev pub without_folder : Place → Folders → Folders
+without_folder place folders = record folders { below = λ other. if bytes_eq other place then None else folders.below other }
+
+-- a folder that is made in another one lies on its device
+abbrev pub with_folder_by : ℕ → Identity → List ℕ → Folders → Folders
+with_folder_by zero above name folders = folders
+with_folder_by (suc number) above name folders =
+    with_folder (place_in above name) (record { device = above.device; number = number }) folders
+
+abbrev pub without_folder_by : ℕ → Place → Folders → Folders
+without_folder_by zero place folders = folders
+without_folder_by (suc fate) place folders = without_folder place folders
+
+-- what a call of this fate makes of the folders
+abbrev pub folders_by : ℕ → SystemCall → Folders → Folders
+folders_by fate (MakeFolderCall above name true) folders = with_folder_by (suc fate) above name folders
+folders_by fate (MakeFolderCall above name false) folders = with_folder_by fate above name folders
+folders_by fate (RemoveFolderCall place true) folders = without_folder place folders
+folders_by fate (RemoveFolderCall place false) folders = without_folder_by fate place folders
+folders_by fate (MakeCall place is_done) folders = folders
+folders_by fate (AppendCall number bytes is_done) folders = folders
+folders_by fate (SyncCall number is_done) folders = folders
+folders_by fate (RenameCall from to is_done) folders = folders
+folders_by fate (RemoveCall place is_done) folders = folders
+folders_by fate (LookCall place answer) folders = folders
+folders_by fate (ReadCall place said limit answer) folders = folders
+folders_by fate (RootCall opened) folders = folders
+folders_by fate (OpenCall above name opened) folders = folders
+folders_by fate (NoFolderCall above name found) folders = folders
+
+-- the folders after these calls, the newest first
+abbrev pub folders_after : FolderStart → List ℕ → List SystemCall → Folders
+folders_after start fates [] = folders_of start
+folders_after start fates (call ∷ calls) = folders_by (fate_at fates (length calls)) call (folders_after start fates calls)
 
 -- a call may answer so where names lead to these folders and files and nobody else writes
 abbrev pub MayAnswer : Folders → FileState → SystemCall → Type 0
@@ -117,9 +161,10 @@ MayAnswer folders held (NoFolderCall above name found) = IsNoFolder folders held
 MayAnswer folders held call = Unit {0}
 
 -- each of these calls was answered so
-abbrev pub IsHonest : Folders → List (Place × (ℕ × (List ℕ × Bool))) → List ℕ → List SystemCall → Type 0
-IsHonest folders files fates [] = Unit {0}
-IsHonest folders files fates (call ∷ calls) = MayAnswer folders (held_after files fates calls) call × IsHonest folders files fates calls
+abbrev pub IsHonest : FolderStart → List (Place × (ℕ × (List ℕ × Bool))) → List ℕ → List SystemCall → Type 0
+IsHonest start files fates [] = Unit {0}
+IsHonest start files fates (call ∷ calls) =
+    MayAnswer (folders_after start fates calls) (held_after files fates calls) call × IsHonest start files fates calls
 
 -- what a reading of this kind answered
 abbrev pub reading_of_kind : ReadKind → List ℕ → Result Reading FolderFault
@@ -140,3 +185,5 @@ call_of (kind.Read folder said limit answer) name bytes = ReadCall (place_in fol
 call_of (kind.Root opened) name other = RootCall opened
 call_of (kind.Open above opened) name other = OpenCall above name opened
 call_of (kind.NoFolder above found) name other = NoFolderCall above name found
+call_of (kind.MakeFolder above is_done) name other = MakeFolderCall above name is_done
+call_of (kind.RemoveFolder above is_done) name other = RemoveFolderCall (place_in above name) is_done

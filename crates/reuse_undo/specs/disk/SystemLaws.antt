@@ -1,8 +1,8 @@
 -- What each call of the system makes of the files that names lead to, and what it tells of them.
-use Rattle.std.specs.Prelude.{◌≡◌, ◌≢◌, ◌⊎◌, ℕ, Bool, true, false, List, [], ◌++◌, length, Option, None, Some, Result, Ok, Err}
+use Rattle.std.specs.Prelude.{◌≡◌, ◌≢◌, ◌⊎◌, ℕ, Bool, true, false, IsTrue, List, [], ◌++◌, length, Option, None, Some, Result, Ok, Err}
 use Rattle.reuse_tree.specs.declared.store.Reading.{Reading}
 use Rattle.reuse_undo.specs.disk.FileStates.{FileKey, StateFile, Place, FileState, file, IsNot}
-use Rattle.reuse_undo.specs.disk.Folders.{Folders, folder_in, IsBare}
+use Rattle.reuse_undo.specs.disk.Folders.{Folders, folder_in, IsAlikeFoldersBut, IsBare, IsGrown}
 use Rattle.reuse_undo.specs.disk.Readings.{IsReadingOf}
 use Rattle.reuse_undo.specs.declared.disk.fault.FolderFault.{FolderFault}
 use Rattle.reuse_undo.specs.declared.disk.place.Found.{Found}
@@ -61,6 +61,17 @@ pub record IsRemoved (place : Place) (old new : FileState) : Type 0 where
 -- a renaming that failed was made or not
 abbrev pub MayBeRenamed : Place → Place → FileState → FileState → Type 0
 MayBeRenamed from to old new = IsAlike old new ⊎ IsRenamed from to old new
+
+-- if a folder was made, one stands at the place; made or not, nothing else differs, and one that stood there stays
+pub record IsFolderMade (place : Place) (old new : Folders) (is_done : Bool) : Type 0 where
+  pub done : IsTrue is_done → new.below place ≢ None
+  pub grown : IsGrown old new
+  pub others : IsAlikeFoldersBut place old new
+
+-- if the folder was removed, none stands at the place; removed or not, nothing else differs
+pub record IsFolderRemoved (place : Place) (old new : Folders) (is_done : Bool) : Type 0 where
+  pub done : IsTrue is_done → new.below place ≡ None
+  pub others : IsAlikeFoldersBut place old new
 
 -- what a look may tell of a name that leads to this file, or to none
 abbrev pub IsSeen : Option StateFile → Result Found FolderFault → Type 0

@@ -1,10 +1,13 @@
 -- The open folders of a trail, and what entering a path tells.
-use Rattle.std.specs.Prelude.{◌≡◌, ◌≢◌, ◌⊎◌, ℕ, ◌-◌, ◌<◌, ◌++◌, List, [], ◌∷◌, length, Option, None, Some, slice_get, slice_index, string_bytes}
+use Rattle.std.specs.Prelude.{◌≡◌, ◌≢◌, ◌⊎◌, ℕ, ◌-◌, ◌<◌, ◌++◌, List, [], ◌∷◌, length, Option, None, Some, IfSome, Result, Ok, Err, slice_get, slice_index, string_bytes}
 use Rattle.std.specs.List.{All}
 use Rattle.std.specs.Option.{option_map, unwrap_or}
 use Rattle.reuse_undo.specs.cli.Places.{between_slashes}
 use Rattle.reuse_undo.specs.disk.FileStates.{FileState}
 use Rattle.reuse_undo.specs.disk.Folders.{Folders, folder_along, folder_at, IsBarredAlong, IsBarred}
+use Rattle.reuse_undo.specs.declared.disk.fault.FolderFault.{FolderFault}
+use Rattle.reuse_undo.specs.declared.disk.handle.Below.{Below}
+use Rattle.reuse_undo.specs.declared.disk.handle.Below.TheVariants as below
 use Rattle.reuse_undo.specs.declared.disk.place.Identity.{Identity}
 use Rattle.reuse_undo.specs.declared.disk.place.Place.{Place}
 use Rattle.reuse_undo.specs.declared.disk.place.Place.TheVariants as place
@@ -15,10 +18,19 @@ abbrev pub path_of : Trail → List ℕ
 path_of trail =
     unwrap_or (option_map (λ step. string_bytes step.path) (slice_get trail.steps.items (length trail.steps.items - 1))) []
 
--- each open folder is the one that its path leads to
+-- the root is the root, if it is open
+abbrev pub IsRootOpened : Folders → Trail → Type 0
+IsRootOpened folders trail = IfSome trail.root (λ folder. folder.identity ≡ folders.root)
+
+-- the root is the root, and each other open folder is the one that its path leads to
 abbrev pub AreOpened : Folders → Trail → Type 0
 AreOpened folders trail =
-    All (λ step. folder_at folders (string_bytes step.path) ≡ Some step.folder.identity) trail.steps.items
+    IsRootOpened folders trail
+    × All (λ step. folder_at folders (string_bytes step.path) ≡ Some step.folder.identity) trail.steps.items
+
+-- so they are if the system is honest
+abbrev pub AreOpenedIf : Type 0 → Folders → Trail → Type 0
+AreOpenedIf honest folders trail = honest → AreOpened folders trail
 
 -- no slash is among these bytes
 abbrev pub HasNoSlash : List ℕ → Type 0
@@ -46,6 +58,13 @@ IsEntered folders held path current None = folder_at folders path ≡ current
 IsEntered folders held path current (Some place.Other) =
     (path ≢ []) × ((folder_at folders path ≡ None) ⊎ IsBarred folders held path)
 IsEntered folders held path current (Some place) = folder_at folders path ≡ None
+
+-- the folder that was opened is the one of this name
+abbrev pub IsOpenedFrom : Folders → Option Identity → List ℕ → Result Below FolderFault → Type 0
+IsOpenedFrom folders current name (Ok (below.Folder folder)) =
+    folder_along folders current (name ∷ []) ≡ Some folder.identity
+IsOpenedFrom folders current name (Ok (below.Other found)) = Unit {0}
+IsOpenedFrom folders current name (Err fault) = Unit {0}
 
 -- the path of this name in the folder of this path
 abbrev pub path_below : List ℕ → List ℕ → List ℕ

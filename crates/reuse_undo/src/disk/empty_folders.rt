@@ -1,6 +1,6 @@
 //! Removing folders that hold nothing but folders.
 ghost use Rattle.std.specs.Prelude.{◌≡◌, IfOk, string_bytes};
-ghost use Rattle.reuse_undo.specs.disk.Trails.{path_below};
+ghost use Rattle.reuse_undo.specs.disk.Trails.{AreOpenedIf, path_below};
 
 use crate::disk::fault::{FolderFault, Obstacle};
 use crate::disk::listing::{MOST_NAMES, push_text};
@@ -47,6 +47,10 @@ fn push_folders<R: Files<File = File> + AllocGlobal + Clone + Drop>(
     folders: &mut Vec<String>,
 ) -> Result<(), FolderFault>
     ensures kept { ⟦<HostSystem<R> as System>⟧.holds system.new ≡ ⟦<HostSystem<R> as System>⟧.holds system.old }
+    ensures still { ⟦<HostSystem<R> as System>⟧.folders system.new ≡ ⟦<HostSystem<R> as System>⟧.folders system.old }
+    ensures earlier { ⟦<HostSystem<R> as System>⟧.honest system.new → ⟦<HostSystem<R> as System>⟧.honest system.old }
+    ensures opened { AreOpenedIf (⟦<HostSystem<R> as System>⟧.honest system.old) (⟦<HostSystem<R> as System>⟧.folders system.old) trail.old
+        → AreOpenedIf (⟦<HostSystem<R> as System>⟧.honest system.new) (⟦<HostSystem<R> as System>⟧.folders system.new) trail.new }
 {
     trail.enter_seen(system, alloc, folder)?;
     for entry in fs::read_dir(system.rt(), trail.current()?.path())? {
@@ -63,6 +67,10 @@ fn folders_below<R: Files<File = File> + AllocGlobal + Clone + Drop>(
     folder: &str,
 ) -> Result<Vec<String>, FolderFault>
     ensures kept { ⟦<HostSystem<R> as System>⟧.holds system.new ≡ ⟦<HostSystem<R> as System>⟧.holds system.old }
+    ensures still { ⟦<HostSystem<R> as System>⟧.folders system.new ≡ ⟦<HostSystem<R> as System>⟧.folders system.old }
+    ensures earlier { ⟦<HostSystem<R> as System>⟧.honest system.new → ⟦<HostSystem<R> as System>⟧.honest system.old }
+    ensures opened { AreOpenedIf (⟦<HostSystem<R> as System>⟧.honest system.old) (⟦<HostSystem<R> as System>⟧.folders system.old) trail.old
+        → AreOpenedIf (⟦<HostSystem<R> as System>⟧.honest system.new) (⟦<HostSystem<R> as System>⟧.folders system.new) trail.new }
 {
     let mut folders = Vec::new(alloc);
     push_text(alloc, &mut folders, folder)?;
@@ -85,13 +93,17 @@ pub fn remove_folders<R: Files<File = File> + AllocGlobal + Clone + Drop>(
     folder: &str,
 ) -> Result<(), FolderFault>
     ensures kept { ⟦<HostSystem<R> as System>⟧.holds system.new ≡ ⟦<HostSystem<R> as System>⟧.holds system.old }
+    ensures earlier { ⟦<HostSystem<R> as System>⟧.honest system.new → ⟦<HostSystem<R> as System>⟧.honest system.old }
+    ensures opened { AreOpenedIf (⟦<HostSystem<R> as System>⟧.honest system.old) (⟦<HostSystem<R> as System>⟧.folders system.old) trail.old
+        → AreOpenedIf (⟦<HostSystem<R> as System>⟧.honest system.new) (⟦<HostSystem<R> as System>⟧.folders system.new) trail.new }
 {
     let folders = folders_below(system, alloc, trail, folder)?;
     for folder in folders.iter().rev() {
         let (above, name) = folder_and_name(folder.as_str());
         trail.enter_seen(system, alloc, above)?;
-        let path = trail.current()?.path_of(alloc, name)?;
-        fs::remove_dir(system.rt(), path.as_str())?;
+        let removed = system.remove_folder(trail.current()?, name);
+        trail.close();
+        removed?;
     }
     Ok(())
 }

@@ -3,8 +3,10 @@ ghost use Rattle.std.specs.Prelude.{◌≡◌, All, false, IfOk, IsTrue, None};
 ghost use Rattle.std.specs.List.Sorted.{IsSorted};
 ghost use Rattle.std.specs.Ordering.{nat_cmp};
 ghost use Rattle.std.specs.Cmp.Lexicographic.{slice_cmp};
+ghost use Rattle.std.proofs.Props.{props};
 ghost use Rattle.reuse_undo.specs.disk.KeptOut.{is_kept_out};
 ghost use Rattle.reuse_undo.specs.disk.SystemCalls.{SystemStart};
+ghost use Rattle.reuse_undo.specs.disk.RootFolders.{AreOpenedNow};
 
 mod batch;
 mod reading;
@@ -56,17 +58,15 @@ pub struct RootFolder<R: Files<File = File> + AllocGlobal + Clone + Drop> {
     passed_over: Vec<String>,
     unsynced: Unsynced,
     keeping: Keeping,
+    ghost opened: { AreOpenedNow system.noted trail } by { Prim.hlevel props },
 }
 
 impl<R: Files<File = File> + AllocGlobal + Clone + Drop> RootFolder<R> {
     ghost use Rattle.reuse_undo.specs.disk.FolderReads.{IsPlaceAt, LiesIn, current_of};
     ghost use Rattle.reuse_undo.specs.disk.FolderPlaces.{IsNoFile};
-    ghost use Rattle.reuse_undo.specs.disk.Trails.{AreOpened};
-
     /// The folder at this path, in which what is written is made lasting or not.
     pub fn new(rt: R, root: String, syncs: Syncs, keeping: Keeping) -> RootFolder<R>
         ghost start: { SystemStart }
-        ensures { AreOpened (⟦<HostSystem<R> as System>⟧.folders result.system) result.trail }
     {
         let trail = Trail::new(rt.alloc(), root, keeping.process());
         let listed = String::new(rt.alloc());
@@ -148,14 +148,9 @@ impl<R: Files<File = File> + AllocGlobal + Clone + Drop> RootFolder<R> {
         ensures earlier { ⟦<HostSystem<R> as System>⟧.honest self.new.system
             → ⟦<HostSystem<R> as System>⟧.honest self.old.system }
         ensures remembered { self.new.remembered ≡ self.old.remembered }
-        ensures opened { (⟦<HostSystem<R> as System>⟧.honest self.old.system
-            → AreOpened (⟦<HostSystem<R> as System>⟧.folders self.old.system) self.old.trail)
-            → ⟦<HostSystem<R> as System>⟧.honest self.new.system → AreOpened (⟦<HostSystem<R> as System>⟧.folders self.new.system) self.new.trail }
-        ensures lies { (⟦<HostSystem<R> as System>⟧.honest self.old.system
-            → AreOpened (⟦<HostSystem<R> as System>⟧.folders self.old.system) self.old.trail) → ⟦<HostSystem<R> as System>⟧.honest self.new.system
+        ensures lies { ⟦<HostSystem<R> as System>⟧.honest self.new.system
             → IfOk result (LiesIn (⟦<HostSystem<R> as System>⟧.folders self.new.system) path.now (current_of self.new.trail)) }
-        ensures seen { (⟦<HostSystem<R> as System>⟧.honest self.old.system
-            → AreOpened (⟦<HostSystem<R> as System>⟧.folders self.old.system) self.old.trail) → ⟦<HostSystem<R> as System>⟧.honest self.new.system
+        ensures seen { ⟦<HostSystem<R> as System>⟧.honest self.new.system
             → IfOk result (IsPlaceAt (⟦<HostSystem<R> as System>⟧.folders self.new.system) (⟦<HostSystem<R> as System>⟧.holds self.new.system) path.now (current_of self.new.trail)) }
         ensures kept_out { IsTrue (is_kept_out path.now) → result ≡ Ok Place.Other }
     {
@@ -175,18 +170,12 @@ impl<R: Files<File = File> + AllocGlobal + Clone + Drop> RootFolder<R> {
             → ⟦<HostSystem<R> as System>⟧.honest self.old.system }
         ensures syncs { self.new.unsynced.syncs ≡ self.old.unsynced.syncs }
         ensures remembered { self.new.remembered ≡ self.old.remembered }
-        ensures opened { (⟦<HostSystem<R> as System>⟧.honest self.old.system
-            → AreOpened (⟦<HostSystem<R> as System>⟧.folders self.old.system) self.old.trail)
-            → ⟦<HostSystem<R> as System>⟧.honest self.new.system → AreOpened (⟦<HostSystem<R> as System>⟧.folders self.new.system) self.new.trail }
-        ensures lies { (⟦<HostSystem<R> as System>⟧.honest self.old.system
-            → AreOpened (⟦<HostSystem<R> as System>⟧.folders self.old.system) self.old.trail) → ⟦<HostSystem<R> as System>⟧.honest self.new.system
+        ensures lies { ⟦<HostSystem<R> as System>⟧.honest self.new.system
             → IfOk result (LiesIn (⟦<HostSystem<R> as System>⟧.folders self.new.system) path.now (current_of self.new.trail)) }
         // What was seen may be another file by now; what is no file is told as it is.
-        ensures apart { (⟦<HostSystem<R> as System>⟧.honest self.old.system
-            → AreOpened (⟦<HostSystem<R> as System>⟧.folders self.old.system) self.old.trail) → ⟦<HostSystem<R> as System>⟧.honest self.new.system
+        ensures apart { ⟦<HostSystem<R> as System>⟧.honest self.new.system
             → IfOk result (λ place. IsNoFile place → IsPlaceAt (⟦<HostSystem<R> as System>⟧.folders self.new.system) (⟦<HostSystem<R> as System>⟧.holds self.new.system) path.now (current_of self.new.trail) place) }
-        ensures seen { (⟦<HostSystem<R> as System>⟧.honest self.old.system
-            → AreOpened (⟦<HostSystem<R> as System>⟧.folders self.old.system) self.old.trail) → ⟦<HostSystem<R> as System>⟧.honest self.new.system → seen ≡ None
+        ensures seen { ⟦<HostSystem<R> as System>⟧.honest self.new.system → seen ≡ None
             → IfOk result (IsPlaceAt (⟦<HostSystem<R> as System>⟧.folders self.new.system) (⟦<HostSystem<R> as System>⟧.holds self.new.system) path.now (current_of self.new.trail)) }
         ensures kept_out { IsTrue (is_kept_out path.now) → result ≡ Ok Place.Other }
     {

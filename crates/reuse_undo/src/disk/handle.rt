@@ -120,7 +120,9 @@ impl OpenFolder {
 
     /// From now on paths through the folder, and through those below it, are told from there. If
     /// handles aren't shown they stay.
-    pub fn tell_from(&mut self, alloc: Global, start: Start) -> Result<(), AllocError> {
+    pub fn tell_from(&mut self, alloc: Global, start: Start) -> Result<(), AllocError>
+        ensures { self.new.identity ≡ self.old.identity }
+    {
         if self.environment.is_shown {
             let environment = Environment {
                 start,

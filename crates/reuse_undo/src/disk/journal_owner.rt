@@ -2,6 +2,7 @@
 //! of a pending step, and `undo` those of a step. So a journal of another user is not opened.
 ghost use Rattle.std.specs.Prelude.{◌≡◌};
 ghost use Rattle.reuse_undo.specs.disk.Owners.{is_of_other, is_journal_of_other};
+ghost use Rattle.reuse_undo.specs.disk.Trails.{AreOpenedIf};
 
 use crate::disk::fault::FolderFault;
 use crate::disk::kept_out::{ABOVE_JOURNAL, HEAD, JOURNAL};
@@ -50,7 +51,13 @@ pub fn journal_owners<R: Files<File = File> + AllocGlobal + Drop>(
     system: &mut HostSystem<R>,
     alloc: Global,
     trail: &mut Trail,
-) -> Result<JournalOwners, FolderFault> {
+) -> Result<JournalOwners, FolderFault>
+    ensures kept { ⟦<HostSystem<R> as System>⟧.holds system.new ≡ ⟦<HostSystem<R> as System>⟧.holds system.old }
+    ensures still { ⟦<HostSystem<R> as System>⟧.folders system.new ≡ ⟦<HostSystem<R> as System>⟧.folders system.old }
+    ensures earlier { ⟦<HostSystem<R> as System>⟧.honest system.new → ⟦<HostSystem<R> as System>⟧.honest system.old }
+    ensures opened { AreOpenedIf (⟦<HostSystem<R> as System>⟧.honest system.old) (⟦<HostSystem<R> as System>⟧.folders system.old) trail.old
+        → AreOpenedIf (⟦<HostSystem<R> as System>⟧.honest system.new) (⟦<HostSystem<R> as System>⟧.folders system.new) trail.new }
+{
     let above = folder_owner(system, alloc, trail, ABOVE_JOURNAL)?;
     let folder = folder_owner(system, alloc, trail, JOURNAL)?;
     let head = match folder {
@@ -72,7 +79,13 @@ fn folder_owner<S: System>(
     alloc: Global,
     trail: &mut Trail,
     folder: &str,
-) -> Result<Option<u32>, FolderFault> {
+) -> Result<Option<u32>, FolderFault>
+    ensures kept { S.holds system.new ≡ S.holds system.old }
+    ensures still { S.folders system.new ≡ S.folders system.old }
+    ensures earlier { S.honest system.new → S.honest system.old }
+    ensures opened { AreOpenedIf (S.honest system.old) (S.folders system.old) trail.old
+        → AreOpenedIf (S.honest system.new) (S.folders system.new) trail.new }
+{
     match trail.enter(system, alloc, folder)? {
         None => Ok(Some(trail.current()?.owner().user)),
         Some(_) => Ok(None),

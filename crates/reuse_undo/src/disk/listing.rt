@@ -4,6 +4,7 @@ ghost use Rattle.std.specs.List.Sorted.{IsSorted};
 ghost use Rattle.std.specs.Ordering.{nat_cmp};
 ghost use Rattle.std.specs.Cmp.Lexicographic.{slice_cmp};
 ghost use Rattle.reuse_undo.specs.disk.KeptOut.{is_kept_out};
+ghost use Rattle.reuse_undo.specs.disk.Trails.{AreOpenedIf};
 
 use crate::disk::empty_folders::path_in;
 use crate::disk::fault::{FolderFault, Obstacle};
@@ -112,6 +113,10 @@ impl<'a, P: Pruning> Listing<'a, P> {
         folder: &str,
     ) -> Result<(), FolderFault>
         ensures kept { ⟦<HostSystem<R> as System>⟧.holds system.new ≡ ⟦<HostSystem<R> as System>⟧.holds system.old }
+        ensures still { ⟦<HostSystem<R> as System>⟧.folders system.new ≡ ⟦<HostSystem<R> as System>⟧.folders system.old }
+        ensures earlier { ⟦<HostSystem<R> as System>⟧.honest system.new → ⟦<HostSystem<R> as System>⟧.honest system.old }
+        ensures opened { AreOpenedIf (⟦<HostSystem<R> as System>⟧.honest system.old) (⟦<HostSystem<R> as System>⟧.folders system.old) trail.old
+            → AreOpenedIf (⟦<HostSystem<R> as System>⟧.honest system.new) (⟦<HostSystem<R> as System>⟧.folders system.new) trail.new }
     {
         if !trail.enter_listed(system, alloc, folder)? {
             return Ok(());
@@ -132,6 +137,10 @@ impl<'a, P: Pruning> Listing<'a, P> {
         last: &mut String,
     ) -> Result<(), FolderFault>
         ensures kept { ⟦<HostSystem<R> as System>⟧.holds system.new ≡ ⟦<HostSystem<R> as System>⟧.holds system.old }
+        ensures still { ⟦<HostSystem<R> as System>⟧.folders system.new ≡ ⟦<HostSystem<R> as System>⟧.folders system.old }
+        ensures earlier { ⟦<HostSystem<R> as System>⟧.honest system.new → ⟦<HostSystem<R> as System>⟧.honest system.old }
+        ensures opened { AreOpenedIf (⟦<HostSystem<R> as System>⟧.honest system.old) (⟦<HostSystem<R> as System>⟧.folders system.old) trail.old
+            → AreOpenedIf (⟦<HostSystem<R> as System>⟧.honest system.new) (⟦<HostSystem<R> as System>⟧.folders system.new) trail.new }
     {
         for _ in 0..=MOST_NAMES {
             match self.next_folder() {
@@ -166,6 +175,10 @@ pub fn list_below<R: Files<File = File> + AllocGlobal + Clone + Drop>(
     last: &mut String,
 ) -> Result<Vec<PathText>, FolderFault>
     ensures kept { ⟦<HostSystem<R> as System>⟧.holds system.new ≡ ⟦<HostSystem<R> as System>⟧.holds system.old }
+    ensures still { ⟦<HostSystem<R> as System>⟧.folders system.new ≡ ⟦<HostSystem<R> as System>⟧.folders system.old }
+    ensures earlier { ⟦<HostSystem<R> as System>⟧.honest system.new → ⟦<HostSystem<R> as System>⟧.honest system.old }
+    ensures opened { AreOpenedIf (⟦<HostSystem<R> as System>⟧.honest system.old) (⟦<HostSystem<R> as System>⟧.folders system.old) trail.old
+        → AreOpenedIf (⟦<HostSystem<R> as System>⟧.honest system.new) (⟦<HostSystem<R> as System>⟧.folders system.new) trail.new }
 {
     let mut listing = Listing::new(alloc, &NoPruning);
     listing.take_folder(alloc, folder)?;

@@ -1,6 +1,10 @@
 //! Folders that root makes: each is given to the owner of the folder that it lies in.
+ghost use Rattle.std.specs.Prelude.{◌≡◌};
+ghost use Rattle.reuse_undo.specs.disk.SystemLaws.{IsOpenedBelow};
+
 use crate::disk::fault::FolderFault;
 use crate::disk::handle::{Below, OpenFolder};
+use crate::disk::system::{HostSystem, System};
 use std::alloc::Global;
 use std::fs::{self, File};
 use std::rt::Files;
@@ -8,18 +12,24 @@ use std::rt::Files;
 /// Opens the folder of this name, which root made just now, and gives it to the owner of the one
 /// that it lies in.
 pub fn open_made_by_root<R: Files<File = File> + AllocGlobal + Clone + Drop>(
-    rt: &R,
+    system: &mut HostSystem<R>,
     alloc: Global,
     above: &OpenFolder,
     name: &str,
-) -> Result<Below, FolderFault> {
-    let below = above.open_below(rt, alloc, name)?;
+) -> Result<Below, FolderFault>
+    ensures kept { ⟦<HostSystem<R> as System>⟧.holds system.new ≡ ⟦<HostSystem<R> as System>⟧.holds system.old }
+    ensures still { ⟦<HostSystem<R> as System>⟧.folders system.new ≡ ⟦<HostSystem<R> as System>⟧.folders system.old }
+    ensures earlier { ⟦<HostSystem<R> as System>⟧.honest system.new → ⟦<HostSystem<R> as System>⟧.honest system.old }
+    ensures opened { ⟦<HostSystem<R> as System>⟧.honest system.new
+        → IsOpenedBelow (⟦<HostSystem<R> as System>⟧.folders system.new) (⟦<HostSystem<R> as System>⟧.holds system.new) above.now.identity name.now result }
+{
+    let below = system.open_below(alloc, above, name)?;
     if let Below::Folder(folder) = &below
-        && is_to_give(rt, above, folder)?
+        && is_to_give(system.rt(), above, folder)?
     {
         folder.give_to(above.owner())?;
         drop(below);
-        return above.open_below(rt, alloc, name);
+        return system.open_below(alloc, above, name);
     }
     Ok(below)
 }

@@ -69,6 +69,8 @@ fn make<S: System>(
     ensures made { IfOk result (λ aside. (place_of aside ≡ name_in folder.now name.now)
         × StandsAlone (place_of aside) (key_of aside) (S.holds system.new)) }
     ensures others { IsAlikeBut (name_in folder.now name.now) (S.holds system.old) (S.holds system.new) }
+    ensures still { S.folders system.new ≡ S.folders system.old }
+    ensures earlier { S.honest system.new → S.honest system.old }
 {
     match system.make(folder, name, mode) {
         Err(error) if error.kind() == ErrorKind::AlreadyExists => {
@@ -144,6 +146,8 @@ impl NewFile {
         ensures filled { MatchResult result
             (λ _. IsFilled (key_of aside.now) (joined content.entry.parts) false (S.holds system.old) (S.holds system.new))
             (λ _. IsAlikeButFile (key_of aside.now) (S.holds system.old) (S.holds system.new)) }
+        ensures still { S.folders system.new ≡ S.folders system.old }
+        ensures earlier { S.honest system.new → S.honest system.old }
     {
         self.keep_owner(aside, content.wanted)?;
         write_parts(system, aside, &mut self.joined, content.parts)?;
@@ -167,6 +171,8 @@ impl NewFile {
         ensures filled { MatchResult result
             (λ _. IsFilled (key_of aside.now) (joined content.entry.parts) (is_kept unsynced.old.syncs) (S.holds system.old) (S.holds system.new))
             (λ _. IsAlikeButFile (key_of aside.now) (S.holds system.old) (S.holds system.new)) }
+        ensures still { S.folders system.new ≡ S.folders system.old }
+        ensures earlier { S.honest system.new → S.honest system.old }
     {
         self.fill(system, aside, content)?;
         unsynced.sync_data(system, aside, path)
@@ -187,6 +193,8 @@ impl NewFile {
         ensures written { StandsAlone (place_of aside.now) (key_of aside.now) (S.holds system.old)
             → IsWritten (λ place. place ≡ place_of aside.now) (name_in target.entry.folder.now target.entry.name.now) (joined content.entry.parts)
             (is_kept unsynced.old.syncs) (S.holds system.old) (S.holds system.new) (is_ok result) }
+        ensures still { S.folders system.new ≡ S.folders system.old }
+        ensures earlier { S.honest system.new → S.honest system.old }
     {
         self.complete(system, aside, target.path, content, unsynced)?;
         system.rename(aside, target.folder, target.name)
@@ -206,6 +214,8 @@ impl NewFile {
         ensures written { StandsAlone (place_of aside.now) (key_of aside.now) (S.holds system.old)
             → IsWritten (λ place. place ≡ place_of aside.now) (name_in target.entry.folder.now target.entry.name.now) (joined content.entry.parts)
             (is_kept unsynced.old.syncs) (S.holds system.old) (S.holds system.new) (is_ok result) }
+        ensures still { S.folders system.new ≡ S.folders system.old }
+        ensures earlier { S.honest system.new → S.honest system.old }
     {
         let written = self.put_in_place(system, aside, target, content, unsynced);
         if written.is_err() {
@@ -235,6 +245,8 @@ impl NewFile {
         ensures syncs { unsynced.new.syncs ≡ unsynced.old.syncs }
         ensures written { IsWritten (IsNewPlace self.old.folder.identity target.entry.folder.now.identity) (name_in target.entry.folder.now target.entry.name.now) (joined content.entry.parts)
             (is_kept unsynced.old.syncs) (S.holds system.old) (S.holds system.new) (is_ok result) }
+        ensures still { S.folders system.new ≡ S.folders system.old }
+        ensures earlier { S.honest system.new → S.honest system.old }
     {
         let aside = make(system, &self.folder, NEW, content.mode)?;
         self.put_or_discard(system, &aside, target, content, unsynced)
@@ -252,6 +264,8 @@ impl NewFile {
         ensures syncs { unsynced.new.syncs ≡ unsynced.old.syncs }
         ensures written { IsWritten (IsNewPlace self.old.folder.identity target.entry.folder.now.identity) (name_in target.entry.folder.now target.entry.name.now) (joined content.entry.parts)
             (is_kept unsynced.old.syncs) (S.holds system.old) (S.holds system.new) (is_ok result) }
+        ensures still { S.folders system.new ≡ S.folders system.old }
+        ensures earlier { S.honest system.new → S.honest system.old }
     {
         let aside = make(system, target.folder, NEW_BESIDE, content.mode)?;
         self.forget_granted();
@@ -274,6 +288,8 @@ impl NewFile {
         ensures syncs { unsynced.new.syncs ≡ unsynced.old.syncs }
         ensures written { IsWritten (IsNewPlace self.old.folder.identity target.entry.folder.now.identity) (name_in target.entry.folder.now target.entry.name.now) (joined content.entry.parts)
             (is_kept unsynced.old.syncs) (S.holds system.old) (S.holds system.new) (is_ok result) }
+        ensures still { S.folders system.new ≡ S.folders system.old }
+        ensures earlier { S.honest system.new → S.honest system.old }
     {
         match self.write_here(system, target, content, unsynced) {
             Err(error) if error.kind() == ErrorKind::CrossesDevices => {
@@ -295,6 +311,8 @@ impl NewFile {
         ensures filled { IfOk result (λ aside. IsNewIn self.old.folder.identity (place_of aside)
             × (S.holds system.new (place_of aside) ≡ file (key_of aside) (joined content.entry.parts) false)) }
         ensures others { IsAlikeUnless (IsNewIn self.old.folder.identity) (S.holds system.old) (S.holds system.new) }
+        ensures still { S.folders system.new ≡ S.folders system.old }
+        ensures earlier { S.honest system.new → S.honest system.old }
     {
         let name = NewName::of_number(alloc, number)?;
         let aside = make(system, &self.folder, name.as_str(), content.mode)?;
@@ -307,7 +325,9 @@ impl NewFile {
 
     /// Removes what a stopped run has left of new files here, which have these names.
     pub fn clear<S: System>(&self, system: &mut S, names: &[NewName]) -> Result<(), FolderFault>
-        ensures { IsAlikeUnless (IsNewIn self.now.folder.identity) (S.holds system.old) (S.holds system.new) }
+        ensures others { IsAlikeUnless (IsNewIn self.now.folder.identity) (S.holds system.old) (S.holds system.new) }
+        ensures still { S.folders system.new ≡ S.folders system.old }
+        ensures earlier { S.honest system.new → S.honest system.old }
     {
         for name in names {
             system.remove(&self.folder, name.as_str())?;
@@ -322,10 +342,12 @@ pub fn name_aside<S: System>(
     aside: &Aside,
     target: Target<'_>,
 ) -> Result<bool, FolderFault>
-    ensures { (bytes : List ℕ) → (is_lasting : Bool)
+    ensures named { (bytes : List ℕ) → (is_lasting : Bool)
         → S.holds system.old (place_of aside.now) ≡ file (key_of aside.now) bytes is_lasting
         → IsWritten (λ place. place ≡ place_of aside.now) (name_in target.entry.folder.now target.entry.name.now) bytes is_lasting
         (S.holds system.old) (S.holds system.new) (is_named result) }
+    ensures still { S.folders system.new ≡ S.folders system.old }
+    ensures earlier { S.honest system.new → S.honest system.old }
 {
     match system.rename(aside, target.folder, target.name) {
         Err(error) if error.kind() == ErrorKind::CrossesDevices => Ok(false),

@@ -1,5 +1,5 @@
 //! Writing the parts of a file.
-ghost use Rattle.std.specs.Prelude.{MatchResult};
+ghost use Rattle.std.specs.Prelude.{◌≡◌, MatchResult};
 ghost use Rattle.reuse_tree.specs.Parts.{joined};
 ghost use Rattle.reuse_undo.specs.disk.SystemLaws.{IsAlikeButFile, IsAppended};
 ghost use Rattle.reuse_undo.specs.disk.Asides.{key_of};
@@ -21,9 +21,11 @@ pub fn write_parts<S: System>(
     room: &mut Vec<u8>,
     parts: Parts,
 ) -> io::Result<()>
-    ensures { MatchResult result
+    ensures appended { MatchResult result
         (λ _. IsAppended (key_of aside.now) (joined parts.entry) (S.holds system.old) (S.holds system.new))
         (λ _. IsAlikeButFile (key_of aside.now) (S.holds system.old) (S.holds system.new)) }
+    ensures still { S.folders system.new ≡ S.folders system.old }
+    ensures earlier { S.honest system.new → S.honest system.old }
 {
     let Parts {
         front,

@@ -7,6 +7,7 @@ ghost use Rattle.std.specs.BTreeSet.{IsEmpty};
 ghost use Rattle.std.specs.Option.{unwrap_or};
 ghost use Rattle.reuse_undo.specs.disk.SystemLaws.{IsAlikeButFile};
 ghost use Rattle.reuse_undo.specs.disk.Asides.{key_of};
+ghost use Rattle.reuse_undo.specs.disk.Trails.{AreOpenedIf};
 ghost use Rattle.reuse_undo.specs.disk.Written.{IsSyncedIf, is_kept};
 ghost use Rattle.reuse_undo.specs.declared.disk.fault.FolderFault.TheVariants.{Device};
 ghost use Rattle.reuse_undo.specs.declared.disk.fault.Obstacle.{Obstacle};
@@ -102,6 +103,8 @@ impl Unsynced {
         ensures synced { MatchResult result
             (λ _. IsSyncedIf (is_kept self.old.syncs) (key_of aside.now) (S.holds system.old) (S.holds system.new))
             (λ _. IsAlikeButFile (key_of aside.now) (S.holds system.old) (S.holds system.new)) }
+        ensures still { S.folders system.new ≡ S.folders system.old }
+        ensures earlier { S.honest system.new → S.honest system.old }
     {
         if self.syncs == Syncs::LeftOut {
             return Ok(());
@@ -140,6 +143,11 @@ impl Unsynced {
         ensures failed { self.old.syncs ≡ Syncs.Kept
             → IfSome self.old.failed (λ obstacle. result ≡ Err (Device obstacle)) }
         ensures fails { (obstacle : Obstacle) → result ≡ Err (Device obstacle) → self.new.failed ≡ Some obstacle }
+        ensures kept { S.holds system.new ≡ S.holds system.old }
+        ensures still { S.folders system.new ≡ S.folders system.old }
+        ensures earlier { S.honest system.new → S.honest system.old }
+        ensures opened { AreOpenedIf (S.honest system.old) (S.folders system.old) trail.old
+            → AreOpenedIf (S.honest system.new) (S.folders system.new) trail.new }
     {
         if self.syncs == Syncs::LeftOut {
             return Ok(());
@@ -167,6 +175,11 @@ impl Unsynced {
         changes: &[Change],
     ) -> Result<(), FolderFault>
         ensures failed { self.new.failed ≡ self.old.failed }
+        ensures kept { S.holds system.new ≡ S.holds system.old }
+        ensures still { S.folders system.new ≡ S.folders system.old }
+        ensures earlier { S.honest system.new → S.honest system.old }
+        ensures opened { AreOpenedIf (S.honest system.old) (S.folders system.old) trail.old
+            → AreOpenedIf (S.honest system.new) (S.folders system.new) trail.new }
     {
         self.note_changes(alloc, changes)?;
         let there = self.folders_there(system, alloc, trail)?;
@@ -199,7 +212,13 @@ impl Unsynced {
         system: &mut S,
         alloc: Global,
         trail: &mut Trail,
-    ) -> Result<BTreeSet<String>, FolderFault> {
+    ) -> Result<BTreeSet<String>, FolderFault>
+        ensures kept { S.holds system.new ≡ S.holds system.old }
+        ensures still { S.folders system.new ≡ S.folders system.old }
+        ensures earlier { S.honest system.new → S.honest system.old }
+        ensures opened { AreOpenedIf (S.honest system.old) (S.folders system.old) trail.old
+            → AreOpenedIf (S.honest system.new) (S.folders system.new) trail.new }
+    {
         let mut there = BTreeSet::new(alloc);
         for folder in &self.folders {
             trail.enter(system, alloc, folder.as_str())?;

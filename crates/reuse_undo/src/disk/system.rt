@@ -1,7 +1,7 @@
 //! The calls of the system that open folders, and those that change regular files, look at them or
 //! read them: what they make of these, and what they tell of them. What a call tells holds as long
 //! as nobody else writes in the folders.
-ghost use Rattle.std.specs.Prelude.{◌≡◌, IfOk, IfSome, MatchResult};
+ghost use Rattle.std.specs.Prelude.{◌≡◌, is_ok, IfOk, IfSome, MatchResult};
 ghost use Rattle.reuse_undo.specs.disk.FileStates.{FileState};
 ghost use Rattle.reuse_undo.specs.disk.Folders.{Folders};
 
@@ -69,7 +69,7 @@ pub struct OpenedFile {
 /// The calls of the system on folders and files. What a call tells of them holds if the system is
 /// honest after the call; what is said of `holds` and `folders` holds always.
 pub trait System {
-    ghost use Rattle.reuse_undo.specs.disk.SystemLaws.{IsAlikeBut, IsAlikeButFile, IsMade, IsAppended, IsSynced, IsRenamed, IsRemoved, MayBeRenamed, IsSeen, IsReadOf, IsOpenedBelow};
+    ghost use Rattle.reuse_undo.specs.disk.SystemLaws.{IsAlikeBut, IsAlikeButFile, IsMade, IsAppended, IsSynced, IsRenamed, IsRemoved, MayBeRenamed, IsFolderMade, IsFolderRemoved, IsSeen, IsReadOf, IsOpenedBelow};
     ghost use Rattle.reuse_undo.specs.disk.Asides.{name_in, place_of, opened_at, key_of};
     ghost use Rattle.reuse_undo.specs.disk.Within.{IsWithin};
 
@@ -86,32 +86,42 @@ pub trait System {
     /// Makes an empty file of this name, and of this mode where one is given. It fails where
     /// anything has the name.
     fn make(&mut self, folder: &OpenFolder, name: &str, mode: Option<u32>) -> io::Result<Aside>
-        ensures { MatchResult result
+        ensures made { MatchResult result
             (λ aside. (place_of aside ≡ name_in folder.now name.now)
             × IsMade (name_in folder.now name.now) (key_of aside) (holds self.old) (holds self.new))
-            (λ _. IsAlikeBut (name_in folder.now name.now) (holds self.old) (holds self.new)) };
+            (λ _. IsAlikeBut (name_in folder.now name.now) (holds self.old) (holds self.new)) }
+        ensures still { folders self.new ≡ folders self.old }
+        ensures earlier { honest self.new → honest self.old };
 
     /// Writes these bytes to the end of the file. Where that fails, any may be written.
     fn append(&mut self, aside: &Aside, bytes: &[u8]) -> io::Result<()>
-        ensures { MatchResult result
+        ensures appended { MatchResult result
             (λ _. IsAppended (key_of aside.now) bytes.now (holds self.old) (holds self.new))
-            (λ _. IsAlikeButFile (key_of aside.now) (holds self.old) (holds self.new)) };
+            (λ _. IsAlikeButFile (key_of aside.now) (holds self.old) (holds self.new)) }
+        ensures still { folders self.new ≡ folders self.old }
+        ensures earlier { honest self.new → honest self.old };
 
     /// Makes the bytes of the file lasting.
     fn sync_data(&mut self, aside: &Aside) -> io::Result<()>
-        ensures { MatchResult result
+        ensures synced { MatchResult result
             (λ _. IsSynced (key_of aside.now) (holds self.old) (holds self.new))
-            (λ _. IsAlikeButFile (key_of aside.now) (holds self.old) (holds self.new)) };
+            (λ _. IsAlikeButFile (key_of aside.now) (holds self.old) (holds self.new)) }
+        ensures still { folders self.new ≡ folders self.old }
+        ensures earlier { honest self.new → honest self.old };
 
     /// Gives the file another name, in place of what has it. Where that fails, it may be done.
     fn rename(&mut self, aside: &Aside, folder: &OpenFolder, name: &str) -> io::Result<()>
-        ensures { MatchResult result
+        ensures renamed { MatchResult result
             (λ _. IsRenamed (place_of aside.now) (name_in folder.now name.now) (holds self.old) (holds self.new))
-            (λ _. MayBeRenamed (place_of aside.now) (name_in folder.now name.now) (holds self.old) (holds self.new)) };
+            (λ _. MayBeRenamed (place_of aside.now) (name_in folder.now name.now) (holds self.old) (holds self.new)) }
+        ensures still { folders self.new ≡ folders self.old }
+        ensures earlier { honest self.new → honest self.old };
 
     /// Removes what stands where the file was made. A fault of that tells no more.
     fn discard(&mut self, aside: &Aside)
-        ensures { IsAlikeBut (place_of aside.now) (holds self.old) (holds self.new) };
+        ensures others { IsAlikeBut (place_of aside.now) (holds self.old) (holds self.new) }
+        ensures still { folders self.new ≡ folders self.old }
+        ensures earlier { honest self.new → honest self.old };
 
     /// Removes the file of this name. Where that fails, it may be done.
     fn remove(&mut self, folder: &OpenFolder, name: &str) -> io::Result<()>
@@ -119,6 +129,18 @@ pub trait System {
             (λ _. IsRemoved (name_in folder.now name.now) (holds self.old) (holds self.new))
             (λ _. IsAlikeBut (name_in folder.now name.now) (holds self.old) (holds self.new)) }
         ensures still { folders self.new ≡ folders self.old }
+        ensures earlier { honest self.new → honest self.old };
+
+    /// Makes a folder of this name. Where that fails, it may be done.
+    fn make_folder(&mut self, above: &OpenFolder, name: &str) -> io::Result<()>
+        ensures kept { holds self.new ≡ holds self.old }
+        ensures made { IsFolderMade (name_in above.now name.now) (folders self.old) (folders self.new) (is_ok result) }
+        ensures earlier { honest self.new → honest self.old };
+
+    /// Removes the empty folder of this name. Where that fails, it may be done.
+    fn remove_folder(&mut self, above: &OpenFolder, name: &str) -> io::Result<()>
+        ensures kept { holds self.new ≡ holds self.old }
+        ensures removed { IsFolderRemoved (name_in above.now name.now) (folders self.old) (folders self.new) (is_ok result) }
         ensures earlier { honest self.new → honest self.old };
 
     /// Opens the root, which is at this path.

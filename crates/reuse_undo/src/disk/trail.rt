@@ -1,9 +1,9 @@
 //! The folders that are open: the root, and those along the path that was worked in last. Calls
 //! come in the order of their paths, so most find their folder open. A folder is opened through the
 //! handle of the one above it.
-ghost use Rattle.std.specs.Prelude.{◌≡◌, ◌∷◌, [], IfOk, IfSome, MatchOption, Some, string_bytes};
+ghost use Rattle.std.specs.Prelude.{◌≡◌, ◌≢◌, ◌∷◌, [], IfOk, IfSome, MatchOption, None, Some, string_bytes};
 ghost use Rattle.reuse_undo.specs.disk.FolderPlaces.{IsNoFile};
-ghost use Rattle.reuse_undo.specs.disk.Folders.{Folders, folder_along, folder_at};
+ghost use Rattle.reuse_undo.specs.disk.Folders.{Folders, folder_along, folder_at, IsGrown};
 ghost use Rattle.reuse_undo.specs.disk.Trails.{IsNext, IsRest};
 
 use crate::disk::empty_folders::path_in;
@@ -16,13 +16,14 @@ use crate::disk::process::ProcessIds;
 use crate::disk::syncs::Unsynced;
 use crate::disk::system::{HostSystem, System};
 use std::alloc::{AllocError, Global};
-use std::fs::{self, File};
+use std::fs::File;
 use std::rt::{Env, Files};
 
-/// How many folders are open at most. Where a path has more, those next to the root are closed.
-const MOST_OPEN: usize = 16;
+/// How many folders below the root are open at most. Where a path has more, those next to the root
+/// are closed.
+const MOST_OPEN: usize = 15;
 
-/// An open folder along the trail, and its path below the root, which is empty for the root.
+/// An open folder along the trail, and its path below the root.
 #[derive(Drop)]
 struct Step {
     path: String,
@@ -33,10 +34,12 @@ struct Step {
 #[derive(Drop)]
 pub struct Trail {
     /// The path of the root.
-    root: String,
+    root_path: String,
     /// The process. What root makes is given to the owner of the folder above.
     process: ProcessIds,
-    /// The first one is the root. There is none until the root is asked for.
+    /// The root, from when it is asked for.
+    root: Option<OpenFolder>,
+    /// Those below it.
     steps: Vec<Step>,
     /// The folder that the process was called in, while it is where its handles are shown.
     origin: Option<Origin>,
@@ -44,16 +47,17 @@ pub struct Trail {
 
 impl Trail {
     ghost use Rattle.reuse_undo.specs.disk.FolderReads.{current_of};
-    ghost use Rattle.reuse_undo.specs.disk.Trails.{AreOpened, HasNoSlash, IsEntered, IsOnWay, path_of};
+    ghost use Rattle.reuse_undo.specs.disk.Trails.{AreOpened, AreOpenedIf, HasNoSlash, IsEntered, IsOnWay, IsOpenedFrom, IsRootOpened, path_of};
 
     /// The trail of this process that begins at the root of this path. Nothing is asked of the
     /// system yet.
-    pub fn new(alloc: Global, root: String, process: ProcessIds) -> Trail
-        ensures { result.steps.items ≡ [] }
+    pub fn new(alloc: Global, root_path: String, process: ProcessIds) -> Trail
+        ensures { (folders : Folders) → AreOpened folders result }
     {
         Trail {
-            root,
+            root_path,
             process,
+            root: None,
             steps: Vec::new(alloc),
             origin: None,
         }
@@ -67,7 +71,13 @@ impl Trail {
         system: &mut HostSystem<R>,
         env: &impl Env,
         alloc: Global,
-    ) {
+    )
+        ensures kept { ⟦<HostSystem<R> as System>⟧.holds system.new ≡ ⟦<HostSystem<R> as System>⟧.holds system.old }
+        ensures still { ⟦<HostSystem<R> as System>⟧.folders system.new ≡ ⟦<HostSystem<R> as System>⟧.folders system.old }
+        ensures earlier { ⟦<HostSystem<R> as System>⟧.honest system.new → ⟦<HostSystem<R> as System>⟧.honest system.old }
+        ensures opened { AreOpenedIf (⟦<HostSystem<R> as System>⟧.honest system.old) (⟦<HostSystem<R> as System>⟧.folders system.old) self.old
+            → AreOpenedIf (⟦<HostSystem<R> as System>⟧.honest system.new) (⟦<HostSystem<R> as System>⟧.folders system.new) self.new }
+    {
         if self.go_back(system, alloc, "").is_err() || self.is_by_path() {
             return;
         }
@@ -76,7 +86,9 @@ impl Trail {
     }
 
     /// Comes back to the folder that the process was called in.
-    pub fn come_back(&mut self, env: &impl Env, alloc: Global) {
+    pub fn come_back(&mut self, env: &impl Env, alloc: Global)
+        ensures { (folders : Folders) → AreOpened folders self.old → AreOpened folders self.new }
+    {
         if let Some(origin) = self.origin.take() {
             origin.come_back(env, alloc);
             self.tell_from_start(alloc);
@@ -85,15 +97,16 @@ impl Trail {
 
     /// Tells paths through the root from where the process is, and closes all other folders. For
     /// an allocation failure the root is closed, too.
-    fn tell_from_start(&mut self, alloc: Global) {
-        self.steps.truncate(1);
+    fn tell_from_start(&mut self, alloc: Global)
+        ensures { (folders : Folders) → AreOpened folders self.old → AreOpened folders self.new }
+    {
+        self.close();
         let start = self.start();
-        let is_told = match self.steps.first_mut() {
-            Some(step) => step.folder.tell_from(alloc, start).is_ok(),
-            None => true,
+        let Some(mut root) = self.root.take() else {
+            return;
         };
-        if !is_told {
-            self.steps.clear();
+        if root.tell_from(alloc, start).is_ok() {
+            self.root = Some(root);
         }
     }
 
@@ -106,9 +119,10 @@ impl Trail {
 
     /// The path of the root, as the system takes it from where the process is.
     fn root_path(&self, alloc: Global) -> Result<String, AllocError> {
+        let path = self.root_path.as_str();
         match &self.origin {
-            Some(origin) if !self.root.is_empty() => origin.path_from(alloc, self.root.as_str()),
-            _ => String::from_str(alloc, self.root.as_str()),
+            Some(origin) if !path.is_empty() => origin.path_from(alloc, path),
+            _ => String::from_str(alloc, path),
         }
     }
 
@@ -116,9 +130,10 @@ impl Trail {
     pub fn current(&self) -> Result<&OpenFolder, FolderFault>
         ensures { IfOk result (λ folder. current_of self.now ≡ Some folder.now.identity) }
     {
-        match self.steps.last() {
-            Some(step) => Ok(&step.folder),
-            None => Err(FolderFault::Device(Obstacle::NoRoot)),
+        match (self.steps.last(), &self.root) {
+            (Some(step), _) => Ok(&step.folder),
+            (None, Some(root)) => Ok(root),
+            (None, None) => Err(FolderFault::Device(Obstacle::NoRoot)),
         }
     }
 
@@ -132,20 +147,21 @@ impl Trail {
         }
     }
 
-    /// Opens the root, if no folder is open.
+    /// Opens the root, if it isn't open.
     fn open_root<S: System>(&mut self, system: &mut S, alloc: Global) -> Result<(), FolderFault>
         ensures kept { S.holds system.new ≡ S.holds system.old }
         ensures still { S.folders system.new ≡ S.folders system.old }
         ensures earlier { S.honest system.new → S.honest system.old }
-        ensures opened { (S.honest system.old → AreOpened (S.folders system.old) self.old)
-            → S.honest system.new → AreOpened (S.folders system.new) self.new }
+        ensures opened { AreOpenedIf (S.honest system.old) (S.folders system.old) self.old
+            → AreOpenedIf (S.honest system.new) (S.folders system.new) self.new }
+        ensures root { IfOk result (λ _. self.new.root ≢ None) }
     {
-        if !self.steps.is_empty() {
-            return Ok(());
+        if self.root.is_none() {
+            let path = self.root_path(alloc)?;
+            let root = system.open_root(alloc, path.as_str(), self.process, self.start())?;
+            self.root = Some(root);
         }
-        let path = self.root_path(alloc)?;
-        let root = system.open_root(alloc, path.as_str(), self.process, self.start())?;
-        Ok(self.push(String::new(alloc), root)?)
+        Ok(())
     }
 
     /// Opens the root, and closes the folders that aren't on the way to this one. Gives what of its
@@ -159,20 +175,19 @@ impl Trail {
         ensures kept { S.holds system.new ≡ S.holds system.old }
         ensures still { S.folders system.new ≡ S.folders system.old }
         ensures earlier { S.honest system.new → S.honest system.old }
-        ensures opened { (S.honest system.old → AreOpened (S.folders system.old) self.old)
-            → S.honest system.new → AreOpened (S.folders system.new) self.new }
-        ensures way { (S.honest system.old → AreOpened (S.folders system.old) self.old) → S.honest system.new
+        ensures opened { AreOpenedIf (S.honest system.old) (S.folders system.old) self.old
+            → AreOpenedIf (S.honest system.new) (S.folders system.new) self.new }
+        ensures way { AreOpenedIf (S.honest system.old) (S.folders system.old) self.old → S.honest system.new
             → IfOk result (λ rest. IsOnWay (S.folders system.new) (S.holds system.new) (current_of self.new) rest.now folder.now) }
     {
         self.open_root(system, alloc)?;
-        for _ in 0..self.steps.len() {
+        while !self.steps.is_empty() {
             if let Some(rest) = rest_below(self.path(), folder) {
                 return Ok(rest);
             }
             self.steps.pop();
         }
-        // Not reached: the first open folder is the root, and each path lies below that.
-        Err(FolderFault::Device(Obstacle::NoRoot))
+        Ok(folder)
     }
 
     fn push(&mut self, path: String, folder: OpenFolder) -> Result<(), AllocError>
@@ -181,7 +196,7 @@ impl Trail {
         ensures current { IfOk result (λ _. current_of self.new ≡ Some folder.identity) }
     {
         if self.steps.len() >= MOST_OPEN {
-            self.steps.remove(1);
+            self.steps.remove(0);
         }
         self.steps.push(Step { path, folder })?;
         Ok(())
@@ -211,9 +226,9 @@ impl Trail {
         ensures still { S.folders system.new ≡ S.folders system.old }
         ensures earlier { S.honest system.new → S.honest system.old }
         ensures no_file { IfOk result (λ place. IfSome place IsNoFile) }
-        ensures opened { (S.honest system.old → AreOpened (S.folders system.old) self.old)
-            → S.honest system.new → AreOpened (S.folders system.new) self.new }
-        ensures entered { (S.honest system.old → AreOpened (S.folders system.old) self.old) → S.honest system.new
+        ensures opened { AreOpenedIf (S.honest system.old) (S.folders system.old) self.old
+            → AreOpenedIf (S.honest system.new) (S.folders system.new) self.new }
+        ensures entered { AreOpenedIf (S.honest system.old) (S.folders system.old) self.old → S.honest system.new
             → IfOk result (IsEntered (S.folders system.new) (S.holds system.new) folder.now (current_of self.new)) }
     {
         let mut rest = self.go_back(system, alloc, folder)?;
@@ -240,9 +255,9 @@ impl Trail {
         ensures kept { S.holds system.new ≡ S.holds system.old }
         ensures still { S.folders system.new ≡ S.folders system.old }
         ensures earlier { S.honest system.new → S.honest system.old }
-        ensures opened { (S.honest system.old → AreOpened (S.folders system.old) self.old)
-            → S.honest system.new → AreOpened (S.folders system.new) self.new }
-        ensures entered { (S.honest system.old → AreOpened (S.folders system.old) self.old) → S.honest system.new
+        ensures opened { AreOpenedIf (S.honest system.old) (S.folders system.old) self.old
+            → AreOpenedIf (S.honest system.new) (S.folders system.new) self.new }
+        ensures entered { AreOpenedIf (S.honest system.old) (S.folders system.old) self.old → S.honest system.new
             → IfOk result (λ _. folder_at (S.folders system.new) folder.now ≡ current_of self.new) }
     {
         match self.enter(system, alloc, folder)? {
@@ -263,6 +278,10 @@ impl Trail {
         folder: &str,
     ) -> Result<bool, FolderFault>
         ensures kept { ⟦<HostSystem<R> as System>⟧.holds system.new ≡ ⟦<HostSystem<R> as System>⟧.holds system.old }
+        ensures still { ⟦<HostSystem<R> as System>⟧.folders system.new ≡ ⟦<HostSystem<R> as System>⟧.folders system.old }
+        ensures earlier { ⟦<HostSystem<R> as System>⟧.honest system.new → ⟦<HostSystem<R> as System>⟧.honest system.old }
+        ensures opened { AreOpenedIf (⟦<HostSystem<R> as System>⟧.honest system.old) (⟦<HostSystem<R> as System>⟧.folders system.old) self.old
+            → AreOpenedIf (⟦<HostSystem<R> as System>⟧.honest system.new) (⟦<HostSystem<R> as System>⟧.folders system.new) self.new }
     {
         match self.enter(system, alloc, folder)? {
             None => Ok(true),
@@ -291,6 +310,10 @@ impl Trail {
         unsynced: &mut Unsynced,
     ) -> Result<(), FolderFault>
         ensures kept { ⟦<HostSystem<R> as System>⟧.holds system.new ≡ ⟦<HostSystem<R> as System>⟧.holds system.old }
+        ensures grown { IsGrown (⟦<HostSystem<R> as System>⟧.folders system.old) (⟦<HostSystem<R> as System>⟧.folders system.new) }
+        ensures earlier { ⟦<HostSystem<R> as System>⟧.honest system.new → ⟦<HostSystem<R> as System>⟧.honest system.old }
+        ensures opened { AreOpenedIf (⟦<HostSystem<R> as System>⟧.honest system.old) (⟦<HostSystem<R> as System>⟧.folders system.old) self.old
+            → AreOpenedIf (⟦<HostSystem<R> as System>⟧.honest system.new) (⟦<HostSystem<R> as System>⟧.folders system.new) self.new }
         ensures syncs { unsynced.new.syncs ≡ unsynced.old.syncs }
     {
         let mut rest = self.go_back(system, alloc, folder)?;
@@ -304,6 +327,8 @@ impl Trail {
         Ok(())
     }
 
+    /// The folder of this name in the one that was entered last, which is made if nothing has the
+    /// name.
     fn open_or_make<R: Files<File = File> + AllocGlobal + Clone + Drop>(
         &self,
         system: &mut HostSystem<R>,
@@ -312,15 +337,19 @@ impl Trail {
         unsynced: &mut Unsynced,
     ) -> Result<Below, FolderFault>
         ensures kept { ⟦<HostSystem<R> as System>⟧.holds system.new ≡ ⟦<HostSystem<R> as System>⟧.holds system.old }
+        ensures grown { IsGrown (⟦<HostSystem<R> as System>⟧.folders system.old) (⟦<HostSystem<R> as System>⟧.folders system.new) }
+        ensures earlier { ⟦<HostSystem<R> as System>⟧.honest system.new → ⟦<HostSystem<R> as System>⟧.honest system.old }
+        ensures opened { ⟦<HostSystem<R> as System>⟧.honest system.new
+            → IsOpenedFrom (⟦<HostSystem<R> as System>⟧.folders system.new) (current_of self.now) name.now result }
         ensures syncs { unsynced.new.syncs ≡ unsynced.old.syncs }
     {
         let above = self.current()?;
         match system.open_below(alloc, above, name)? {
             Below::Other(Found::Nothing) => {
                 unsynced.note(alloc, self.path())?;
-                fs::create_dir(system.rt(), above.path_of(alloc, name)?.as_str())?;
+                system.make_folder(above, name)?;
                 if self.process.is_of_root() {
-                    return open_made_by_root(system.rt(), alloc, above, name);
+                    return open_made_by_root(system, alloc, above, name);
                 }
                 system.open_below(alloc, above, name)
             }
@@ -330,10 +359,10 @@ impl Trail {
 
     /// Fails if another folder than the open one stands at the path of the root, or none.
     pub fn check_root(&self, rt: &impl Files, alloc: Global) -> Result<(), FolderFault> {
-        match self.steps.first() {
-            Some(step) => {
+        match &self.root {
+            Some(root) => {
                 let path = self.root_path(alloc)?;
-                step.folder.check_root(rt, alloc, path.as_str())
+                root.check_root(rt, alloc, path.as_str())
             }
             None => Err(FolderFault::Device(Obstacle::NoRoot)),
         }
@@ -341,15 +370,17 @@ impl Trail {
 
     /// Whether folders are sought by their paths, since the system doesn't show open ones.
     pub fn is_by_path(&self) -> bool {
-        match self.steps.first() {
-            Some(step) => !step.folder.is_shown(),
+        match &self.root {
+            Some(root) => !root.is_shown(),
             None => false,
         }
     }
 
     /// Closes all folders but the root, so that each is looked at anew.
-    pub fn close(&mut self) {
-        self.steps.truncate(1);
+    pub fn close(&mut self)
+        ensures { (folders : Folders) → IsRootOpened folders self.old → AreOpened folders self.new }
+    {
+        self.steps.clear();
     }
 }
 

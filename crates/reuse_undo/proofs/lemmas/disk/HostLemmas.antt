@@ -11,7 +11,7 @@ use Rattle.reuse_undo.specs.disk.FileStates.{FileKey, StateFile, Place, FileStat
 use Rattle.reuse_undo.specs.disk.FileStates.FileKey.{Found, Made}
 use Rattle.reuse_undo.specs.disk.SystemLaws.{IsAlike, IsAlikeBut, IsAlikeButFile, IsMade, IsFilled, IsSynced, IsRenamed, IsRemoved, MayBeRenamed}
 use Rattle.reuse_undo.specs.disk.SystemCall.{SystemCall, made_of}
-use Rattle.reuse_undo.specs.disk.SystemCall.SystemCall.{MakeCall, AppendCall, SyncCall, RenameCall, RemoveCall, LookCall, ReadCall, RootCall, OpenCall, NoFolderCall}
+use Rattle.reuse_undo.specs.disk.SystemCall.SystemCall.{MakeCall, AppendCall, SyncCall, RenameCall, RemoveCall, LookCall, ReadCall, RootCall, OpenCall, NoFolderCall, MakeFolderCall, RemoveFolderCall}
 use Rattle.reuse_undo.specs.disk.SystemCalls.{held_at_start, set, set_by, is_made, filled_if, filled, renamed, renamed_by, held_by, held_after, fate_at}
 
 set_here : (held : FileState) (place : Place) (one : Option StateFile) → set held place one place ≡ one
@@ -127,6 +127,8 @@ step-below fate (ReadCall at said limit answer) calls held old = old
 step-below fate (RootCall opened) calls held old = old
 step-below fate (OpenCall above name opened) calls held old = old
 step-below fate (NoFolderCall above name found) calls held old = old
+step-below fate (MakeFolderCall above name is) calls held old = old
+step-below fate (RemoveFolderCall at is) calls held old = old
 
 after-below : (files : List (Place × (ℕ × (List ℕ × Bool)))) (fates : List ℕ) (calls : List SystemCall) → AreBelow (made_of calls) (held_after files fates calls)
 after-below files fates [] = start-below files

@@ -1,7 +1,7 @@
 -- The open folders of a trail, as they come and go.
-use Rattle.std.proofs.Common.{◌≡◌, ◌≢◌, ◌⊎◌, inl, inr, ℕ, ◌<◌, ◌+◌, ◌-◌, List, [], ◌∷◌, ◌++◌, length, take, drop, get_or, Option, None, Some, refl, sym, ◌∙◌, ap, subst, arith, length-append, string_bytes, slice_get, option_map}
+use Rattle.std.proofs.Common.{◌≡◌, ◌≢◌, ◌⊎◌, inl, inr, ℕ, ◌<◌, ◌+◌, ◌-◌, List, [], ◌∷◌, ◌++◌, length, take, drop, get_or, Option, None, Some, IfSome, refl, sym, ◌∙◌, ap, subst, arith, length-append, string_bytes, slice_get, option_map}
 use Rattle.std.specs.List.{All}
-use Rattle.std.specs.Option.{unwrap_or}
+use Rattle.std.specs.Option.{option_or, unwrap_or}
 use Rattle.std.proofs.Math.Seq.{get_or-append_seam}
 use Rattle.std.proofs.lemmas.List.Elements.{All-append, All-take, All-drop, All-push, All-get_or}
 use Rattle.std.proofs.lemmas.Option.{slice_get-get_or, slice_get_within, get_or_from_slice_get}
@@ -11,6 +11,7 @@ use Rattle.reuse_undo.specs.disk.Folders.{Folders, folder_in, folder_along, fold
 use Rattle.reuse_undo.specs.disk.SystemLaws.{IsNoFolder}
 use Rattle.reuse_undo.specs.disk.Trails.{HasNoSlash, IsEntered, IsNext, IsOnWay, IsRest, path_below}
 use Rattle.reuse_undo.specs.disk.FolderPlaces.{place_below}
+use Rattle.reuse_undo.specs.declared.disk.handle.OpenFolder.{OpenFolder}
 use Rattle.reuse_undo.specs.declared.disk.place.Found.{Found}
 use Rattle.reuse_undo.specs.declared.disk.place.Found.TheVariants as found
 use Rattle.reuse_undo.specs.declared.disk.place.Identity.{Identity}
@@ -22,15 +23,15 @@ use Rattle.reuse_undo.proofs.lemmas.disk.LastNames.{between-append, no_slash}
 abbrev pub IsAt : Folders → Step → Type 0
 IsAt folders step = folder_at folders (string_bytes step.path) ≡ Some step.folder.identity
 
-without_second : (folders : Folders) (steps : List Step) → All (IsAt folders) steps → All (IsAt folders) (take 1 steps ++ drop 2 steps)
-without_second folders steps all = All-append (IsAt folders) (take 1 steps) (drop 2 steps) (All-take (IsAt folders) 1 steps all) (All-drop (IsAt folders) 2 steps all)
-
 -- one folder more
 pub opened_push : (folders : Folders) (old new : List Step) (step : Step) → new ≡ old ++ step ∷ [] → All (IsAt folders) old → IsAt folders step → All (IsAt folders) new
 opened_push folders old new step is all here = rw is (All-push (IsAt folders) old step all here)
 
-pub opened_removed : (folders : Folders) (old new : List Step) → new ≡ take 1 old ++ drop 2 old → All (IsAt folders) old → All (IsAt folders) new
-opened_removed folders old new is all = rw is (without_second folders old all)
+pub opened_removed : (folders : Folders) (old new : List Step) → new ≡ take 0 old ++ drop 1 old → All (IsAt folders) old → All (IsAt folders) new
+opened_removed folders old new is all = rw is (All-append (IsAt folders) (take 0 old) (drop 1 old) (All-take (IsAt folders) 0 old all) (All-drop (IsAt folders) 1 old all))
+
+pub opened_popped : (folders : Folders) (n : ℕ) (old new : List Step) → new ≡ take n old → All (IsAt folders) old → All (IsAt folders) new
+opened_popped folders n old new is all = rw is (All-take (IsAt folders) n old all)
 
 pub last_pushed : {A : Type 0} (f : Step → A) (old new : List Step) (step : Step) → new ≡ old ++ step ∷ [] → option_map f (slice_get new (length new - 1)) ≡ Some (f step)
 last_pushed f old new step is =
@@ -40,20 +41,37 @@ last_pushed f old new step is =
     let one : get_or new (length old) step ≡ step = ap (λ l. get_or l (length old) step) is ∙ get_or-append_seam old step [] step in
     ap (λ n. option_map f (slice_get new n)) long ∙ ap (option_map f) (got ∙ ap (λ s. Some s) one)
 
--- ---- the last folder is the one at its path
+-- ---- the folder that was entered last is the one at its path
 
-at_last : (folders : Folders) (steps : List Step) (o : Option Step) → slice_get steps (length steps - 1) ≡ o → All (IsAt folders) steps → (at : Identity) → option_map (λ step. step.folder.identity) o ≡ Some at
+-- the folder that was entered last, by the root and the steps, and its path
+abbrev pub last_folder : Option OpenFolder → Option Step → Option Identity
+last_folder root last = option_or (option_map (λ step. step.folder.identity) last) (option_map (λ folder. folder.identity) root)
+
+abbrev pub last_step : List Step → Option Step
+last_step steps = slice_get steps (length steps - 1)
+
+abbrev pub last_path : List Step → List ℕ
+last_path steps = unwrap_or (option_map (λ step. string_bytes step.path) (last_step steps)) []
+
+abbrev pub IsRoot : Folders → Option OpenFolder → Type 0
+IsRoot folders root = IfSome root (λ folder. folder.identity ≡ folders.root)
+
+at_root : (folders : Folders) (root : Option OpenFolder) (at : Identity) → IsRoot folders root → option_map (λ folder. folder.identity) root ≡ Some at → Some folders.root ≡ Some at
+at_root folders None at is e = absurd (cc)
+at_root folders (Some folder) at is e = ap (λ i. Some i) (sym is) ∙ e
+
+at_last : (folders : Folders) (root : Option OpenFolder) (steps : List Step) (o : Option Step) → last_step steps ≡ o → IsRoot folders root → All (IsAt folders) steps → (at : Identity) → last_folder root o ≡ Some at
     → folder_at folders (unwrap_or (option_map (λ step. string_bytes step.path) o) []) ≡ Some at
-at_last folders steps None is all at e = absurd (cc)
-at_last folders steps (Some step) is all at e =
+at_last folders root steps None is first all at e = at_root folders root at first e
+at_last folders root steps (Some step) is first all at e =
     let inside : length steps - 1 < length steps = slice_get_within steps (length steps - 1) step is in
     let same : get_or steps (length steps - 1) step ≡ step = get_or_from_slice_get steps (length steps - 1) step step is in
     let here : IsAt folders step = subst (IsAt folders) same (All-get_or (IsAt folders) steps (length steps - 1) step inside all) in
     here ∙ e
 
-pub current_at : (folders : Folders) (steps : List Step) (at : Identity) → All (IsAt folders) steps → option_map (λ step. step.folder.identity) (slice_get steps (length steps - 1)) ≡ Some at
-    → folder_at folders (unwrap_or (option_map (λ step. string_bytes step.path) (slice_get steps (length steps - 1))) []) ≡ Some at
-current_at folders steps at all e = at_last folders steps (slice_get steps (length steps - 1)) refl all at e
+pub current_at : (folders : Folders) (root : Option OpenFolder) (steps : List Step) (at : Identity) → IsRoot folders root → All (IsAt folders) steps → last_folder root (last_step steps) ≡ Some at
+    → folder_at folders (last_path steps) ≡ Some at
+current_at folders root steps at first all e = at_last folders root steps (last_step steps) refl first all at e
 
 -- ---- a step
 
@@ -176,28 +194,35 @@ step_from : (folders : Folders) (path name : List ℕ) (current : Option Identit
 step_from folders path name None one apart above is = absurd (cc)
 step_from folders path name (Some at) one apart above is = below_at folders path name at one apart (above at refl) is
 
-pub step_at : (folders : Folders) (steps : List Step) (name : List ℕ) (one : Identity) → HasNoSlash name → All (IsAt folders) steps
-    → folder_along folders (option_map (λ step. step.folder.identity) (slice_get steps (length steps - 1))) (name ∷ []) ≡ Some one
-    → folder_at folders (path_below (unwrap_or (option_map (λ step. string_bytes step.path) (slice_get steps (length steps - 1))) []) name) ≡ Some one
-step_at folders steps name one apart all is =
-    step_from folders (unwrap_or (option_map (λ step. string_bytes step.path) (slice_get steps (length steps - 1))) []) name
-    (option_map (λ step. step.folder.identity) (slice_get steps (length steps - 1))) one apart (λ at e. current_at folders steps at all e) is
+pub step_at : (folders : Folders) (root : Option OpenFolder) (steps : List Step) (name : List ℕ) (one : Identity) → HasNoSlash name → IsRoot folders root → All (IsAt folders) steps
+    → folder_along folders (last_folder root (last_step steps)) (name ∷ []) ≡ Some one → folder_at folders (path_below (last_path steps) name) ≡ Some one
+step_at folders root steps name one apart first all is =
+    step_from folders (last_path steps) name (last_folder root (last_step steps)) one apart (λ at e. current_at folders root steps at first all e) is
 
 -- ---- the folder that was gone back to
 
-pub way_back : (folders : Folders) (held : FileState) (steps : List Step) (folder path rest : List ℕ) → 0 < length steps → All (IsAt folders) steps
-    → folder ≡ unwrap_or (option_map (λ step. string_bytes step.path) (slice_get steps (length steps - 1))) [] → IsRest folder path rest
-    → IsOnWay folders held (option_map (λ step. step.folder.identity) (slice_get steps (length steps - 1))) rest path
-way_back folders held [] folder path rest some all is below = absurd (omega (arith, some))
-way_back folders held (step ∷ steps) folder path rest some all is below =
+pub way_back : (folders : Folders) (held : FileState) (root : Option OpenFolder) (steps : List Step) (folder path rest : List ℕ) → 0 < length steps → IsRoot folders root → All (IsAt folders) steps
+    → folder ≡ last_path steps → IsRest folder path rest → IsOnWay folders held (last_folder root (last_step steps)) rest path
+way_back folders held root [] folder path rest some first all is below = absurd (omega (arith, some))
+way_back folders held root (step ∷ steps) folder path rest some first all is below =
     let all_steps : List Step = step ∷ steps in
     let n : ℕ = length all_steps - 1 in
     let short : n < length all_steps = omega arith in
     let last : Step = get_or all_steps n step in
     let got : slice_get all_steps n ≡ Some last = slice_get-get_or all_steps n step short in
-    let current : option_map (λ one. one.folder.identity) (slice_get all_steps n) ≡ Some last.folder.identity = ap (option_map (λ one. one.folder.identity)) got in
-    let here = current_at folders all_steps last.folder.identity all current in
+    let current : last_folder root (slice_get all_steps n) ≡ Some last.folder.identity = ap (last_folder root) got in
+    let here = current_at folders root all_steps last.folder.identity first all current in
     subst (λ o. IsOnWay folders held o rest path) (sym current) (rest_way folders held folder path rest last.folder.identity (ap (folder_at folders) is ∙ here) below)
+
+root_current : (folders : Folders) (root : Option OpenFolder) → root ≢ None → IsRoot folders root → option_map (λ folder. folder.identity) root ≡ Some folders.root
+root_current folders None some first = absurd (some refl)
+root_current folders (Some folder) some first = ap (λ i. Some i) first
+
+-- where only the root is open
+pub way_from_root : (folders : Folders) (held : FileState) (root : Option OpenFolder) (steps : List Step) (path : List ℕ) → length steps ≡ 0 → root ≢ None → IsRoot folders root
+    → IsOnWay folders held (last_folder root (last_step steps)) path path
+way_from_root folders held root [] path none some first = subst (λ o. IsOnWay folders held o path path) (sym (root_current folders root some first)) (same_way folders held path path refl)
+way_from_root folders held root (step ∷ steps) path none some first = absurd (omega (arith, none))
 
 -- ---- a turn of entering, where a call changes nothing that names lead to
 

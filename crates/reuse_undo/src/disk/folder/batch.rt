@@ -62,7 +62,10 @@ impl Seen {
 }
 
 /// Removes new files that get no name.
-fn remove_all<S: System>(system: &mut S, asides: &[Aside]) {
+fn remove_all<S: System>(system: &mut S, asides: &[Aside])
+    ensures still { S.folders system.new ≡ S.folders system.old }
+    ensures earlier { S.honest system.new → S.honest system.old }
+{
     for aside in asides {
         system.discard(aside);
     }

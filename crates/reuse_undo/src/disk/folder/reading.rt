@@ -19,7 +19,6 @@ const MOST_SEEN: usize = 1_024;
 
 impl<R: Files<File = File> + AllocGlobal + Clone + Drop> RootFolder<R> {
     ghost use Rattle.reuse_undo.specs.disk.FolderReads.{IsPlaceAt, IsReadAt, IsReadIn, LiesIn, current_of};
-    ghost use Rattle.reuse_undo.specs.disk.Trails.{AreOpened};
 
     /// The bytes of the regular file at the path, where they are at most `limit`. One that is longer
     /// isn't opened, so it needn't be readable.
@@ -35,12 +34,8 @@ impl<R: Files<File = File> + AllocGlobal + Clone + Drop> RootFolder<R> {
         ensures still { ⟦<HostSystem<R> as System>⟧.folders self.new.system ≡ ⟦<HostSystem<R> as System>⟧.folders self.old.system }
         ensures earlier { ⟦<HostSystem<R> as System>⟧.honest self.new.system
             → ⟦<HostSystem<R> as System>⟧.honest self.old.system }
-        ensures opened { (⟦<HostSystem<R> as System>⟧.honest self.old.system
-            → AreOpened (⟦<HostSystem<R> as System>⟧.folders self.old.system) self.old.trail)
-            → ⟦<HostSystem<R> as System>⟧.honest self.new.system → AreOpened (⟦<HostSystem<R> as System>⟧.folders self.new.system) self.new.trail }
         // Of a file that is remembered the bytes aren't read again.
-        ensures read { (⟦<HostSystem<R> as System>⟧.honest self.old.system
-            → AreOpened (⟦<HostSystem<R> as System>⟧.folders self.old.system) self.old.trail) → ⟦<HostSystem<R> as System>⟧.honest self.new.system → self.old.remembered.files.items ≡ []
+        ensures read { ⟦<HostSystem<R> as System>⟧.honest self.new.system → self.old.remembered.files.items ≡ []
             → IfOk result (IsReadAt (⟦<HostSystem<R> as System>⟧.folders self.new.system) (⟦<HostSystem<R> as System>⟧.holds self.new.system) path.now limit) }
     {
         let Place::File(status) = self.look(alloc, path)? else {
@@ -92,11 +87,7 @@ impl<R: Files<File = File> + AllocGlobal + Clone + Drop> RootFolder<R> {
         ensures still { ⟦<HostSystem<R> as System>⟧.folders self.new.system ≡ ⟦<HostSystem<R> as System>⟧.folders self.old.system }
         ensures earlier { ⟦<HostSystem<R> as System>⟧.honest self.new.system
             → ⟦<HostSystem<R> as System>⟧.honest self.old.system }
-        ensures opened { (⟦<HostSystem<R> as System>⟧.honest self.old.system
-            → AreOpened (⟦<HostSystem<R> as System>⟧.folders self.old.system) self.old.trail)
-            → ⟦<HostSystem<R> as System>⟧.honest self.new.system → AreOpened (⟦<HostSystem<R> as System>⟧.folders self.new.system) self.new.trail }
-        ensures read { (⟦<HostSystem<R> as System>⟧.honest self.old.system
-            → AreOpened (⟦<HostSystem<R> as System>⟧.folders self.old.system) self.old.trail) → ⟦<HostSystem<R> as System>⟧.honest self.new.system
+        ensures read { ⟦<HostSystem<R> as System>⟧.honest self.new.system
             → LiesIn (⟦<HostSystem<R> as System>⟧.folders self.old.system) path.now (current_of self.old.trail) (Place.File status)
             → IsPlaceAt (⟦<HostSystem<R> as System>⟧.folders self.old.system) (⟦<HostSystem<R> as System>⟧.holds self.old.system) path.now (current_of self.old.trail) (Place.File status)
             → IfOk result (IsReadAt (⟦<HostSystem<R> as System>⟧.folders self.new.system) (⟦<HostSystem<R> as System>⟧.holds self.new.system) path.now limit) }
@@ -119,11 +110,7 @@ impl<R: Files<File = File> + AllocGlobal + Clone + Drop> RootFolder<R> {
         ensures still { ⟦<HostSystem<R> as System>⟧.folders self.new.system ≡ ⟦<HostSystem<R> as System>⟧.folders self.old.system }
         ensures earlier { ⟦<HostSystem<R> as System>⟧.honest self.new.system
             → ⟦<HostSystem<R> as System>⟧.honest self.old.system }
-        ensures opened { (⟦<HostSystem<R> as System>⟧.honest self.old.system
-            → AreOpened (⟦<HostSystem<R> as System>⟧.folders self.old.system) self.old.trail)
-            → ⟦<HostSystem<R> as System>⟧.honest self.new.system → AreOpened (⟦<HostSystem<R> as System>⟧.folders self.new.system) self.new.trail }
-        ensures read { (⟦<HostSystem<R> as System>⟧.honest self.old.system
-            → AreOpened (⟦<HostSystem<R> as System>⟧.folders self.old.system) self.old.trail) → ⟦<HostSystem<R> as System>⟧.honest self.new.system
+        ensures read { ⟦<HostSystem<R> as System>⟧.honest self.new.system
             → IfOk result (IsReadAt (⟦<HostSystem<R> as System>⟧.folders self.new.system) (⟦<HostSystem<R> as System>⟧.holds self.new.system) path.now limit) }
     {
         let Place::File(status) = self.look(alloc, path)? else {

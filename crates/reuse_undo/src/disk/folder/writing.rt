@@ -18,8 +18,7 @@ use std::fs::File;
 use std::rt::Files;
 
 impl<R: Files<File = File> + AllocGlobal + Clone + Drop> RootFolder<R> {
-    ghost use Rattle.reuse_undo.specs.disk.FolderWrites.{IsCleared, IsGone, IsPutAt, IsRemovedAt, IsRemovedIn};
-    ghost use Rattle.reuse_undo.specs.disk.Trails.{AreOpened};
+    ghost use Rattle.reuse_undo.specs.disk.FolderWrites.{IsCleared, IsGone, IsPutAt, IsPutIn, IsRemovedAt, IsRemovedIn, IsStoredAt};
     ghost use Rattle.reuse_undo.specs.disk.Written.{is_kept};
     ghost use Rattle.reuse_tree.specs.Parts.{joined};
 
@@ -42,6 +41,12 @@ impl<R: Files<File = File> + AllocGlobal + Clone + Drop> RootFolder<R> {
     pub fn put(&mut self, alloc: Global, path: &PathText, parts: Parts) -> Result<(), FolderFault>
         ensures written { IsPutAt path.now (joined parts.entry) (is_kept self.old.unsynced.syncs)
             (⟦<HostSystem<R> as System>⟧.holds self.old.system) (⟦<HostSystem<R> as System>⟧.holds self.new.system) (is_ok result) }
+        ensures place { ⟦<HostSystem<R> as System>⟧.honest self.new.system
+            → IsPutIn (⟦<HostSystem<R> as System>⟧.folders self.new.system) path.now (joined parts.entry) (is_kept self.old.unsynced.syncs)
+            (⟦<HostSystem<R> as System>⟧.holds self.old.system) (⟦<HostSystem<R> as System>⟧.holds self.new.system) (is_ok result) }
+        ensures stands { ⟦<HostSystem<R> as System>⟧.honest self.new.system
+            → IfOk result (λ _. IsStoredAt (⟦<HostSystem<R> as System>⟧.folders self.new.system) (⟦<HostSystem<R> as System>⟧.holds self.new.system) path.now (joined parts.entry) (is_kept self.old.unsynced.syncs)) }
+        ensures earlier { ⟦<HostSystem<R> as System>⟧.honest self.new.system → ⟦<HostSystem<R> as System>⟧.honest self.old.system }
         ensures kept_out { IsTrue (is_kept_out path.now) → IsErr result }
     {
         let seen = self.take_last_seen(path);
@@ -58,6 +63,7 @@ impl<R: Files<File = File> + AllocGlobal + Clone + Drop> RootFolder<R> {
         seen: Option<FileStatus>,
     ) -> Result<Option<FileStatus>, FolderFault>
         ensures kept { ⟦<HostSystem<R> as System>⟧.holds self.new.system ≡ ⟦<HostSystem<R> as System>⟧.holds self.old.system }
+        ensures earlier { ⟦<HostSystem<R> as System>⟧.honest self.new.system → ⟦<HostSystem<R> as System>⟧.honest self.old.system }
         ensures syncs { self.new.unsynced.syncs ≡ self.old.unsynced.syncs }
         ensures kept_out { IsTrue (is_kept_out path.now) → IsErr result }
     {
@@ -90,8 +96,12 @@ impl<R: Files<File = File> + AllocGlobal + Clone + Drop> RootFolder<R> {
         parts: Parts,
         found: Option<FileStatus>,
     ) -> Result<(), FolderFault>
-        ensures { IsPutAt path.now (joined parts.entry) (is_kept self.old.unsynced.syncs)
+        ensures written { IsPutAt path.now (joined parts.entry) (is_kept self.old.unsynced.syncs)
             (⟦<HostSystem<R> as System>⟧.holds self.old.system) (⟦<HostSystem<R> as System>⟧.holds self.new.system) (is_ok result) }
+        ensures place { ⟦<HostSystem<R> as System>⟧.honest self.new.system
+            → IsPutIn (⟦<HostSystem<R> as System>⟧.folders self.new.system) path.now (joined parts.entry) (is_kept self.old.unsynced.syncs)
+            (⟦<HostSystem<R> as System>⟧.holds self.old.system) (⟦<HostSystem<R> as System>⟧.holds self.new.system) (is_ok result) }
+        ensures earlier { ⟦<HostSystem<R> as System>⟧.honest self.new.system → ⟦<HostSystem<R> as System>⟧.honest self.old.system }
     {
         let (folder, name) = folder_and_name(path.text());
         self.unsynced.note(alloc, folder)?;
@@ -133,6 +143,7 @@ impl<R: Files<File = File> + AllocGlobal + Clone + Drop> RootFolder<R> {
     /// The place of new files, opened as needed.
     pub(super) fn take_new_file(&mut self, alloc: Global) -> Result<NewFile, FolderFault>
         ensures cleared { IsCleared (⟦<HostSystem<R> as System>⟧.holds self.old.system) (⟦<HostSystem<R> as System>⟧.holds self.new.system) result }
+        ensures earlier { ⟦<HostSystem<R> as System>⟧.honest self.new.system → ⟦<HostSystem<R> as System>⟧.honest self.old.system }
         ensures syncs { self.new.unsynced.syncs ≡ self.old.unsynced.syncs }
     {
         match self.new_file.take() {
@@ -144,6 +155,7 @@ impl<R: Files<File = File> + AllocGlobal + Clone + Drop> RootFolder<R> {
     /// Opens the journal's folder for new files; it is made as needed.
     fn open_new_file(&mut self, alloc: Global) -> Result<NewFile, FolderFault>
         ensures cleared { IsCleared (⟦<HostSystem<R> as System>⟧.holds self.old.system) (⟦<HostSystem<R> as System>⟧.holds self.new.system) result }
+        ensures earlier { ⟦<HostSystem<R> as System>⟧.honest self.new.system → ⟦<HostSystem<R> as System>⟧.honest self.old.system }
         ensures syncs { self.new.unsynced.syncs ≡ self.old.unsynced.syncs }
     {
         self.trail
@@ -158,6 +170,7 @@ impl<R: Files<File = File> + AllocGlobal + Clone + Drop> RootFolder<R> {
     /// Removes a folder without files, so that a file can take its place; with files it is a clash.
     fn clear_folder(&mut self, alloc: Global, path: &PathText) -> Result<(), FolderFault>
         ensures kept { ⟦<HostSystem<R> as System>⟧.holds self.new.system ≡ ⟦<HostSystem<R> as System>⟧.holds self.old.system }
+        ensures earlier { ⟦<HostSystem<R> as System>⟧.honest self.new.system → ⟦<HostSystem<R> as System>⟧.honest self.old.system }
         ensures syncs { self.new.unsynced.syncs ≡ self.old.unsynced.syncs }
     {
         let (system, trail) = (&mut self.system, &mut self.trail);
@@ -174,14 +187,9 @@ impl<R: Files<File = File> + AllocGlobal + Clone + Drop> RootFolder<R> {
     pub fn remove(&mut self, alloc: Global, path: &PathText) -> Result<(), FolderFault>
         ensures removed { IsRemovedAt path.now (⟦<HostSystem<R> as System>⟧.holds self.old.system) (⟦<HostSystem<R> as System>⟧.holds self.new.system) }
         ensures still { ⟦<HostSystem<R> as System>⟧.folders self.new.system ≡ ⟦<HostSystem<R> as System>⟧.folders self.old.system }
-        ensures opened { (⟦<HostSystem<R> as System>⟧.honest self.old.system
-            → AreOpened (⟦<HostSystem<R> as System>⟧.folders self.old.system) self.old.trail)
-            → ⟦<HostSystem<R> as System>⟧.honest self.new.system → AreOpened (⟦<HostSystem<R> as System>⟧.folders self.new.system) self.new.trail }
-        ensures place { (⟦<HostSystem<R> as System>⟧.honest self.old.system
-            → AreOpened (⟦<HostSystem<R> as System>⟧.folders self.old.system) self.old.trail) → ⟦<HostSystem<R> as System>⟧.honest self.new.system
+        ensures place { ⟦<HostSystem<R> as System>⟧.honest self.new.system
             → IsRemovedIn (⟦<HostSystem<R> as System>⟧.folders self.new.system) path.now (⟦<HostSystem<R> as System>⟧.holds self.old.system) (⟦<HostSystem<R> as System>⟧.holds self.new.system) }
-        ensures gone { (⟦<HostSystem<R> as System>⟧.honest self.old.system
-            → AreOpened (⟦<HostSystem<R> as System>⟧.folders self.old.system) self.old.trail) → ⟦<HostSystem<R> as System>⟧.honest self.new.system
+        ensures gone { ⟦<HostSystem<R> as System>⟧.honest self.new.system
             → IfOk result (λ _. IsGone (⟦<HostSystem<R> as System>⟧.folders self.new.system) (⟦<HostSystem<R> as System>⟧.holds self.new.system) path.now) }
     {
         let seen = self.take_last_seen(path);

@@ -76,14 +76,32 @@ fn remove_in<R: Files<File = File> + AllocGlobal>(
     fs::remove_file(rt, path.as_str())
 }
 
+fn make_folder_in<R: Files<File = File> + AllocGlobal>(
+    rt: &R,
+    above: &OpenFolder,
+    name: &str,
+) -> io::Result<()> {
+    let path = above.path_of(rt.alloc(), name)?;
+    fs::create_dir(rt, path.as_str())
+}
+
+fn remove_folder_in<R: Files<File = File> + AllocGlobal>(
+    rt: &R,
+    above: &OpenFolder,
+    name: &str,
+) -> io::Result<()> {
+    let path = above.path_of(rt.alloc(), name)?;
+    fs::remove_dir(rt, path.as_str())
+}
+
 impl<R: Files<File = File> + AllocGlobal + Drop> System for HostSystem<R> {
-    ghost use Rattle.reuse_undo.specs.disk.SystemCalls.{folders_of, held_after, IsHonest};
+    ghost use Rattle.reuse_undo.specs.disk.SystemCalls.{folders_after, held_after, IsHonest};
 
     ghost holds = { λ system. held_after system.noted.files system.noted.fates system.noted.calls };
 
-    ghost folders = { λ system. folders_of system.noted.folders };
+    ghost folders = { λ system. folders_after system.noted.folders system.noted.fates system.noted.calls };
 
-    ghost honest = { λ system. IsHonest (folders_of system.noted.folders) system.noted.files system.noted.fates system.noted.calls };
+    ghost honest = { λ system. IsHonest system.noted.folders system.noted.files system.noted.fates system.noted.calls };
 
     fn make(&mut self, folder: &OpenFolder, name: &str, mode: Option<u32>) -> io::Result<Aside> {
         let number = self.made;
@@ -128,6 +146,20 @@ impl<R: Files<File = File> + AllocGlobal + Drop> System for HostSystem<R> {
     fn remove(&mut self, folder: &OpenFolder, name: &str) -> io::Result<()> {
         let answer = remove_in(&self.rt, folder, name);
         let kind = CallKind::Remove(folder.identity(), answer.is_ok());
+        self.noted.note(&kind, name.as_bytes(), b"");
+        answer
+    }
+
+    fn make_folder(&mut self, above: &OpenFolder, name: &str) -> io::Result<()> {
+        let answer = make_folder_in(&self.rt, above, name);
+        let kind = CallKind::MakeFolder(above.identity(), answer.is_ok());
+        self.noted.note(&kind, name.as_bytes(), b"");
+        answer
+    }
+
+    fn remove_folder(&mut self, above: &OpenFolder, name: &str) -> io::Result<()> {
+        let answer = remove_folder_in(&self.rt, above, name);
+        let kind = CallKind::RemoveFolder(above.identity(), answer.is_ok());
         self.noted.note(&kind, name.as_bytes(), b"");
         answer
     }

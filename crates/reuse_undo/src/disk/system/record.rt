@@ -35,6 +35,10 @@ pub enum CallKind {
     Open(Identity, Identity),
     /// A name in this folder was to be opened, and this was told in place of a folder.
     NoFolder(Identity, Found),
+    /// A folder was to be made in this one.
+    MakeFolder(Identity, bool),
+    /// A folder in this one was to be removed.
+    RemoveFolder(Identity, bool),
 }
 
 /// What a reading answered, but for the bytes.

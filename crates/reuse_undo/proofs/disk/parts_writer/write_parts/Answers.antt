@@ -3,8 +3,8 @@ use Rattle.reuse_undo.specs.disk.Asides.{key_of}
 use Rattle.reuse_undo.proofs.lemmas.disk.SystemLemmas.{filled_twice, appended_before}
 use Rattle.reuse_undo.proofs.disk.parts_writer.write_parts.Goals as goal
 
-pub returns-then-saturating_add-gt-MOST_JOINED : goal.returns-then-saturating_add-gt-MOST_JOINED
-returns-then-saturating_add-gt-MOST_JOINED g c =
+pub returns-then-saturating_add-gt-MOST_JOINED-clause-appended : goal.returns-then-saturating_add-gt-MOST_JOINED-clause-appended
+returns-then-saturating_add-gt-MOST_JOINED-clause-appended g c =
     let key = key_of c.args.aside.now in
     let parts = c.args.parts in
     let holds = g.S.System.holds in
@@ -13,4 +13,4 @@ returns-then-saturating_add-gt-MOST_JOINED g c =
     let two = holds c.append-then-saturating_add-gt-MOST_JOINED.new.self in
     let last = c.append-then-saturating_add-gt-MOST_JOINED-2 in
     appended_before key (parts.front.now ++ parts.middle.now) parts.back.now at_start two (holds last.new.self) last.result
-    (filled_twice key parts.front.now parts.middle.now false false at_start one two c.in_ok-append.ensures c.in_ok-append-2.ensures) last.ensures
+    (filled_twice key parts.front.now parts.middle.now false false at_start one two c.in_ok-append.ensures.appended c.in_ok-append-2.ensures.appended) last.ensures.appended

@@ -17,4 +17,4 @@ returns-in_err-names-clause-cleared g c = rw c.make.ensures.kept (nothing_cleare
 pub returns-in_err-clear-clause-cleared : goal.returns-in_err-clear-clause-cleared
 returns-in_err-clear-clause-cleared g c =
     rw (← c.make.ensures.kept)
-    (cleared_at_error c.in_folder-new_file.result.folder.identity _ _ c.from_residual-in_err-clear.result c.from_residual-in_err-clear.ensures.0 c.clear.ensures)
+    (cleared_at_error c.in_folder-new_file.result.folder.identity _ _ c.from_residual-in_err-clear.result c.from_residual-in_err-clear.ensures.0 c.clear.ensures.others)

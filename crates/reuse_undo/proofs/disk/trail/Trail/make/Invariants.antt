@@ -1,7 +1,9 @@
 use Rattle.std.proofs.Common.{◌≡◌, length}
 use denote.Text.{Utf8}
 use denote.Shadow.{shadow}
-use Rattle.reuse_undo.specs.disk.SystemCalls.{held_after}
+use Rattle.reuse_undo.specs.disk.Folders.{IsGrown}
+use Rattle.reuse_undo.specs.disk.SystemCalls.{folders_after, held_after, IsHonest}
+use Rattle.reuse_undo.specs.disk.Trails.{AreOpenedIf}
 use Rattle.reuse_undo.proofs.disk.trail.Trail.make.Given as goal
 
 abbrev pub invariant-loop-name : goal.invariant-loop-name
@@ -9,8 +11,12 @@ invariant-loop-name g l =
     let now = l.system.noted in
     let first = l.fn.system.noted in
     shadow (Utf8 l.rest) ×
+    (l.unsynced.syncs ≡ l.fn.unsynced.syncs) ×
+    (IsGrown (folders_after first.folders first.fates first.calls) (folders_after now.folders now.fates now.calls)) ×
     (held_after now.files now.fates now.calls ≡ held_after first.files first.fates first.calls) ×
-    (l.unsynced.syncs ≡ l.fn.unsynced.syncs)
+    (IsHonest now.folders now.files now.fates now.calls → IsHonest first.folders first.files first.fates first.calls) ×
+    (AreOpenedIf (IsHonest first.folders first.files first.fates first.calls) (folders_after first.folders first.fates first.calls) l.fn.self
+    → AreOpenedIf (IsHonest now.folders now.files now.fates now.calls) (folders_after now.folders now.fates now.calls) l.self)
 
 abbrev pub decreases-loop-name : goal.decreases-loop-name
 decreases-loop-name g l = length l.rest
