@@ -315,12 +315,7 @@ impl<R: Files<File = File> + AllocGlobal + Clone + Drop> Store for DiskStore<R> 
         answer
     }
 
-    fn read(
-        &mut self,
-        alloc: Global,
-        path: &PathText,
-        limit: usize,
-    ) -> Result<Reading, StoreFault>
+    fn read(&mut self, alloc: Global, path: &PathText, limit: usize) -> Result<Reading, StoreFault>
         ensures kept { ⟦<DiskStore<R> as Store>⟧.honest self.old
             → MatchResult result (λ reading. reading ≡ reading_of (map.get (⟦<DiskStore<R> as Store>⟧.files self.old) path.now) limit → ⟦<DiskStore<R> as Store>⟧.honest self.new) (λ fault. fault ≢ StoreFault.Clash → ⟦<DiskStore<R> as Store>⟧.honest self.new) }
         ensures reading { ⟦<DiskStore<R> as Store>⟧.honest self.new → IfOk result (λ reading. reading ≡ reading_of (map.get (⟦<DiskStore<R> as Store>⟧.files self.old) path.now) limit) }
@@ -337,12 +332,7 @@ impl<R: Files<File = File> + AllocGlobal + Clone + Drop> Store for DiskStore<R> 
         answer
     }
 
-    fn put_parts(
-        &mut self,
-        alloc: Global,
-        path: &PathText,
-        parts: Parts,
-    ) -> Result<(), StoreFault>
+    fn put_parts(&mut self, alloc: Global, path: &PathText, parts: Parts) -> Result<(), StoreFault>
         ensures puts { IsPut ⟦<DiskStore<R> as Store>⟧ path.now (joined parts.entry) self.old self.new result }
         ensures later { IsLater ⟦<DiskStore<R> as Store>⟧ self.old self.new }
         // On the disk the file at the path has these bytes, and nothing else differs.

@@ -48,3 +48,9 @@ pub stored_if : (folders : Folders) (path bytes : List ℕ) (is : Bool) (old hel
     → IfOk answer (λ _. IsStoredAt folders held path bytes is)
 stored_if folders path bytes is old held (Ok done) put = stored_at folders path bytes is old held put
 stored_if folders path bytes is old held (Err fault) put = tt
+
+-- what holds of one good answer holds of the other
+pub answered_alike : {E F : Type 0} (answer : Result (Unit {0}) E) (given : Result (Unit {0}) F) (P : Type 0) → is_ok answer ≡ is_ok given → IfOk given (λ _. P) → IfOk answer (λ _. P)
+answered_alike (Ok done) (Ok other) P same holds = holds
+answered_alike (Ok done) (Err fault) P same holds = absurd (true≢false same)
+answered_alike (Err fault) given P same holds = tt

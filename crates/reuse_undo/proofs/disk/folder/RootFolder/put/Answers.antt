@@ -1,6 +1,7 @@
-use Rattle.std.proofs.Common.{rules, ◌≡◌, false, is_ok, refl}
+use Rattle.std.proofs.Common.{rules, ◌≡◌, ◌∙◌, ap, false, is_ok, refl, subst}
 use Rattle.reuse_tree.specs.Parts.{joined}
 use Rattle.reuse_undo.specs.disk.SystemCalls.{folders_after, held_after}
+use Rattle.reuse_undo.specs.disk.FolderWrites.{IsPutIn}
 use Rattle.reuse_undo.specs.disk.Written.{is_kept}
 use Rattle.reuse_undo.proofs.lemmas.disk.FolderLemmas.{nothing_put}
 use Rattle.reuse_undo.proofs.lemmas.disk.PutLemmas.{nothing_put_in, stored_if}
@@ -22,3 +23,30 @@ returns-in_err-found-clause-place g c honest =
     let folders = folders_after second.folders second.fates second.calls in
     let same : held_after second.files second.fates second.calls ≡ held = rw (c.make_room.ensures.kept, c.take_last_seen-seen.ensures.kept) refl in
     rw same (nothing_put_in folders c.args.path.now bytes is held (is_ok c.from_residual.result) failed)
+
+pub returns-clause-place : goal.returns-clause-place
+returns-clause-place g c honest =
+    let path = c.args.path.now in
+    let bytes = joined c.args.parts in
+    let first = c.args.self.now.system.noted in
+    let between = c.make_room.new.self.system.noted in
+    let last = c.write.new.self.system.noted in
+    let a = held_after first.files first.fates first.calls in
+    let b = held_after between.files between.fates between.calls in
+    let d = held_after last.files last.fates last.calls in
+    let folders = folders_after last.folders last.fates last.calls in
+    let is_done = is_ok c.write.result in
+    let same : b ≡ a = c.make_room.ensures.kept ∙ ap (λ system. held_after system.noted.files system.noted.fates system.noted.calls) c.take_last_seen-seen.ensures.kept in
+    let syncs : c.make_room.new.self.unsynced.syncs ≡ c.args.self.now.unsynced.syncs = c.make_room.ensures.syncs ∙ c.take_last_seen-seen.ensures.syncs in
+    let put = subst (λ held. IsPutIn folders path bytes (is_kept c.make_room.new.self.unsynced.syncs) held d is_done) same (c.write.ensures.place honest) in
+    subst (λ syncs. IsPutIn folders path bytes (is_kept syncs) a d is_done) syncs put
+
+pub returns-clause-stands : goal.returns-clause-stands
+returns-clause-stands g c honest =
+    let last = c.write.new.self.system.noted in
+    let between = c.make_room.new.self.system.noted in
+    let syncs : c.make_room.new.self.unsynced.syncs ≡ c.args.self.now.unsynced.syncs = c.make_room.ensures.syncs ∙ c.take_last_seen-seen.ensures.syncs in
+    stored_if (folders_after last.folders last.fates last.calls) c.args.path.now (joined c.args.parts) (is_kept c.args.self.now.unsynced.syncs) (held_after between.files between.fates between.calls)
+    (held_after last.files last.fates last.calls) c.write.result
+    (subst (λ syncs. IsPutIn (folders_after last.folders last.fates last.calls) c.args.path.now (joined c.args.parts) (is_kept syncs) (held_after between.files between.fates between.calls)
+    (held_after last.files last.fates last.calls) (is_ok c.write.result)) syncs (c.write.ensures.place honest))

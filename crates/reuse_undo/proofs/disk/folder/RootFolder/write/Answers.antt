@@ -1,4 +1,4 @@
-use Rattle.std.proofs.Common.{rules, ◌≡◌, false, is_ok}
+use Rattle.std.proofs.Common.{rules, ◌≡◌, false, is_ok, subst, sym}
 use Rattle.reuse_tree.specs.Parts.{joined}
 use Rattle.reuse_undo.specs.disk.Asides.{IsNewIn, IsNewPlace}
 use Rattle.reuse_undo.specs.disk.FileStates.{place_in}
@@ -6,6 +6,7 @@ use Rattle.reuse_undo.specs.disk.FolderReads.{current_of}
 use Rattle.reuse_undo.specs.disk.Names.{IsNameOf, IsSplit}
 use Rattle.reuse_undo.specs.disk.SystemCalls.{folders_after, held_after}
 use Rattle.reuse_undo.specs.disk.SystemLaws.{IsAlikeUnless}
+use Rattle.reuse_undo.specs.disk.Trails.{AreOpened}
 use Rattle.reuse_undo.specs.disk.Written.{IsWritten, is_kept}
 use Rattle.reuse_undo.proofs.lemmas.disk.FolderLemmas.{nothing_put, cleared_alone, put_at}
 use Rattle.reuse_undo.proofs.lemmas.disk.PutLemmas.{nothing_put_in, not_put_in, put_in}
@@ -87,3 +88,10 @@ returns-in_err-new_file-clause-place g c honest =
     let cleared = c.take_new_file.ensures.cleared in
     not_put_in (folders_after second.folders second.fates second.calls) c.args.path.now (joined c.args.parts) (is_kept c.args.self.now.unsynced.syncs) (held_after first.files first.fates first.calls)
     (held_after second.files second.fates second.calls) (is_ok result) cleared.folder failed cleared.others
+
+pub invariant_of-self-2 : goal.invariant_of-self-2
+invariant_of-self-2 g c =
+    let was = c.enter_seen.ensures.opened c.take_new_file.new.self.opened in
+    record {
+      opened = λ honest. subst (λ folders. AreOpened folders c.enter_seen.new.self) (sym c.write-written.ensures.still) (was (c.write-written.ensures.earlier honest));
+    }
