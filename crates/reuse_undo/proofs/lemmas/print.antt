@@ -1,4 +1,5 @@
 -- Lemmas of what is printed.
+pub mod CommonLines
 pub mod DateLemmas
 pub mod DiffTextLemmas
 pub mod EndLemmas

@@ -1,6 +1,8 @@
 -- The hunk of a unified diff: the lines that two files have in common, that go, and that come.
-use Rattle.std.specs.Prelude.{◌≡◌, ◌≢◌, ◌≤◌, ◌++◌, ◌+◌, ◌==◌, nat_eq, if◌then◌else◌, codes, ℕ, Bool, true, false, List, [], ◌∷◌, length, All}
-use Rattle.std.specs.List.{prefix_len, suffix_len, flat_map, ends_with}
+use Rattle.std.specs.Prelude.{◌≡◌, ◌≢◌, ◌<◌, ◌≤◌, ◌++◌, ◌+◌, ◌==◌, nat_eq, if◌then◌else◌, codes, ℕ, Bool, true, false, List, [], ◌∷◌, length, drop, map, reverse, All}
+use Rattle.std.specs.Borrow.{Bor}
+use Rattle.std.specs.List.{prefix_len, suffix_len, common_prefix_len, flat_map, ends_with}
+use Rattle.std.specs.Str.{bytes_eq}
 use Rattle.std.specs.Fmt.{decimal}
 use Rattle.reuse_undo.specs.declared.print.diff.hunk.Sign.{Sign}
 use Rattle.reuse_undo.specs.declared.print.diff.hunk.Sign.TheVariants.{Kept, Removed, Added}
@@ -41,13 +43,35 @@ old_lines pieces = flat_map (λ piece. old_line piece.sign piece.line.now) piece
 abbrev pub new_lines : List Piece → List (List ℕ)
 new_lines pieces = flat_map (λ piece. new_line piece.sign piece.line.now) pieces
 
+-- lines of which the same becomes
+abbrev pub pieces_with : Sign → List (Bor (List ℕ)) → List Piece
+pieces_with sign lines = map (λ line. record { sign = sign; line = line }) lines
+
+-- how many lines both begin with
+abbrev pub same_front : (old new : List (List ℕ)) → ℕ
+same_front old new = common_prefix_len bytes_eq old new
+
+-- how many lines both end with
+abbrev pub same_end : (old new : List (List ℕ)) → ℕ
+same_end old new = same_front (reverse old) (reverse new)
+
+-- so many lines are all that both begin with, and so many, of those behind them, all that both end with
+pub record AreCommon (old new : List (List ℕ)) (first last : ℕ) : Type 0 where
+  pub front : first ≡ same_front old new
+  pub end : last ≡ same_end (drop first old) (drop first new)
+
+-- all lines that both begin with and end with are kept
+abbrev pub KeepsEnds : List Piece → Type 0
+KeepsEnds pieces =
+    AreCommon (old_lines pieces) (new_lines pieces) (prefix_len is_kept pieces) (suffix_len is_kept (drop (prefix_len is_kept pieces) pieces))
+
 -- three lines are shown on this side, or all that are there
 pub record IsContext (shown : ℕ) (left : List (List ℕ)) : Type 0 where
   pub most : shown ≤ 3
   pub whole : left ≢ [] → shown ≡ 3
 
 -- Both files are the same lines above the hunk, its own lines, and the same lines below. It begins and ends with three
--- lines that are kept.
+-- lines that are kept. With those above and below, these are all that both files begin and end with.
 pub record IsHunk (before after : List ℕ) (hunk : Hunk) : Type 0 where
   pub above : List (List ℕ)
   pub below : List (List ℕ)
@@ -56,6 +80,8 @@ pub record IsHunk (before after : List ℕ) (hunk : Hunk) : Type 0 where
   pub number : hunk.lines_above ≡ length above
   pub first : IsContext (prefix_len is_kept hunk.pieces.items) above
   pub last : IsContext (suffix_len is_kept hunk.pieces.items) below
+  pub common : AreCommon (above ++ old_lines hunk.pieces.items ++ below) (above ++ new_lines hunk.pieces.items ++ below)
+      (length above + prefix_len is_kept hunk.pieces.items) (suffix_len is_kept hunk.pieces.items + length below)
 
 -- The hunk has these pieces but some that are kept, above it and below.
 pub record IsHunkOf (pieces : List Piece) (hunk : Hunk) : Type 0 where
@@ -67,6 +93,9 @@ pub record IsHunkOf (pieces : List Piece) (hunk : Hunk) : Type 0 where
   pub number : hunk.lines_above ≡ length above
   pub first : IsContext (prefix_len is_kept hunk.pieces.items) (old_lines above)
   pub last : IsContext (suffix_len is_kept hunk.pieces.items) (old_lines below)
+  pub start : length above + prefix_len is_kept hunk.pieces.items ≡ prefix_len is_kept pieces
+  pub end : suffix_len is_kept hunk.pieces.items + length below ≡ suffix_len is_kept pieces
+  pub some : prefix_len is_kept pieces < length pieces
 
 -- ---- the text of a hunk
 

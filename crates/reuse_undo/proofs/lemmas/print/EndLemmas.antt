@@ -1,7 +1,7 @@
 -- How many elements at the start and at the end of a list pass a test.
 use Rattle.std.proofs.Common.{◌≡◌, ℕ, ◌+◌, ◌-◌, ◌<◌, ◌≤◌, Bool, true, false, List, [], ◌∷◌, length, get_or, take, drop, reverse, sym, ap, ◌∙◌, arith, inl, inr}
 use Rattle.std.specs.List.{prefix_len, suffix_len}
-use Rattle.std.proofs.lemmas.List.{length-reverse, get_or-reverse, get_or-take, get_or-drop, length-take-le, length-drop}
+use Rattle.std.proofs.lemmas.List.{length-reverse, get_or-reverse, get_or-take, get_or-drop, length-take-le, length-drop, take_all}
 use Rattle.std.proofs.lemmas.Bool.{cases_lt}
 use Rattle.std.proofs.lemmas.List.Sums.{prefix_len_passes, prefix_len_stops, prefix_len_is, suffix_len_is}
 
@@ -57,3 +57,14 @@ suffix_len-part p xs a n d low high within =
     (λ k from below. ap p (part_at xs a n k d (omega arith)) ∙ suffix_passes p xs (a + k) d (omega arith) (omega arith))
     (λ some. ap p (part_at xs a n (first - 1) d (omega arith) ∙ ap (λ i. get_or xs i d) (let e : a + (first - 1) ≡ length xs - 1 - suffix_len p xs = omega arith in e)) ∙ suffix_stops p xs d (omega arith)) in
     is ∙ (let e : length (take n (drop a xs)) - first ≡ suffix_len p xs - (length xs - (a + n)) = omega arith in e)
+
+-- behind the first ones that pass
+pub suffix_len-behind : {X : Type 0} (p : X → Bool) (xs : List X) → prefix_len p xs < length xs → suffix_len p (drop (prefix_len p xs) xs) ≡ suffix_len p xs
+suffix_len-behind p [] some = absurd (omega arith)
+suffix_len-behind p (x ∷ xs) some =
+    let a = prefix_len p (x ∷ xs) in
+    let apart = ends_apart p (x ∷ xs) some in
+    let n = length (x ∷ xs) - a in
+    let all = take_all n (drop a (x ∷ xs)) (omega (arith, length-drop a (x ∷ xs))) in
+    let part = suffix_len-part p (x ∷ xs) a n x (omega arith) (omega arith) (omega arith) in
+    sym (ap (suffix_len p) all) ∙ part ∙ (let e : suffix_len p (x ∷ xs) - (length (x ∷ xs) - (a + n)) ≡ suffix_len p (x ∷ xs) = omega arith in e)

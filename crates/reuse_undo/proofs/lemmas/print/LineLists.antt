@@ -4,7 +4,7 @@ use Rattle.std.specs.List.{flat_map}
 use Rattle.std.proofs.lemmas.List.{flat_map_more, map-append, append-nil, take_all, drop_all, length-map, take_more_same, drop_more, take-append-drop, take-map}
 use Rattle.std.specs.List.{drop-map}
 use Rattle.std.specs.Borrow.{Bor}
-use Rattle.reuse_undo.specs.print.TextLines.{IsEnded, IsUnended, AreLines, AreLinesOf, joined, texts_of}
+use Rattle.reuse_undo.specs.print.TextLines.{IsEnded, IsUnended, AreLines, joined, texts_of}
 
 -- each is ended
 abbrev pub AllEnded : List (List ℕ) → Type 0
@@ -50,12 +50,12 @@ line_split n text (inl is) = inl is
 line_split n text (inr u) = inr (drop_all n text (omega (arith, u.0)), rw (take_all n text (omega (arith, u.0))) u.1)
 
 -- a line as it is lent, and among lines
-texts_of-at : (lines : List (Bor (List ℕ))) (i : ℕ) (d : Bor (List ℕ)) → get_or (texts_of lines) i d.now ≡ (get_or lines i d).now
+pub texts_of-at : (lines : List (Bor (List ℕ))) (i : ℕ) (d : Bor (List ℕ)) → get_or (texts_of lines) i d.now ≡ (get_or lines i d).now
 texts_of-at [] i d = refl
 texts_of-at (line ∷ lines) zero d = refl
 texts_of-at (line ∷ lines) (suc i) d = texts_of-at lines i d
 
-length-texts_of : (lines : List (Bor (List ℕ))) → length (texts_of lines) ≡ length lines
+pub length-texts_of : (lines : List (Bor (List ℕ))) → length (texts_of lines) ≡ length lines
 length-texts_of lines = length-map lines (λ line. line.now)
 
 -- one more line at the start of both is the same

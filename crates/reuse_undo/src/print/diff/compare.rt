@@ -1,9 +1,8 @@
 //! Compares two files line by line.
 ghost use Rattle.std.specs.Prelude.{◌≡◌, ◌≢◌, ◌-◌, ◌+◌, ◌<◌, ◌≤◌, ◌↔◌, ◌++◌, IfOk, OnOk, IsTrue, IsNone, IfSome, length, take, drop};
 ghost use Rattle.std.specs.List.{prefix_len, suffix_len, flat_map};
-ghost use Rattle.reuse_undo.specs.print.Hunks.{IsHunk, is_kept, old_line, new_line, old_lines, new_lines};
+ghost use Rattle.reuse_undo.specs.print.Hunks.{IsHunk, IsHunkOf, KeepsEnds, is_kept, old_line, new_line, old_lines, new_lines, pieces_with, same_end, same_front};
 ghost use Rattle.reuse_undo.specs.print.TextLines.{AreLinesOf, texts_of};
-ghost use Rattle.reuse_undo.specs.print.Hunks.{IsHunkOf};
 
 use crate::print::diff::hunk::{Hunk, Piece, Sign};
 use crate::print::diff::text_lines::lines_of;
@@ -40,6 +39,7 @@ pub fn pieces_of<'a>(
 ) -> Result<Vec<Piece<'a>>, AllocError>
     ensures old { IfOk result (λ pieces. AreLinesOf before.now (old_lines pieces.items)) }
     ensures new { IfOk result (λ pieces. AreLinesOf after.now (new_lines pieces.items)) }
+    ensures ends { IfOk result (λ pieces. KeepsEnds pieces.items) }
 {
     let old = lines_of(alloc, before)?;
     let new = lines_of(alloc, after)?;
@@ -126,6 +126,7 @@ fn pieces_between<'a>(
 ) -> Result<Vec<Piece<'a>>, AllocError>
     ensures old { IfOk result (λ pieces. old_lines pieces.items ≡ texts_of old.now) }
     ensures new { IfOk result (λ pieces. new_lines pieces.items ≡ texts_of new.now) }
+    ensures ends { IfOk result (λ pieces. KeepsEnds pieces.items) }
 {
     let above = common_above(old, new);
     let (kept_above, old) = old.split_at(above);
@@ -148,6 +149,7 @@ fn push_all<'a>(
 ) -> Result<(), AllocError>
     ensures old { OnOk result (old_lines pieces.new.items ≡ old_lines pieces.old.items ++ flat_map (old_line sign) (texts_of lines.now)) }
     ensures new { OnOk result (new_lines pieces.new.items ≡ new_lines pieces.old.items ++ flat_map (new_line sign) (texts_of lines.now)) }
+    ensures pieces { OnOk result (pieces.new.items ≡ pieces.old.items ++ pieces_with sign lines.now) }
 {
     for line in lines {
         pieces.push(Piece { sign, line })?;
@@ -166,6 +168,7 @@ fn common_above(old: &[&[u8]], new: &[&[u8]]) -> usize
     ensures old { result ≤ length old.now }
     ensures new { result ≤ length new.now }
     ensures same { take result (texts_of old.now) ≡ take result (texts_of new.now) }
+    ensures all { result ≡ same_front (texts_of old.now) (texts_of new.now) }
 {
     let most = old.len().min(new.len());
     for count in 0..most {
@@ -181,8 +184,9 @@ fn common_below(old: &[&[u8]], new: &[&[u8]]) -> usize
     ensures old { result ≤ length old.now }
     ensures new { result ≤ length new.now }
     ensures same { drop (length old.now - result) (texts_of old.now) ≡ drop (length new.now - result) (texts_of new.now) }
+    ensures all { result ≡ same_end (texts_of old.now) (texts_of new.now) }
 {
-    let most = old.len().min(new.len());
+    let most = new.len().min(old.len());
     for count in 0..most {
         if !is_same(old[old.len() - 1 - count], new[new.len() - 1 - count]) {
             return count;
@@ -200,6 +204,7 @@ fn push_compared<'a>(
 ) -> Result<(), AllocError>
     ensures old { OnOk result (old_lines pieces.new.items ≡ old_lines pieces.old.items ++ texts_of old.now) }
     ensures new { OnOk result (new_lines pieces.new.items ≡ new_lines pieces.old.items ++ texts_of new.now) }
+    ensures front { OnOk result (take (length pieces.old.items) pieces.new.items ≡ pieces.old.items) }
 {
     let counts = common_counts(alloc, old, new)?;
     let mut old_at = 0usize;

@@ -13,4 +13,4 @@ returns-clause-same c = (
 pub returns-clause-hunk : goal.returns-clause-hunk
 returns-clause-hunk c =
     IfSome_then c.in_ok-hunk_of.field-0 (rw c.deref.ensures.value at c.in_ok-hunk_of.ensures.some)
-    (is_hunk c.args.before.now c.args.after.now c.in_ok-pieces.pieces.items c.in_ok-pieces.ensures.old c.in_ok-pieces.ensures.new)
+    (is_hunk c.args.before.now c.args.after.now c.in_ok-pieces.pieces.items c.in_ok-pieces.ensures.old c.in_ok-pieces.ensures.new c.in_ok-pieces.ensures.ends)

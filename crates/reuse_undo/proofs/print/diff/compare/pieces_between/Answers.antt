@@ -1,8 +1,10 @@
 -- The lines of both are those at the start, those in between, and those at the end.
-use Rattle.std.proofs.Common.{◌-◌, drop, length, ap, ◌∙◌}
+use Rattle.std.proofs.Common.{◌≡◌, ◌-◌, ◌++◌, drop, length, arith, sym, ap, ap₂, ◌∙◌}
+use Rattle.reuse_undo.specs.declared.print.diff.hunk.Sign.TheVariants.{Kept}
 use Rattle.reuse_undo.specs.print.TextLines.{texts_of}
-use Rattle.reuse_undo.specs.print.Hunks.{old_lines, new_lines}
+use Rattle.reuse_undo.specs.print.Hunks.{old_lines, new_lines, pieces_with, same_front}
 use Rattle.reuse_undo.proofs.lemmas.print.LineLists.{in_three, in_three-both, added_in_three}
+use Rattle.reuse_undo.proofs.lemmas.print.CommonLines.{keeps_ends-added, end_behind}
 use Rattle.reuse_undo.proofs.print.diff.compare.pieces_between.Goals as goal
 
 pub returns-clause-old : goal.returns-clause-old
@@ -19,3 +21,16 @@ returns-clause-new c =
     ∙ rw (c.split_at-4.ensures.front, c.split_at-3.ensures.back, c.split_at.ensures.front, c.split_at.ensures.back, c.split_at-2.ensures.back)
     (in_three-both c.args.old.now c.args.new.now c.common_above-above.result c.common_below-below.result c.common_above-above.ensures.same
     (rw (c.split_at.ensures.back, c.split_at-2.ensures.back) at c.common_below-below.ensures.same))
+
+pub returns-clause-ends : goal.returns-clause-ends
+returns-clause-ends c =
+    let three = c.push_all-2.new.pieces.items in
+    let above = c.split_at.result.0.now in
+    let below = c.split_at-3.result.1.now in
+    let count : length above ≡ c.common_above-above.result = omega arith in
+    let many : length below ≡ c.common_below-below.result = omega arith in
+    keeps_ends-added above below c.push_all.new.pieces.items c.push_compared.new.pieces.items three
+    (c.in_ok-push_all.ensures.pieces ∙ ap (λ ps. ps ++ pieces_with Kept above) c.new-pieces.ensures.items) c.in_ok-push_compared.ensures.front c.in_ok-push_all-2.ensures.pieces
+    (count ∙ c.common_above-above.ensures.all ∙ sym (ap₂ same_front (returns-clause-old c) (returns-clause-new c)))
+    (end_behind c.args.old.now c.args.new.now c.common_above-above.result (length below) (length above) (old_lines three) (new_lines three) (returns-clause-old c) (returns-clause-new c) count
+    (many ∙ rw (c.split_at.ensures.back, c.split_at-2.ensures.back) at c.common_below-below.ensures.all))
