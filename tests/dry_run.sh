@@ -49,7 +49,7 @@ look_again() {
   [[ $status == "$wanted" ]] || fail "${call[*]} --check --json: status $status"
   cmp -s "$json.refusals" "$room/error" || fail "${call[*]} --json changes what is refused"
   case ${call[0]} in
-    annotate | convert-dep5)
+    annotate | amend | convert-dep5)
       rm -rf "$room/made"
       cp -a "$tree" "$room/made"
       status=0
@@ -60,7 +60,7 @@ look_again() {
   esac
 }
 
-compared=0 applied=0 refused=0
+compared=0 applied=0 refused=0 amended=0
 # What a call reads on standard input
 input=/dev/null
 # A call on `$tree`: looked at, made on a copy, and, where it is accepted, made from its diff on two
@@ -115,6 +115,7 @@ compare() {
       fail "${call[*]}: $tool makes another tree: $(< "$room/differ")"
   done
   applied=$((applied + 1))
+  [[ ${call[0]} != amend ]] || amended=$((amended + 1))
 }
 
 # The examples of docs/REFERENCE.md, on a tree that has what they name
@@ -127,12 +128,31 @@ example_tree() {
   printf 'text without an end' > "$room/texts/Apache-2.0.txt"
   echo 'text of GPL' > "$room/texts/GPL-2.0-only.txt"
 }
-mapfile -t examples < <(sed -nE "s/^    reuse-undo ((annotate|convert-dep5|download).*)/\1/p" \
-  "$here/../docs/REFERENCE.md" | sed -E 's/ +#.*//; s/ +(--dry-run|-n)( --diff)?$//' |
-  grep -vE -e '--files-from' | sort -u)
-((${#examples[@]} >= 12)) || fail "docs/REFERENCE.md has ${#examples[@]} examples"
-for example in "${examples[@]}"; do
+# The same with what those of amend change, in headers and in a REUSE.toml
+amended_tree() {
   example_tree
+  rm -r "$tree/.reuse"
+  local path end header
+  for path in a.py script src/b.py; do
+    end='\n'
+    [[ $path != src/b.py ]] || end='\r\n'
+    printf -v header "# %s$end" 'SPDX-FileCopyrightText: 2019 Jane Doe' 'Copyright 2020 John Roe' \
+      'SPDX-FileContributor: Joe Bloggs' '' 'SPDX-License-Identifier: MIT' \
+      'SPDX-License-Identifier: GPL-2.0'
+    printf '%s\nx = 1' "$header" > "$tree/$path"
+  done
+  printf '%s\n' 'version = 1' '[[annotations]]' 'path = "*.csv"' \
+    'SPDX-FileCopyrightText = ["2019 Jane Doe", "2020 John Roe"]' \
+    'SPDX-License-Identifier = "GPL-2.0 OR MIT"' > "$tree/REUSE.toml"
+}
+mapfile -t examples < <(
+  sed -nE "s/^    reuse-undo ((annotate|amend|convert-dep5|download).*)/\1/p" \
+    "$here/../docs/REFERENCE.md" | sed -E 's/ +#.*//; s/ +(--dry-run|-n)( --diff)?( |$)/\3/' |
+    grep -vE -e '--files-from' | sort -u
+)
+((${#examples[@]} >= 19)) || fail "docs/REFERENCE.md has ${#examples[@]} examples"
+for example in "${examples[@]}"; do
+  if [[ $example == amend* ]]; then amended_tree; else example_tree; fi
   eval "call=(${example//~\/license-list-data\/text/$room/texts})"
   call=("${call[@]//#texts/$room/texts}")
   compare
@@ -146,6 +166,7 @@ for example in "${examples[@]}"; do
   compare
 done
 in_examples=$applied
+((amended >= 7)) || fail "$amended examples of amend change something"
 
 # Lists of files and globs. The call must change just the files that a dry run names, and some do.
 picked_files() {
@@ -179,6 +200,8 @@ for list in '' 'a.py\nsrc/b.py\n' './a.py\r\nsrc/./c.h\r\nmain.c' 'src/b.py\0lin
   done
   picks --exclude node_modules --exclude '**.min.js'
 done
+in_picks=$((applied - in_examples))
+((in_picks)) || fail 'no pick of files changes one'
 
 # What is told, line by line
 tells() {
@@ -286,21 +309,30 @@ options=('-c|Jane Doe|-y|2024' '-l|MIT' '-c|Jane Doe|-l|ISC' '--contributor|B'
   '-c|A --> B|--exclude-year' '-l|GPL-2.0+|--multi-line' '-c|C|-y|2001|--merge-copyrights'
   '-l|MIT|--no-replace' '-c|D|--single-line' '-l|MIT|--force-dot-license' \
   '-c|E|--copyright-prefix|symbol' '-l|0BSD' '-c|F|-s|c')
+amendments=('--replace-license|MIT|ISC OR 0BSD' '--replace-license|ISC|MIT' '--remove-license|MIT'
+  '--replace-holder|Jane Doe|Jane Roe' '--remove-holder|A' '--replace-contributor|B|C'
+  '--remove-contributor|B' '--until|2031' '--until|2031|--holder|Jane Doe'
+  '--copyright-prefix|string-c' '--copyright-prefix|symbol|--holder|A')
 globs=('*.py' '**.c' deep d/ '**/f' 'b*' '?' '*' '**' '**/*.*')
 fallbacks=(--fallback-dot-license --fallback-dot-license --skip-unrecognised --skip-existing)
 for ((round = 0; round < rounds; round++)); do
   tree=$room/rounds/$round
   ((RANDOM % 4)) || make_dep5 "$tree"
   for ((k = 0; k < 4; k++)); do
-    case $((RANDOM % 8)) in
+    case $((RANDOM % 10)) in
       0) call=(undo) ;;
       1) call=(redo) ;;
       2) call=(revert $((RANDOM % 3 + 1))) ;;
       3) call=(revert --skip-moved $((RANDOM % 3 + 1))) ;;
       4) call=(convert-dep5) ;;
       *)
-        IFS='|' read -ra words <<< "${options[RANDOM % ${#options[@]}]}"
-        call=(annotate "${words[@]}" -r "${fallbacks[RANDOM % ${#fallbacks[@]}]}" .)
+        if ((RANDOM % 3)); then
+          IFS='|' read -ra words <<< "${options[RANDOM % ${#options[@]}]}"
+          call=(annotate "${words[@]}" -r "${fallbacks[RANDOM % ${#fallbacks[@]}]}" .)
+        else
+          IFS='|' read -ra words <<< "${amendments[RANDOM % ${#amendments[@]}]}"
+          call=(amend "${words[@]}" -r .)
+        fi
         for ((glob = RANDOM % 6; glob < 2; glob++)); do
           call+=(--exclude "${globs[RANDOM % ${#globs[@]}]}")
         done
@@ -343,4 +375,4 @@ PYTHON
 echo "$compared dry runs on ${#examples[@]} examples, $picks picks of files and $rounds random" \
   "trees: $refused refused" \
   "as the calls were; $applied diffs gave the tree of the call," \
-  "$in_examples of them of examples"
+  "$in_examples of them of examples, $in_picks of picks and $amended of amend"
