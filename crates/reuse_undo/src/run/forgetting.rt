@@ -1,10 +1,12 @@
 //! Takes steps out of the history on a store, and prints which.
-ghost use Rattle.std.specs.Prelude.{◌≡◌, IfErr, IfOk, OnOk};
+ghost use Rattle.std.specs.Prelude.{◌≡◌, Err, IfErr, IfOk, OnOk};
 ghost use Rattle.std.specs.Io.KnownBytes.{Appends};
 ghost use Rattle.reuse_session.specs.journal.Journal.{State};
 ghost use Rattle.reuse_session.specs.session.Session.{store_of, StandsOn};
 ghost use Rattle.reuse_session.specs.session.Forgetting.{Forgets};
 ghost use Rattle.reuse_undo.specs.run.Forgotten.{asked_numbers, forgotten_line, forgotten_lines, forgotten_text, ForgetsOn, HasForgotten, PrintsForgotten, PrintsNumbers, RefusesFrom, RefusesToForget};
+ghost use Rattle.reuse_undo.specs.run.RunLine.{IfRefused};
+ghost use Rattle.reuse_undo.specs.print.Responses.{ReportsFailure};
 
 use crate::cli::line::Steps;
 use crate::print::output::{Sink, write_text};
@@ -22,8 +24,10 @@ pub fn run_forget<S: Store + Drop, O: Sink>(
     steps: &Steps,
     out: &mut O,
 ) -> (S, Result<usize, Fault>)
-    ensures { S.honest result.0
+    ensures forgets { S.honest result.0
         → ForgetsOn steps.now (S.files store) (S.files result.0) (O.contents out.old) (O.contents out.new) result.1 }
+    ensures quiet { IfRefused result.1 (λ refusal. out.new ≡ out.old) }
+    ensures failed { ReportsFailure (O.failed out.old) (O.failed out.new) result.1 }
 {
     let (store, answer) = forget_on(alloc, store, steps);
     match answer {
@@ -73,7 +77,9 @@ fn forget_steps<S: Store + Drop>(
 
 // Writes the lines of what was forgotten.
 fn print_answer<O: Sink>(out: &mut O, alloc: Global, numbers: EntryNumbers) -> Result<usize, Fault>
-    ensures { PrintsForgotten numbers (O.contents out.old) (O.contents out.new) result }
+    ensures prints { PrintsForgotten numbers (O.contents out.old) (O.contents out.new) result }
+    ensures quiet { IfRefused result (λ refusal. out.new ≡ out.old) }
+    ensures failed { ReportsFailure (O.failed out.old) (O.failed out.new) result }
 {
     let printed = print_whole(out, alloc, numbers.as_slice());
     let count = numbers.as_slice().len();
@@ -86,7 +92,10 @@ fn print_answer<O: Sink>(out: &mut O, alloc: Global, numbers: EntryNumbers) -> R
 
 // The same, of which no part is written before it is whole.
 fn print_whole<O: Sink>(out: &mut O, alloc: Global, numbers: &[u32]) -> Result<(), Fault>
-    ensures { PrintsNumbers numbers.now (O.contents out.old) (O.contents out.new) result }
+    ensures prints { PrintsNumbers numbers.now (O.contents out.old) (O.contents out.new) result }
+    ensures kept { OnOk result (O.failed out.new ≡ O.failed out.old) }
+    ensures quiet { IfRefused result (λ refusal. out.new ≡ out.old) }
+    ensures failed { IfErr result (λ fault. ReportsFailure (O.failed out.old) (O.failed out.new) (Err fault)) }
 {
     let mut text = Vec::new(alloc);
     in_memory(print_forgotten(&mut text, numbers))?;
