@@ -5,6 +5,8 @@ pub mod CarriedOut
 pub mod Drawn
 pub mod Forgotten
 pub mod LinesInTurn
+pub mod LockCall
+pub mod Locks
 pub mod Recoveries
 pub mod RefusalTexts
 pub mod Requests

@@ -7,6 +7,7 @@ pub mod DrawnLemmas
 pub mod DrawnLines
 pub mod PreviewedLemmas
 pub mod ForgettingLemmas
+pub mod LockLemmas
 pub mod ModelLemmas
 pub mod TextLemmas
 pub mod TreeDiffLemmas

@@ -1,65 +1,72 @@
 //! One run at a time on a tree, and on the trees that lie in one another.
-ghost use Rattle.std.specs.Prelude.{◌≡◌, ◌↔◌, ◌⊎◌, Err, IfErr, IsErr};
+ghost use Rattle.std.specs.Prelude.{◌≡◌, ◌↔◌, ◌⊎◌, ◌+◌, List, ℕ, [], length, IfErr, IfOk, IsErr, MatchOption, OnOk, string_bytes};
+ghost use Rattle.reuse_undo.specs.run.Locks.{calls_of, folder_of, AreKept, AreOpen, AreLockedAbove, AreLockedAt, HasNoSlash, IsAbove, IsCutAtLast, IsGranted, IsLocked};
 ghost use Rattle.reuse_undo.specs.declared.run.fault.Fault.TheVariants.{InUse, Memory};
 
+mod calls;
+mod record;
+
 use crate::run::fault::Fault;
+use calls::{absolute_path, try_lock};
+use record::{Hold, LockAnswer, LockRecord};
 use std::alloc::Global;
-use std::fs::{self, File, TryLockError};
-use std::io;
+use std::fs::File;
 use std::rt::Files;
 
 /// The lock on a root folder, which keeps other runs out: from this root, from those above it, and
 /// from those within. It is the system's own, exclusive on the folder itself and shared on each
 /// folder above it, so no file is left behind. It is free again once this is let go, and where the
-/// process ends, however that comes about. A store of the folder can't be opened without it.
+/// process ends, however that comes about. A store of the folder can't be opened without it, and
+/// there is none that wasn't asked for.
 #[derive(Drop)]
 pub struct RootLock {
     root: String,
     held: LockedFolders,
+    ghost locked: { ∥ IsLocked (string_bytes root) (calls_of held) ∥₁ },
+    ghost open: { AreOpen held },
 }
 
-/// The folders that are locked, as far as they could be opened.
+/// The folders that are locked, as far as they could be opened, and what was asked for them.
 #[derive(Drop)]
 pub struct LockedFolders {
-    _folders: Vec<File>,
+    folders: Vec<File>,
+    asked: LockRecord,
 }
 
 impl RootLock {
     /// The root, as it was named, and what holds the lock.
-    pub fn into_parts(self) -> (String, LockedFolders) {
+    pub fn into_parts(self) -> (String, LockedFolders)
+        ensures locked { ∥ IsLocked (string_bytes result.0) (calls_of result.1) ∥₁ }
+        ensures open { AreOpen result.1 }
+    {
         let RootLock { root, held } = self;
         (root, held)
     }
 }
 
-/// Whether the system granted a lock: it is refused exactly where somebody else holds it. Where it
-/// can't be had at all, as on a file system without locks, the run goes on without.
-fn granted(tried: Result<(), TryLockError>) -> Result<(), Fault>
-    ensures refused { IsErr result ↔ tried ≡ Err TryLockError.WouldBlock }
+impl LockedFolders {
+    /// None so far.
+    fn new(alloc: Global) -> LockedFolders
+        ensures calls { calls_of result ≡ [] }
+        ensures open { AreOpen result }
+    {
+        LockedFolders {
+            folders: Vec::new(alloc),
+            asked: LockRecord::new(),
+        }
+    }
+}
+
+/// Whether the run goes on: it is refused exactly where somebody else holds the lock. Where none
+/// can be had at all, as on a file system without locks, it goes on without.
+fn granted(answer: LockAnswer) -> Result<(), Fault>
+    ensures refused { IsErr result ↔ (answer ≡ LockAnswer.HeldByAnother) }
     ensures fault { IfErr result (λ fault. fault ≡ InUse) }
 {
-    match tried {
-        Err(TryLockError::WouldBlock) => Err(Fault::InUse),
-        Ok(()) | Err(TryLockError::Error(_)) => Ok(()),
+    match answer {
+        LockAnswer::HeldByAnother => Err(Fault::InUse),
+        LockAnswer::Granted | LockAnswer::NoLocks | LockAnswer::NotOpened => Ok(()),
     }
-}
-
-/// The folder at this path, if it is one that may be read. Anything else, as a pipe, isn't opened.
-fn open_folder<R: Files<File = File>>(rt: &R, path: &str) -> io::Result<Option<File>> {
-    if fs::metadata(rt, path)?.is_dir() {
-        Ok(Some(File::open(rt, path)?))
-    } else {
-        Ok(None)
-    }
-}
-
-/// How a folder is locked.
-#[derive(Clone, Copy)]
-enum Hold {
-    /// By one run alone.
-    Exclusive,
-    /// By any number of runs, none of them exclusively.
-    Shared,
 }
 
 /// Locks the folder at this path, if it can be opened.
@@ -67,20 +74,67 @@ fn lock_folder<R: Files<File = File>>(
     rt: &R,
     path: &str,
     hold: Hold,
-    folders: &mut Vec<File>,
+    held: &mut LockedFolders,
 ) -> Result<(), Fault>
-    ensures { IfErr result (λ fault. (fault ≡ InUse) ⊎ (fault ≡ Memory)) }
+    ensures granted { OnOk result (IsGranted path.now hold (calls_of held.new)) }
+    ensures open { AreOpen held.old → OnOk result (AreOpen held.new) }
+    ensures kept { AreKept (calls_of held.old) (calls_of held.new) }
+    ensures fault { IfErr result (λ fault. (fault ≡ InUse) ⊎ (fault ≡ Memory)) }
 {
-    let Ok(Some(folder)) = open_folder(rt, path) else {
-        return Ok(());
-    };
-    granted(match hold {
-        Hold::Exclusive => folder.try_lock(),
-        Hold::Shared => folder.try_lock_shared(),
-    })?;
-    match folders.push(folder) {
+    let (folder, answer) = try_lock(rt, path, hold, &mut held.asked);
+    granted(answer)?;
+    match folder {
+        Some(folder) => keep_open(folder, held),
+        None => Ok(()),
+    }
+}
+
+/// Keeps the folder open, and so its lock.
+fn keep_open(folder: File, held: &mut LockedFolders) -> Result<(), Fault>
+    ensures same { calls_of held.new ≡ calls_of held.old }
+    ensures open { OnOk result (length held.new.folders.items ≡ length held.old.folders.items + 1) }
+    ensures fault { IfErr result (λ fault. fault ≡ Memory) }
+{
+    match held.folders.push(folder) {
         Ok(()) => Ok(()),
         Err(_) => Err(Fault::Memory),
+    }
+}
+
+/// What stands before the last slash of the path, if it has one.
+fn before_last_slash(path: &str) -> Option<&str>
+    ensures { MatchOption result (HasNoSlash path.now) (λ front. IsCutAtLast path.now front.now) }
+{
+    match path.rsplit_once('/') {
+        Some((front, _rest)) => Some(front),
+        None => None,
+    }
+}
+
+/// The folder that such a front of an absolute path names.
+fn folder_of(front: &str) -> &str
+    ensures { result.now ≡ folder_of front.now }
+{
+    if front.is_empty() { "/" } else { front }
+}
+
+/// Locks the folder that stands before each slash of this absolute path, from the first one on.
+fn lock_at_slashes<R: Files<File = File>>(
+    rt: &R,
+    path: &str,
+    held: &mut LockedFolders,
+) -> Result<(), Fault>
+    ensures locked { OnOk result (AreLockedAt path.now (calls_of held.new)) }
+    ensures open { AreOpen held.old → OnOk result (AreOpen held.new) }
+    ensures kept { AreKept (calls_of held.old) (calls_of held.new) }
+    ensures fault { IfErr result (λ fault. (fault ≡ InUse) ⊎ (fault ≡ Memory)) }
+{
+    match before_last_slash(path) {
+        Some(front) => {
+            lock_at_slashes(rt, front, held)?;
+            lock_folder(rt, folder_of(front), Hold::Shared, held)
+        }
+        None => Ok(()),
     }
 }
 
@@ -88,17 +142,34 @@ fn lock_folder<R: Files<File = File>>(
 fn lock_above<R: Files<File = File>>(
     rt: &R,
     path: &str,
-    folders: &mut Vec<File>,
+    held: &mut LockedFolders,
 ) -> Result<(), Fault>
-    ensures { IfErr result (λ fault. (fault ≡ InUse) ⊎ (fault ≡ Memory)) }
+    ensures locked { OnOk result ((folder : List ℕ) → IsAbove path.now folder → IsGranted folder Hold.Shared (calls_of held.new)) }
+    ensures open { AreOpen held.old → OnOk result (AreOpen held.new) }
+    ensures kept { AreKept (calls_of held.old) (calls_of held.new) }
+    ensures fault { IfErr result (λ fault. (fault ≡ InUse) ⊎ (fault ≡ Memory)) }
 {
-    for (end, _) in path.match_indices('/') {
-        let above = path.get(..end.max(1)).unwrap_or("/");
-        if above != path {
-            lock_folder(rt, above, Hold::Shared, folders)?;
-        }
+    if path == "/" {
+        Ok(())
+    } else {
+        lock_at_slashes(rt, path, held)
     }
-    Ok(())
+}
+
+/// Locks the folders above the root, if the system tells where it lies.
+fn lock_above_root<R: Files<File = File> + AllocGlobal>(
+    rt: &R,
+    root: &str,
+    held: &mut LockedFolders,
+) -> Result<(), Fault>
+    ensures locked { OnOk result (AreLockedAbove root.now (calls_of held.new)) }
+    ensures open { AreOpen held.old → OnOk result (AreOpen held.new) }
+    ensures fault { IfErr result (λ fault. (fault ≡ InUse) ⊎ (fault ≡ Memory)) }
+{
+    match absolute_path(rt, root, &mut held.asked) {
+        Some(path) => lock_above(rt, path.as_str(), held),
+        None => Ok(()),
+    }
 }
 
 /// Takes the lock on the folder at this path; nothing in it is read or written. It is refused where
@@ -109,15 +180,16 @@ pub fn lock_root<R: Files<File = File> + AllocGlobal>(
     alloc: Global,
     root: &str,
 ) -> Result<RootLock, Fault>
-    ensures { IfErr result (λ fault. (fault ≡ InUse) ⊎ (fault ≡ Memory)) }
+    ensures root { IfOk result (λ lock. string_bytes lock.root ≡ root.now) }
+    ensures locked { IfOk result (λ lock. IsLocked root.now (calls_of lock.held)) }
+    ensures open { IfOk result (λ lock. AreOpen lock.held) }
+    ensures fault { IfErr result (λ fault. (fault ≡ InUse) ⊎ (fault ≡ Memory)) }
 {
-    let mut folders = Vec::new(alloc);
-    if let Ok(path) = fs::canonicalize(rt, root) {
-        lock_above(rt, path.as_str(), &mut folders)?;
-    }
-    lock_folder(rt, root, Hold::Exclusive, &mut folders)?;
+    let mut held = LockedFolders::new(alloc);
+    lock_above_root(rt, root, &mut held)?;
+    lock_folder(rt, root, Hold::Exclusive, &mut held)?;
     Ok(RootLock {
         root: String::from_str(alloc, root)?,
-        held: LockedFolders { _folders: folders },
+        held,
     })
 }
