@@ -139,7 +139,10 @@ rm -rf "$tree/.reuse"
 # words need none.
 exec 9< "$tree"
 flock -x 9
-for call in 'annotate -l MIT .' undo redo log convert-dep5 "download --texts $room MIT"; do
+calls=('annotate -l MIT .' 'amend --until 2026 .' convert-dep5 "download --texts $room MIT" undo
+  redo 'revert 1' recover 'forget 1' log 'show 1')
+[[ $(help_subcommands | grep -vxc help) == "${#calls[@]}" ]] || fail 'help has other subcommands'
+for call in "${calls[@]}"; do
   found=0
   # shellcheck disable=SC2086
   "$program" --root "$tree" $call > "$room/out" 2> "$room/error" || found=$?
@@ -147,6 +150,8 @@ for call in 'annotate -l MIT .' undo redo log convert-dep5 "download --texts $ro
     fail "$call on a tree in use: status $found, $(< "$room/error")"
 done
 "$program" --root "$tree" --help > "$room/out" || fail 'help needs the lock'
+! "$program" --root "$tree" annotate . > "$room/out" 2> "$room/error" || fail 'nothing is added'
+[[ $(< "$room/error") == 'reuse-undo: nothing to add' ]] || fail 'wrong words need the lock'
 exec 9<&-
 "$program" --root "$tree" log > "$room/out" || fail 'the lock is not free again'
-echo 'a tree in use: each subcommand is refused'
+echo "a tree in use: each of ${#calls[@]} subcommands is refused"

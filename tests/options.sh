@@ -1,6 +1,7 @@
 #!/usr/bin/env bash
-# Runs words with each option of annotate, words of amend that are refused, words that ask for help, words that are refused, and words for places, and compares as worked_lines.sh
-# does, whose functions it takes. Ends with status 1 at the first fault.
+# Runs words with options of annotate, words that are refused, each pair of options of one call that
+# exclude each other or want another one, words that ask for help, and words for places, and
+# compares as worked_lines.sh does, whose functions it takes. Ends with status 1 at the first fault.
 # usage: tests/options.sh PROGRAM
 # The tags below are data: REUSE-IgnoreStart
 set -euo pipefail
@@ -94,8 +95,7 @@ words() {
   done
   version_told
   for line in 'undo|x' 'annotate|-l|MIT' 'annotate|-l|MIT|-s|none|a.py' \
-    'annotate|-l|MIT|--copyright-prefix|none|a.py' 'download|MIT' 'undo|--diff' \
-    show 'show|x' 'show|1|--diff|--json' 'revert|-1'; do
+    'annotate|-l|MIT|--copyright-prefix|none|a.py' 'download|MIT' show 'show|x' 'revert|-1'; do
     refuses "$line" ''
   done
   tells 'annotate|a.py' 2 'nothing to add'
@@ -105,12 +105,17 @@ words() {
   tells 'annotate|-l|MIT AND|a.py' 2 'bad licence expression at 7: MIT AND'
   tells 'annotate|-y|24|../a' 2 'bad path: ../a'
   tells 'annotate|-l|MIT|a|/a|b//c' 2 'bad path: /a'
-  # Options that exclude each other
+  # Options that exclude each other, or want another one
   line='annotate|-l|MIT|a.py|'
   refuses "$line--single-line|--multi-line" 'cannot be used with'
   refuses "$line--multi-line|--single-line" 'cannot be used with'
   refuses "$line--fallback-dot-license|--skip-unrecognised" 'cannot be used with'
   refuses "$line--skip-unrecognised|--fallback-dot-license" 'cannot be used with'
+  refuses 'show|1|--diff|--json' 'cannot be used with'
+  refuses 'show|1|--json|--diff' 'cannot be used with'
+  refuses 'forget|--all|1' 'cannot be used with'
+  refuses 'forget|1|--all' 'cannot be used with'
+  refuses forget 'required arguments were not provided'
   refuses "$line--style|c|--style|c" 'cannot be used multiple times'
   tells "$line--exclude-year|-y|2024" 2 '--year and --exclude-year'
   refuses "$line--texts|x" 'unexpected argument'
@@ -122,28 +127,55 @@ words() {
   tells log 0 ''
 }
 
-# Words of amend that are refused: without something to be changed, with a value that can't be written
-# or sought, or with an option that wants another one
+# How a dry run is printed: in one form alone, and of a dry run alone
+dry_runs() {
+  local line option before
+  files a.py 'x\n'
+  before=$(files_of "$tree")
+  for line in 'annotate|-l|MIT|a.py' 'amend|--until|2026|a.py' convert-dep5 \
+    'download|--texts|.|MIT' undo redo 'revert|1'; do
+    for option in --dry-run -n --check; do
+      refuses "$line|$option|--diff|--json" "'--diff' cannot be used with '--json'"
+      refuses "$line|--json|$option|--diff" "'--json' cannot be used with '--diff'"
+    done
+    for option in --diff --json; do refuses "$line|$option" '<--dry-run|--check>'; done
+  done
+  has_just 'dry runs that are refused' "$before"
+  tells log 0 ''
+}
+
+# Words of amend that are refused: without something to be changed, with a value that can't be
+# written or sought, or with an option that wants another one
 amend_words() {
   local line option before
   files a.py "$tagged"
   before=$(files_of "$tree")
   run 'amend|--help'
-  [[ $status == 0 && $out == 'Change the copyright and licensing information'* && ! $error ]] || differs 'amend --help'
-  for option in '--replace-license <OLD> <NEW>' '--remove-license <EXPR>' '--replace-holder <OLD> <NEW>' '--remove-holder <HOLDER>' \
-    '--replace-contributor <OLD> <NEW>' '--remove-contributor <TEXT>' '--until <YEAR>' '--copyright-prefix <NAME>' '--holder <HOLDER>' \
-    '-s, --style <NAME>' '-r, --recursive' '--files-from <FILE>' '--exclude <GLOB>' '-n, --dry-run' --check --diff --json; do
-    [[ $out == *" $option "* || $out == *" $option"$'\n'* ]] || differs "help of amend without $option"
+  [[ $status == 0 && $out == 'Change the copyright and licensing information'* && ! $error ]] ||
+    differs 'amend --help'
+  for option in '--replace-license <OLD> <NEW>' '--remove-license <EXPR>' \
+    '--replace-holder <OLD> <NEW>' '--remove-holder <HOLDER>' \
+    '--replace-contributor <OLD> <NEW>' '--remove-contributor <TEXT>' '--until <YEAR>' \
+    '--copyright-prefix <NAME>' '--holder <HOLDER>' '-s, --style <NAME>' '-r, --recursive' \
+    '--files-from <FILE>' '--exclude <GLOB>' '-n, --dry-run' --check --diff --json; do
+    [[ $out == *" $option "* || $out == *" $option"$'\n'* ]] ||
+      differs "help of amend without $option"
   done
-  for line in 'a.py' '-r|.' 'a.py|--dry-run' '-s|python|a.py'; do tells "amend|$line" 2 'nothing to amend'; done
-  for line in '--holder|A|a.py' '--holder|A|--remove-holder|B|a.py'; do refuses "amend|$line" '--until <YEAR>'; done
-  for line in '--replace-license|MIT' '--replace-holder|A' '--replace-contributor|A'; do refuses "amend|$line" 'values required'; done
+  for line in 'a.py' '-r|.' 'a.py|--dry-run' '-s|python|a.py'; do
+    tells "amend|$line" 2 'nothing to amend'
+  done
+  for line in '--holder|A|a.py' '--holder|A|--remove-holder|B|a.py'; do
+    refuses "amend|$line" '--until <YEAR>'
+  done
+  for line in '--replace-license|MIT' '--replace-holder|A' '--replace-contributor|A'; do
+    refuses "amend|$line" 'values required'
+  done
   refuses 'amend|--until|2026' PATH
   refuses 'amend|--until|2026|--until|2027|a.py' 'cannot be used multiple times'
   refuses 'amend|--copyright-prefix|none|a.py' 'invalid value'
   refuses 'amend|--until|2026|--style|none|a.py' 'invalid value'
   refuses 'amend|--until|2026|--exclude|x|a.py' --recursive
-  refuses 'amend|--until|2026|--diff|a.py' --dry-run
+  refuses 'amend|--until|2026|--files-from|x|a.py' --recursive
   refuses 'amend|--until|2026|--force-dot-license|a.py' 'unexpected argument'
   tells 'amend|--replace-license|MIT|ISC AND|a.py' 2 'bad licence expression at 7: ISC AND'
   tells 'amend|--replace-license|MIT||a.py' 2 'bad licence expression at 0: '
@@ -176,5 +208,5 @@ place_words() {
     '|none' '/|none' './/|none' 'a//|none' 'a//b|none' 'a/..|none' '../a|none' "$tree/a.py|none")
 }
 
-for group in settings texts words amend_words place_words; do $group; done
+for group in settings texts words dry_runs amend_words place_words; do $group; done
 tell_counts

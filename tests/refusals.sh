@@ -1,9 +1,10 @@
 #!/usr/bin/env bash
-# Runs the program into every refusal that words and files can bring about, and compares the text on
-# standard error and the status. A refused call must write nothing on standard output and leave all
-# files as they were. Ends with status 1 at the first fault. Three texts aren't met: `broken` is for
-# a second call of one session, `bad clock` for another time, and `.reuse/dep5: not TOML` for a
-# fault of the program.
+# Runs the program into the refusals that words, files and another run can bring about, and compares
+# the text on standard error and the status. A refused call must write nothing on standard output
+# and leave all files as they were. Ends with status 1 at the first fault. `journal of another user`
+# and `cannot keep its owner` take two users, and are in owners.sh. Three texts no script meets:
+# `broken` is for a second call of one session, `bad clock` for another time, and
+# `.reuse/dep5: not TOML` for a fault of the program.
 # usage: tests/refusals.sh PROGRAM
 # The tags below are data: REUSE-IgnoreStart
 set -euo pipefail
@@ -62,6 +63,8 @@ words() {
   refused 2 'bad path: /a.py' annotate -l MIT /a.py
   refused 2 'bad path: ../a.py' annotate ../a.py
   refused 2 'bad path: a//b' annotate -l MIT a.py a//b
+  refused 2 'bad glob: a\b' annotate -l MIT -r --exclude 'a\b' .
+  refused 2 "$room/list: cannot be read" annotate -l MIT -r --files-from "$room/list" .
   refused_words
   refused_words annotate -l MIT
   refused_words annotate -l MIT --nothing a.py
@@ -164,9 +167,15 @@ downloads() {
 }
 
 histories() {
+  local call
   files a.py 'x\n'
   refused 1 'nothing to undo' undo
   refused 1 'nothing to redo' redo
+  for call in show revert forget; do refused 1 'no such step: 1' $call 1; done
+  exec 9< "$tree"
+  flock -x 9
+  refused 1 'in use by another run' undo
+  exec 9<&-
   made annotate "${jane[@]}" a.py
   echo y >> "$tree/a.py"
   refused 1 'a.py: moved' undo
@@ -232,5 +241,7 @@ faults() {
     fail 'annotate to a full device: the file is not changed'
 }
 
-for group in words places amendments conversions downloads histories bad_journals faults; do $group; done
+for group in words places amendments conversions downloads histories bad_journals faults; do
+  $group
+done
 echo "$refusals refusals are as stated"

@@ -1,9 +1,9 @@
 #!/usr/bin/env bash
 # Compares the program's help, the manual page and docs/REFERENCE.md: of each subcommand the
-# options, one by one, with their short names and values; subcommands, styles and prefixes. Compares
-# the manual page with each text of a refusal in the sources, and the version with that of
-# CHANGELOG.md. The manual page passes mandoc's and man's own tests. What each shell completes is
-# compared by completions.sh. Ends with status 1 at the first fault.
+# options, one by one, with their short names and values; subcommands, styles and prefixes. Looks in
+# the manual page for each text of a refusal that the definitions of these texts have, and compares
+# the version with that of CHANGELOG.md. The manual page passes mandoc's and man's own tests. What
+# each shell completes is compared by completions.sh. Ends with status 1 at the first fault.
 # usage: tests/words.sh PROGRAM
 set -euo pipefail
 . "$(dirname "$0")/common.sh"
@@ -88,8 +88,10 @@ in_reference() {
     sed -E 's/^\| ([^|]*) \|.*/\1/; s/`//g' | one_each
 }
 in_help() {
+  local short='(-[a-zA-Z], )?' alias='\[alias(es)?: (--[a-z-]+)\]'
   "$program" "$@" --help | sed -nE '/^Options:/,/^$/s/^ +(-.*)/\1/p' |
-    sed -E 's/^((-[a-zA-Z], )?--[a-z-]+(( <[A-Z]+>)*))(.*\[alias(es)?: (--[a-z-]+)\])?.*/\1, \7\3/; s/, ( <[A-Z]+>)*$//; s/[<>]//g' | one_each
+    sed -E "s/^(${short}--[a-z-]+(( <[A-Z]+>)*))(.*$alias)?.*/\\1, \\7\\3/" |
+    sed -E 's/, ( <[A-Z]+>)*$//; s/[<>]//g' | one_each
 }
 compared=0
 for section in 'Options of all subcommands' 'Dry runs' $(grep -vx help "$room/subcommands"); do
@@ -115,16 +117,24 @@ for section in 'Options of all subcommands' 'Dry runs' $(grep -vx help "$room/su
   compared=$((compared + $(wc -l < "$room/in_help")))
 done
 
-# Texts of refusals; three are of calls that the program doesn't make, or not alone, a dry run tells the refusals in place of one, and why styles are bad
-# isn't told, nor is what a folder's fault was, but in notes
-sed -nE 's/.*#\[error\("(.*)"(, .*)?\)\]$/\1/p' $(find "$top"/crates/*/src -name '*.rt' | grep -vE 'test|style_refusal|disk/fault') | grep -vxE 'device fault|not a good journal text|would be refused' \
-  | sed -E 's/\{[^}]*\}/\n/g' | sed -E 's/^[: ]+//; s/[: ]+$//' | grep . | sort -u > "$room/refusals"
-while IFS= read -r text; do grep -qF -- "$text" "$room/manual" || fail "the manual page: the refusal $text is not told"; done < "$room/refusals"
+# The texts of refusals: each text of the definitions, with a colon that joins it with a path, a
+# number or another text. `broken` is told of a second call of one session, which the program makes
+# of none, and in the place of `would be refused` a dry run prints the refusals themselves.
+sed -nE '/^DIAGNOSTICS$/,/^[A-Z]{2}/{/^ /p}' "$room/manual" > "$room/diagnostics"
+mapfile -t definitions < <(find "$top"/crates/*/specs -name RefusalTexts.antt)
+grep -ohE 'codes "[^"]*"' "${definitions[@]}" | sed -E 's/^codes "//; s/ ?"$//' |
+  grep -vxE ':|broken|would be refused' | sort -u > "$room/refusals"
+texts=$(wc -l < "$room/refusals")
+((${#definitions[@]} >= 4 && texts >= 55)) ||
+  fail "${#definitions[@]} definitions have $texts texts of refusals, fewer than they had"
+while IFS= read -r text; do
+  grep -qF -- "$text" "$room/diagnostics" || fail "the manual page: the refusal $text is not told"
+done < "$room/refusals"
 
 version=$("$program" --version | sed -nE '1s/^reuse-undo ([0-9.]+)$/\1/p')
 [[ -n $version ]] || fail "--version tells $("$program" --version)"
 [[ $(sed -nE 's/^## \[([0-9.]+)\].*/\1/p' "$top/CHANGELOG.md" | head -n 1) == "$version" ]] ||
   fail "CHANGELOG.md is not of version $version"
-echo "$compared options of help, manual page and reference are the same;" \
-  "$(cat "$room/styles" "$room/prefixes" | wc -l) names" \
-  "and $(wc -l < "$room/refusals") texts of refusals are told, and no others"
+echo "$compared options of help, manual page and reference are the same, and" \
+  "$(cat "$room/styles" "$room/prefixes" | wc -l) names are told, and no other options;" \
+  "each of $texts texts of refusals stands in the manual page"
