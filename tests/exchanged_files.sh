@@ -6,8 +6,9 @@
 # refused in words, and none may wait. Once the exchanges have ended the journal opens, a call
 # works, and what it changes is undone. A version that is put in between the moment at which a run
 # reads the file and that at which it names its new file is replaced by that one, since no system
-# call compares and replaces: how often that happens is counted and printed. Ends with status 1 at
-# the first fault.
+# call compares and replaces: how often that happens is counted and printed, and so is how many runs
+# were refused since a file was another one at a later look. That each such moment is met, and just
+# one at a time, is the part of races.sh. Ends with status 1 at the first fault.
 # usage: tests/exchanged_files.sh PROGRAM [ROUNDS]      (200 rounds by default)
 # The tags below are data: REUSE-IgnoreStart
 set -euo pipefail
@@ -111,8 +112,8 @@ if exchange(probe, os.path.join(tree, 'a.py')) or exchange(probe, os.path.join(t
 
 ANNOTATE = ['annotate', '-c', 'Jane Doe', '-y', '2024', '-l', 'MIT']
 REFUSALS = re.compile(rb'reuse-undo: (.*: moved|store fault|interrupted|nothing to (undo|redo)|'
-                      rb'no such step: .*|.*: changing)')
-made, refused = {}, {}
+                      rb'no such step: .*)')
+made, refused, caught = {}, {}, 0
 counts = multiprocessing.Array('q', 2)
 for part, pause in enumerate((0, 0.05, 0.5, 3)):
     ended = multiprocessing.Event()
@@ -134,6 +135,7 @@ for part, pause in enumerate((0, 0.05, 0.5, 3)):
             made[kind] = made.get(kind, 0) + 1
         elif answer.returncode == 1 and REFUSALS.search(answer.stderr):
             refused[kind] = refused.get(kind, 0) + 1
+            caught += re.search(rb'(: moved|store fault|interrupted)', answer.stderr) is not None
             if b': moved' in answer.stderr:
                 # A step that stopped may be pending, with a file that was exchanged since.
                 run('recover', '--skip-moved')
@@ -163,6 +165,6 @@ for part, pause in enumerate((0, 0.05, 0.5, 3)):
     if not os.path.isdir(os.path.join(tree, '.reuse', 'undo')):
         fail('the journal is gone')
 print(f'{sum(made.values())} calls were made and {sum(refused.values())} refused while {counts[0]} '
-      f'files were exchanged: each file is whole at all times; {counts[1]} versions were put in '
-      'between the read and the new name, and replaced')
+      f'files were exchanged, {caught} of these since a file had been: each file is whole at all '
+      f'times; {counts[1]} versions were put in between the read and the new name, and replaced')
 PYTHON

@@ -21,9 +21,12 @@ NOTICE = b'# SPDX-FileCopyrightText: 2001 Old Holder\n'
 NEW = b'# SPDX-FileCopyrightText: 2024 Jane Doe\n#\n# SPDX-License-Identifier: MIT\n'
 FIRST = b'#!/usr/bin/python3\n'
 
-bounds = [4_096, 8_192, 16_384, 32_768, 65_536, 131_072, 1_048_576]
+bounds = [4_096, 8_192, 16_384, 32_768, 65_536, 131_072, 1_048_576, 8_388_608]
 lengths = [0, 1, 2, LONGEST - 1, LONGEST]
 lengths += [bound + more for bound in bounds for more in (-1, 0, 1)]
+# A step that has more of the longest blocks is too large.
+lengths_of_blocks = [length for length in lengths if length in (LONGEST - 1, LONGEST) or
+                     length < 8_000_000]
 
 # Lines, no two of which are alike: those of a program, and those of a comment without a tag
 TEXT = b''.join(b'x%d = 1\n' % number for number in range(1_400_000))
@@ -73,7 +76,7 @@ for tree in ('before', 'after', 'long'):
     os.mkdir(os.path.join(room, tree))
 for when in ('before', 'after'):
     for long in ('front', 'block', 'rest', 'text'):
-        for length in lengths:
+        for length in lengths_of_blocks if long == 'block' else lengths:
             parts = parts_of((when, long), length)
             if parts is None:
                 continue
@@ -104,6 +107,31 @@ leaves after annotate -c "Jane Doe" -l MIT -y 2024 -r .
 leaves before undo
 leaves after redo
 leaves before revert 1
+
+# Batches: up to 256 files are written at a time, and no more once those that were read have 8 MiB.
+# A tree of so many files, of which the first has so many bytes, before a call or after it.
+batches=0
+batch() {
+  local file number
+  rm -rf "$tree" "$room/first" "$room/second"
+  mkdir "$room/first" "$room/second"
+  head -c "$2" < <(seq 3000000) > "$room/first/0.py"
+  for ((number = 1; number < $1; number++)); do echo "x = $number" > "$room/first/$number.py"; done
+  for file in "$room/first"/*; do
+    printf '# SPDX-License-Identifier: MIT\n\n' | cat - "$file" > "$room/second/${file##*/}"
+  done
+  cp -r "$room/first" "$tree"
+  leaves second annotate -l MIT -r .
+  leaves first undo
+  leaves second redo
+  batches=$((batches + 1))
+}
+for count in 255 256 257 511 512 513; do batch $count 1; done
+header=32
+for bytes in 8388607 8388608 8388609; do
+  batch 3 $bytes
+  batch 3 $((bytes - header))
+done
 
 # One byte too many: refused, and nothing is written.
 for file in "$room/long"/*; do
@@ -163,4 +191,5 @@ done
 count=$(find "$room/before" -type f | wc -l)
 echo "$count files, of 0 to 16,777,216 bytes before or after: annotate, undo, redo and revert" \
   "leave the bytes that are expected; $(find "$room/long" -type f | wc -l) of one byte more are" \
-  "refused, and $lists lists are read to their last byte"
+  "refused, $batches trees are written at the bounds of batches, and $lists lists are read to" \
+  "their last byte"

@@ -1,11 +1,12 @@
 #!/usr/bin/env bash
 # Swaps what a run works on for something else at its system calls, at each of them or at some: the
 # run is stopped there by strace, and goes on once the swap is made. A folder becomes a link to a
-# folder outside of the tree that has files of the same names, a file becomes a link or a pipe, a
-# folder becomes another folder, and so does the journal's. The runs are annotate, undo, and an
-# opening that sets a stopped run back. The tree's folders may be written by others, as where others
-# can make such swaps. Nothing outside may be read or written, each file of the tree must be as
-# before the run or as after it, and no run may wait. Once the swap is taken back the journal must
+# folder outside of the tree that has files of the same names, a file becomes a link, a pipe or
+# another file, or it grows, a folder becomes another folder, and so does the journal's. The runs
+# are annotate, undo, and an opening that sets a stopped run back. The tree's folders may be written
+# by others, as where others can make such swaps. Nothing outside may be read or written, each file
+# of the tree must be as before the run or as after it, and no run may wait. What is put into a file
+# before the run last looks at it may not be lost. Once the swap is taken back the journal must
 # open, or tell which file it can't set back. Prints how many rounds there were; ends with status 1
 # at the first fault.
 # usage: tests/races.sh PROGRAM [ROUNDS]
@@ -18,7 +19,8 @@ wants strace strace
 tree=$room/tree away=$room/away outside=$room/outside other=$room/other
 annotate=(annotate -l MIT -r .)
 calls=openat,statx,read,getdents64,write,close,rename,unlink,mkdir,fsync,fdatasync
-rounds=0 refused=0
+added='added = 1'
+rounds=0 refused=0 kept=0
 declare -A runs=([annotate]="${annotate[*]}" [undo]=undo [rollback]=log)
 
 # The seconds after which a run that was made to go on counts as one that waits
@@ -75,12 +77,17 @@ file_for_pipe() {
   mv "$tree/sub/a.py" "$away/a.py"
   mkfifo -m 666 "$tree/sub/a.py"
 }
+file_for_file() {
+  mv "$tree/sub/a.py" "$away/a.py"
+  echo "$added" > "$tree/sub/a.py"
+}
+file_grows() { echo "$added" >> "$tree/sub/a.py"; }
 journal_for_link() {
   mv "$tree/.reuse/undo" "$away/undo"
   ln -sT "$outside/undo" "$tree/.reuse/undo"
 }
 
-# Takes a swap back.
+# Takes a swap back; of what was put into a file nothing.
 put_back() {
   case $1 in
     folder_for_link | folder_for_folder)
@@ -136,10 +143,11 @@ check_files() {
   fail "$3: neither as before nor as after: $(< "$room/odd")"
 }
 
-# One round: this run, this swap, at the system call of this name that is the Nth of it; none if the
-# run makes fewer.
+# One round: this run, this swap, at this one of its system calls; none if the run makes fewer.
 round() {
-  local run=$1 swap=$2 call=$3 number=$4 name="$1, $2 at $3 $4" pid
+  local run=$1 swap=$2 at=$3 call number name pid
+  read -r call number <<< "${stops[at]}"
+  name="$run, $swap at $call $number"
   rm -rf "$tree" "$away"
   cp -a "$room/$run" "$tree"
   mkdir "$away"
@@ -163,6 +171,10 @@ round() {
   check_files "$tree" '' "$name"
   [[ ! -d $away/sub ]] || check_files "$away/sub" sub/ "$name"
   [[ ! -f $away/a.py ]] || check_files "$away" sub/ "$name"
+  if ((at < ${looks[$swap]-0})); then
+    grep -qxF "$added" "$tree/sub/a.py" || fail "$name: what was put in before is lost"
+    kept=$((kept + 1))
+  fi
   put_back "$swap"
   "$program" --root "$tree" log > "$room/out" 2>&1 ||
     grep -qE '^reuse-undo: (interrupted|sub/[a-z/.]+: moved)' "$room/out" ||
@@ -173,29 +185,47 @@ round() {
 make_states
 make_outside
 cp -a "$room/annotate/sub" "$other"
-{ sums "$room/annotate" && sums "$room/undo"; } | sed 's#  ./#  #' > "$room/allowed"
-# The calls at which a run can be stopped: the name of each, and the how manieth of that name it is
+# The files of before and after, one that was put in the place of a file, and one that grew
+mkdir -p "$room"/{replaced,grown}/{plain,written}/sub
+echo 'x = 2' | tee "$room/grown"/{plain,written}/sub/a.py > "$room/out"
+for state in replaced grown; do
+  echo "$added" | tee -a "$room/$state"/{plain,written}/sub/a.py > "$room/out"
+  sed -i '1i # SPDX-License-Identifier: MIT\n' "$room/$state/written/sub/a.py"
+done
+for state in annotate undo {replaced,grown}/{plain,written}; do sums "$room/$state"; done |
+  sed 's#  ./#  #' > "$room/allowed"
+# The calls at which a run can be stopped: the name of each, and the how manieth of that name it is.
+# At which of them the run last opens and reads the file that is swapped, before it writes it anew;
+# if it doesn't, the last of all.
 note_calls() {
+  local last=()
   rm -rf "$tree"
   cp -a "$room/$1" "$tree"
   # shellcheck disable=SC2086
   strace -qq -o "$room/trace" -e "trace=$calls" "$program" --root "$tree" ${runs[$1]} \
     > "$room/out" 2>&1
   mapfile -t stops < <(sed 's/(.*//' "$room/trace" | awk '{ print $1, ++times[$1] }')
+  read -ra last < <(awk '
+    /^openat\(.*\/a\.py"/ { opened = NR - 1; is_open = 1 }
+    /^read\(/ && is_open { was_read = NR - 1; is_open = 0 }
+    /^rename\(.*\/a\.py"\)/ { is_written = 1; exit }
+    END { print is_written ? opened " " was_read : NR " " NR }' "$room/trace")
+  looks=([file_for_file]=${last[0]} [file_grows]=${last[1]})
 }
 
+declare -A looks
 for run in annotate undo rollback; do
   note_calls $run
   count=${2:-${#stops[@]}}
   ((count <= ${#stops[@]})) || count=${#stops[@]}
-  for swap in folder_for_link folder_for_folder file_for_link file_for_pipe journal_for_link; do
+  for swap in folder_for_link folder_for_folder file_for_link file_for_pipe file_for_file \
+    file_grows journal_for_link; do
     for ((k = 0; k < count; k++)); do
       first=$((k * ${#stops[@]} / count)) next=$(((k + 1) * ${#stops[@]} / count))
-      # shellcheck disable=SC2086
-      round $run $swap ${stops[first + RANDOM % (next - first)]} || true
+      round $run $swap $((first + RANDOM % (next - first))) || true
     done
   done
   echo "$run: no swap does harm, at $count of its ${#stops[@]} calls"
 done
-echo "$rounds rounds, of which $refused were refused: nothing outside was read or written, and" \
-  "no run waits"
+echo "$rounds rounds, of which $refused were refused: nothing outside was read or written, no run" \
+  "waits, and what was put into a file before its last look is there, $kept times"
