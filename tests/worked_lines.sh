@@ -220,6 +220,10 @@ replies() {
   has_just 'a download' "$(sums_of x/MIT.txt 'text\n' $file 'text\n')"
   tells undo 0 "undone $file\n"
   has_just 'undo of a download' "$(sums_of x/MIT.txt 'text\n')"
+  files x/MIT.txt 'text\n' x/ISC.txt 'other\n'
+  tells 'download|--texts|x|MIT|ISC' 0 "changed LICENSES/ISC.txt\nchanged $file\n"
+  has_just 'a download of two texts' "$(sums_of x/MIT.txt 'text\n' x/ISC.txt 'other\n' \
+    $file 'text\n' LICENSES/ISC.txt 'other\n')"
   files a.py 'print(1)\n'
   run 'annotate|-c|Jane Doe|-y|2024|-l|MIT|a.py' /dev/full
   [[ $status == 1 && $error == $'reuse-undo: write fault\n' ]] ||
