@@ -13,6 +13,7 @@ mod run;
 
 use cli::file_list::with_list;
 use cli::line::{Asked, ChangeStatus, LineFault};
+use cli::words::finder::Clap;
 use cli::words::{Said, words_to_command};
 use print::error_output::ErrorOutput;
 use print::report::{tell_outcome, tell_words};
@@ -51,7 +52,7 @@ fn read_words<R: Env + AllocGlobal>(rt: &R, alloc: Global) -> Result<Vec<String>
 /// What the words say that the program was called with.
 fn said_in<R: Env + AllocGlobal>(rt: &R, alloc: Global, moment: Moment) -> Said {
     match read_words(rt, alloc) {
-        Ok(words) => words_to_command(alloc, words.as_slice(), moment),
+        Ok(words) => words_to_command(&Clap, alloc, words.as_slice(), moment),
         Err(fault) => Said::fault(fault),
     }
 }

@@ -2,7 +2,9 @@
 use Rattle.std.specs.Prelude.{◌≡◌, ◌⊎◌, ℕ, false, List, [], Option, None, Some, Result, Ok, Err, codes, option_map, string_bytes, if◌then◌else◌}
 use Rattle.std.specs.Str.{bytes_eq}
 use Rattle.clap.specs.Simple.{app_of, HasMatchesOf, subcommand_rows_of}
+use Rattle.clap.specs.Values.{kind_of}
 use Rattle.clap.specs.declared.builder.command.Command.{Command}
+use Rattle.clap.specs.declared.error.Error.{Error}
 use Rattle.clap.specs.declared.parser.matches.ArgMatches.{ArgMatches}
 use Rattle.reuse_session.specs.declared.command.Command.{Command as SessionCommand}
 use Rattle.reuse_session.specs.declared.command.Command.TheVariants.{ConvertDep5, Download}
@@ -16,7 +18,7 @@ use Rattle.reuse_undo.specs.cli.CommandWords.{amend_read, annotate_read}
 use Rattle.reuse_undo.specs.print.Dates.{IsYearOf}
 use Rattle.reuse_undo.specs.cli.FileWords.{files_from_of, ids_of, root_of, step_read, steps_read, texts_folder_read}
 use Rattle.reuse_undo.specs.cli.Found.{Rows, flag, found_in}
-use Rattle.reuse_undo.specs.cli.LineFaults.{IsDueAs, Mistake, then_read, unread}
+use Rattle.reuse_undo.specs.cli.LineFaults.{IsDueAs, IsToldAs, Mistake, then_read, unread}
 use Rattle.reuse_undo.specs.run.Requests.{made_or_seen}
 use Rattle.reuse_undo.specs.declared.cli.line.LineFault.{LineFault}
 use Rattle.reuse_undo.specs.declared.cli.line.LineFault.TheVariants as faults
@@ -93,17 +95,17 @@ Says matches moment said =
     (said ≡ no_line faults.Memory)
     ⊎ ((year : ℕ) × IsYearOf moment year × IsSaid (found_in matches) (subcommand_rows_of matches) moment year said)
 
--- clap found this in the words, by the options of some command
+-- clap found this in the words, by the options of some command; of one that has groups or global options,
+-- as this program's has, clap's clause says nothing
 abbrev pub IsFoundIn : List (List ℕ) → ArgMatches → Type 0
 IsFoundIn words matches = (command : Command) × HasMatchesOf (app_of command) words matches
 
--- clap takes no such words, or was asked for help; or memory ran out
-abbrev pub IsOfClap : LineFault → Type 0
-IsOfClap (faults.Usage text) = Unit {0}
-IsOfClap (faults.Help text) = Unit {0}
-IsOfClap faults.Memory = Unit {0}
-IsOfClap fault = ⊥
+-- the words are no line: help or a mistake by the kind of clap's error; an allocation failure may take its place
+abbrev pub IsRefused : Error → Said → Type 0
+IsRefused error said =
+    (said ≡ no_line faults.Memory) ⊎ ((fault : LineFault) × IsToldAs (kind_of error) fault × (said ≡ no_line fault))
 
--- the words are no line, as clap says
-abbrev pub IsRefusedByClap : Said → Type 0
-IsRefusedByClap said = (fault : LineFault) × IsOfClap fault × (said ≡ no_line fault)
+-- what the words say, to which clap answered this
+abbrev pub IsReadAs : Result ArgMatches Error → ℕ → Said → Type 0
+IsReadAs (Ok matches) moment said = Says matches moment said
+IsReadAs (Err error) moment said = IsRefused error said

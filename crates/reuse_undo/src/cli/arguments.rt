@@ -29,11 +29,6 @@ fn taking<'a>(arg: Arg<'a>, id: &'static str, takes: Takes) -> Arg<'a> {
     match takes {
         Takes::Nothing => arg.long(id).action(ArgAction::SetTrue),
         Takes::Value(name) => arg.long(id).value_name(name).action(ArgAction::Set),
-        Takes::Default(value, name) => arg
-            .long(id)
-            .value_name(name)
-            .default_value(value)
-            .action(ArgAction::Set),
         Takes::Values(name) => arg.long(id).value_name(name).action(ArgAction::Append),
         Takes::Pairs(names) => arg
             .long(id)

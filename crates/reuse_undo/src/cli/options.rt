@@ -10,8 +10,6 @@ pub enum Takes {
     Nothing,
     /// An option that takes one value, which the help calls so.
     Value(&'static str),
-    /// An option that takes one value, and this one where it isn't there.
-    Default(&'static str, &'static str),
     /// An option that may be repeated, each time with a value.
     Values(&'static str),
     /// An option that may be repeated, each time with two values.
@@ -83,9 +81,9 @@ pub const BEFORE: &[Argument] = &[
     Argument(
         "root",
         None,
-        Takes::Default(".", "DIR"),
+        Takes::Value("DIR"),
         Rule::Global(101),
-        "Work on the source tree below DIR",
+        "Work on the source tree below DIR [default: .]",
     ),
     Argument(
         "verbose",

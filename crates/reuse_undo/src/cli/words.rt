@@ -1,11 +1,12 @@
 //! From the words of a command line to what they ask for.
-ghost use Rattle.std.specs.Prelude.{◌≡◌, ◌≤◌, ◌⊎◌, IfErr, IfOk, map, string_bytes};
+ghost use Rattle.std.specs.Prelude.{◌≡◌, ◌≤◌, IfOk, Result, map, string_bytes};
 ghost use Rattle.clap.specs.Simple.{subcommand_rows_of};
 ghost use Rattle.clap.specs.Values.{kind_of};
+ghost use Rattle.clap.specs.declared.error.Error.{Error};
 ghost use Rattle.clap.specs.declared.parser.matches.ArgMatches.{ArgMatches};
 ghost use Rattle.std.specs.Option.{option_map};
 ghost use Rattle.reuse_undo.specs.run.Asking.{request_in};
-ghost use Rattle.reuse_undo.specs.cli.CommandLine.{IsFoundIn, IsOfClap, IsRefusedByClap, Says, call_read, download_of, no_line, request_read, requested, session_read, texts_read};
+ghost use Rattle.reuse_undo.specs.cli.CommandLine.{IsReadAs, IsRefused, Says, call_read, download_of, no_line, request_read, requested, session_read, texts_read};
 ghost use Rattle.reuse_undo.specs.cli.Found.{found_in};
 ghost use Rattle.reuse_undo.specs.cli.LineFaults.{IsDue, IsDueAs, IsToldAs};
 
@@ -13,10 +14,10 @@ mod amend_words;
 mod choices;
 mod command_words;
 mod file_words;
+pub mod finder;
 mod found;
 mod unread_words;
 
-use crate::cli::arguments::whole;
 use crate::cli::line::{Asked, Forgetting, Line, LineFault, Recovery};
 use crate::cli::settings::Settings;
 use crate::print::date::year_of;
@@ -26,6 +27,7 @@ use clap::error::ErrorKind;
 use clap::{ArgMatches, Error};
 use command_words::{read_amend, read_annotate};
 use file_words::{read_files_from, read_ids, read_root, read_step, read_steps, read_texts};
+use finder::Finder;
 use found::{flag, subcommand};
 use reuse_session::{Call, Command, LicenceTexts, Moment, Request};
 use std::alloc::{AllocError, Global};
@@ -62,13 +64,17 @@ impl Said {
 ///
 /// Faults come in this order: those of the words themselves, the first word that names no place,
 /// those of what `annotate` is to add or `amend` to change, and the first glob that is none.
-pub fn words_to_command(alloc: Global, words: &[String], moment: Moment) -> Said
-    ensures { ((matches : ArgMatches) × IsFoundIn (map string_bytes words.now) matches × Says matches moment result)
-        ⊎ IsRefusedByClap result }
+pub fn words_to_command<F: Finder>(
+    finder: &F,
+    alloc: Global,
+    words: &[String],
+    moment: Moment,
+) -> Said
+    ensures { (found : Result ArgMatches Error) × F.answers finder.now (map string_bytes words.now) found × IsReadAs found moment result }
 {
-    match matches_of(alloc, words) {
+    match finder.find(alloc, words) {
         Ok(matches) => said_in(alloc, &matches, moment),
-        Err(fault) => Said::fault(fault),
+        Err(error) => refused(alloc, &error),
     }
 }
 
@@ -87,14 +93,13 @@ fn said_in(alloc: Global, matches: &ArgMatches<'_>, moment: Moment) -> Said
     }
 }
 
-fn matches_of<'a>(alloc: Global, words: &'a [String]) -> Result<ArgMatches<'a>, LineFault>
-    ensures found { IfOk result (IsFoundIn (map string_bytes words.now)) }
-    ensures fault { IfErr result IsOfClap }
+/// Words that clap refuses with this error.
+fn refused(alloc: Global, error: &Error) -> Said
+    ensures { IsRefused error.now result }
 {
-    let command = whole(alloc)?;
-    match command.try_get_matches_from(words) {
-        Ok(matches) => Ok(matches),
-        Err(error) => Err(fault_of(alloc, &error)?),
+    match fault_of(alloc, error) {
+        Ok(fault) => Said::fault(fault),
+        Err(error) => Said::fault(LineFault::from(error)),
     }
 }
 
