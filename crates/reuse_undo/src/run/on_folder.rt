@@ -1,7 +1,10 @@
 //! Carries out on a folder what a line asks for.
+ghost use Rattle.std.specs.Prelude.{◌≡◌};
 ghost use Rattle.reuse_undo.specs.run.CarriedOut.{CarriesOut};
 ghost use Rattle.reuse_undo.specs.run.Forgotten.{ForgetsOn};
 ghost use Rattle.reuse_undo.specs.run.Recoveries.{RecoversOn};
+ghost use Rattle.reuse_undo.specs.run.RunLine.{IfRefused};
+ghost use Rattle.reuse_undo.specs.print.Responses.{ReportsFailure};
 
 use crate::cli::line::{PrintOptions, Steps};
 use crate::disk::DiskStore;
@@ -51,8 +54,10 @@ pub fn recover_on_folder<
     out: &mut O,
 ) -> (DiskStore<R>, Result<usize, Fault>)
     // As on any store, for whatever files the folder holds.
-    ensures { ⟦<DiskStore<R> as Store>⟧.honest result.0
+    ensures recovers { ⟦<DiskStore<R> as Store>⟧.honest result.0
         → RecoversOn names skip_moved (⟦<DiskStore<R> as Store>⟧.files folder) (⟦<DiskStore<R> as Store>⟧.files result.0) (O.contents out.old) (O.contents out.new) result.1 }
+    ensures quiet { IfRefused result.1 (λ refusal. out.new ≡ out.old) }
+    ensures failed { ReportsFailure (O.failed out.old) (O.failed out.new) result.1 }
 {
     let watched = WatchedStore::new(folder, progress);
     let (watched, outcome) = run_recover(alloc, watched, skip_moved, names, out);
@@ -72,8 +77,10 @@ pub fn forget_on_folder<
     out: &mut O,
 ) -> (DiskStore<R>, Result<usize, Fault>)
     // As on any store, for whatever files the folder holds.
-    ensures { ⟦<DiskStore<R> as Store>⟧.honest result.0
+    ensures forgets { ⟦<DiskStore<R> as Store>⟧.honest result.0
         → ForgetsOn steps.now (⟦<DiskStore<R> as Store>⟧.files folder) (⟦<DiskStore<R> as Store>⟧.files result.0) (O.contents out.old) (O.contents out.new) result.1 }
+    ensures quiet { IfRefused result.1 (λ refusal. out.new ≡ out.old) }
+    ensures failed { ReportsFailure (O.failed out.old) (O.failed out.new) result.1 }
 {
     let watched = WatchedStore::new(folder, progress);
     let (watched, outcome) = run_forget(alloc, watched, steps, out);

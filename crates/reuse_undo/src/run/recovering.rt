@@ -3,9 +3,11 @@
 //!
 //! It is no request of a session: no session can be opened while a path of the pending step is
 //! stuck.
-ghost use Rattle.std.specs.Prelude.{◌≡◌, OnOk};
+ghost use Rattle.std.specs.Prelude.{◌≡◌, Err, IfErr, OnOk};
 ghost use Rattle.std.specs.Io.KnownBytes.{Appends};
 ghost use Rattle.reuse_undo.specs.run.Recoveries.{recovered_text, rolled_back_text, RecoversOn, PrintsLines, PrintsRecovered};
+ghost use Rattle.reuse_undo.specs.run.RunLine.{IfRefused};
+ghost use Rattle.reuse_undo.specs.print.Responses.{ReportsFailure};
 
 use crate::print::lines::print_paths;
 use crate::print::output::{Sink, write_text};
@@ -26,7 +28,9 @@ pub fn run_recover<S: Store + Drop, O: Sink>(
     names: Names,
     out: &mut O,
 ) -> (S, Result<usize, Fault>)
-    ensures { S.honest result.0 → RecoversOn names skip_moved (S.files store) (S.files result.0) (O.contents out.old) (O.contents out.new) result.1 }
+    ensures recovers { S.honest result.0 → RecoversOn names skip_moved (S.files store) (S.files result.0) (O.contents out.old) (O.contents out.new) result.1 }
+    ensures quiet { IfRefused result.1 (λ refusal. out.new ≡ out.old) }
+    ensures failed { ReportsFailure (O.failed out.old) (O.failed out.new) result.1 }
 {
     let (store, answer) = recover(alloc, store, skip_moved);
     match answer {
@@ -42,7 +46,9 @@ fn print_answer<O: Sink>(
     names: Names,
     recovered: Recovered,
 ) -> Result<usize, Fault>
-    ensures { PrintsRecovered names recovered (O.contents out.old) (O.contents out.new) result }
+    ensures prints { PrintsRecovered names recovered (O.contents out.old) (O.contents out.new) result }
+    ensures quiet { IfRefused result (λ refusal. out.new ≡ out.old) }
+    ensures failed { ReportsFailure (O.failed out.old) (O.failed out.new) result }
 {
     let printed = print_whole(out, alloc, names, &recovered);
     let count = recovered.changed.as_slice().len();
@@ -60,7 +66,10 @@ fn print_whole<O: Sink>(
     names: Names,
     recovered: &Recovered,
 ) -> Result<(), Fault>
-    ensures { PrintsLines names recovered.now (O.contents out.old) (O.contents out.new) result }
+    ensures prints { PrintsLines names recovered.now (O.contents out.old) (O.contents out.new) result }
+    ensures kept { OnOk result (O.failed out.new ≡ O.failed out.old) }
+    ensures quiet { IfRefused result (λ refusal. out.new ≡ out.old) }
+    ensures failed { IfErr result (λ fault. ReportsFailure (O.failed out.old) (O.failed out.new) (Err fault)) }
 {
     let mut text = Vec::new(alloc);
     in_memory(print_recovered(&mut text, names, recovered))?;
