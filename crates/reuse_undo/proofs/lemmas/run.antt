@@ -9,5 +9,6 @@ pub mod PreviewedLemmas
 pub mod ForgettingLemmas
 pub mod LockLemmas
 pub mod ModelLemmas
+pub mod SafeCalls
 pub mod TextLemmas
 pub mod TreeDiffLemmas

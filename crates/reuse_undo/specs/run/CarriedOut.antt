@@ -7,7 +7,7 @@ use Rattle.reuse_session.specs.session.Answer.{HasCause}
 use Rattle.reuse_session.specs.journal.Journal.{State}
 use Rattle.reuse_session.specs.session.Machine.{Snapshots}
 use Rattle.reuse_session.specs.journal.Standing.{IsStanding}
-use Rattle.reuse_session.specs.session.Stops.{Point, HoldState, AreLeft}
+use Rattle.reuse_session.specs.session.Stops.{Point, HoldState, AreLeft, MayBeFound}
 use Rattle.reuse_undo.specs.run.AfterStops.{AnswersAfterStop}
 use Rattle.reuse_undo.specs.run.Drawn.{IsDrawnText, WouldLeave}
 use Rattle.reuse_undo.specs.print.Outputs.{AddsSome}
@@ -39,6 +39,12 @@ pub record CarriesOut {S O : Type 0} (store : Ghosts S) (contents : O → List �
       → (end : Point) × ReportsAnswer options
       (λ answer. AnswersAfterStop request answer start end) (contents before) (contents after) result
       × AreLeft (store.files new) end.state end.next
+  -- So it is with all that a loss of power may leave: from files of which it may leave no more than what is told of the
+  -- point where the run with stops was, to files of which it may leave no more than what is told of the point at its end.
+  pub survives : store.honest new → (start : Point) → MayBeFound store old start.state start.next
+      → (end : Point) × ReportsAnswer options
+      (λ answer. AnswersAfterStop request answer start end) (contents before) (contents after) result
+      × MayBeFound store new end.state end.next
   -- where a dry run's diff is wanted it stands behind the lines: the diff of the tree as it is, and of that which the
   -- call would leave
   pub drawn : store.honest new → (held : State) → IsStanding (store.files old) held → options.format ≡ Diff

@@ -5,6 +5,8 @@ ghost use Rattle.reuse_tree.specs.Files.{Files, tree_of};
 ghost use Rattle.reuse_session.specs.session.Answer.{HasCause};
 ghost use Rattle.reuse_session.specs.journal.Journal.{State};
 ghost use Rattle.reuse_session.specs.journal.Standing.{IsStanding};
+ghost use Rattle.reuse_session.specs.session.Stops.{Point, MayBeFound};
+ghost use Rattle.reuse_undo.specs.run.AfterStops.{AnswersAfterStop};
 ghost use Rattle.reuse_undo.specs.run.CarriedOut.{CarriesOut};
 ghost use Rattle.reuse_undo.specs.run.Drawn.{LeadsAsPreviewed, LeadsAsPreviewedAccepted, IsDiffOfCall, IsTreeDiff};
 ghost use Rattle.reuse_session.specs.session.Requests.{HasCallClash, IsAnswered, IsReading};
@@ -58,6 +60,9 @@ fn call<S: Store + Drop>(
     options: PrintOptions,
 ) -> (S, Answer, Result<Vec<u8>, Fault>, Counts)
     ensures carries { S.honest result.0 → RequestLeaves (S.files store) request.now result.1 (S.files result.0) }
+    ensures survives { S.honest result.0 → (start : Point) → MayBeFound S.Store store start.state start.next
+        → (end : Point) × AnswersAfterStop request.now result.1 start end
+        × MayBeFound S.Store result.0 end.state end.next }
     ensures reads_only { S.honest result.0 → IsReading request.now → (held : State) → IsStanding (S.files store) held
         → OnlyReads S.Store store result.0 }
     ensures fault { IfErr result.1 (HasCause (S.failures store < S.failures result.0)) }

@@ -15,6 +15,7 @@ use Rattle.reuse_undo.specs.declared.run.fault.Fault.{Fault}
 use Rattle.reuse_undo.specs.declared.run.fault.Fault.TheVariants as faults
 use Rattle.reuse_undo.specs.declared.cli.line.PrintOptions.{PrintOptions}
 use Rattle.reuse_session.specs.declared.request.Request.{Request}
+use Rattle.reuse_undo.proofs.lemmas.run.SafeCalls.{found_alike}
 
 -- the one holds what the other holds, a loss of power leaves the same, and they count and are honest alike
 pub record IsSameStore {W S : Type 0} (outer : Ghosts W) (inner : Ghosts S) (whole : W) (inside : S) : Type 0 where
@@ -72,6 +73,9 @@ same_inside outer inner contents has_failed request options before after old new
       after_stop = λ honest start found.
           let at = carried.after_stop (a.gives honest) start (subst (λ f. AreLeft f start.state start.next) (sym b.files) found) in
           (at.0, at.1, subst (λ f. AreLeft f (at.0).state (at.0).next) a.files at.2);
+      survives = λ honest start found.
+          let at = carried.survives (a.gives honest) start (found_alike inner outer old before b.files b.takes_left start.state start.next found) in
+          (at.0, at.1, found_alike outer inner after new (sym a.files) a.gives_left (at.0).state (at.0).next at.2);
       drawn = λ honest held standing. carried.drawn (a.gives honest) held (subst (λ f. IsStanding f held) (sym b.files) standing);
       reads_only = λ honest look held standing.
           reads_inside outer inner before after old new b a (carried.reads_only (a.gives honest) look held (subst (λ f. IsStanding f held) (sym b.files) standing));

@@ -6,9 +6,11 @@ use Rattle.reuse_session.specs.session.Requests.{HasCallClash}
 use Rattle.reuse_undo.specs.run.RunLine.{RequestLeaves}
 use Rattle.reuse_tree.proofs.AskedLemmas.{reads_more}
 use Rattle.reuse_session.proofs.lemmas.session.Peeking.{caused}
+use Rattle.reuse_session.proofs.lemmas.session.SafeDriving.{closed_safely}
 use Rattle.reuse_undo.proofs.lemmas.run.CallLemmas.{carried, found_again, meets_by, unclashed}
 use Rattle.reuse_undo.proofs.lemmas.run.DiffLemmas.{accepted_where, diff_after, diff_for, format_where, held_of, is_none_of, undrawn_by, wanted_where}
 use Rattle.reuse_undo.proofs.lemmas.run.DrawnLines.{diff_of_call, drawn_where_wanted}
+use Rattle.reuse_undo.proofs.lemmas.run.SafeCalls.{answers_safely, found_alike}
 use Rattle.reuse_undo.proofs.run.line.call.Goals as goal
 
 pub returns-in-Ok-clause-carries : goal.returns-in-Ok-clause-carries
@@ -23,6 +25,17 @@ returns-in-Ok-clause-carries g c honest =
     (carried files before request c.in-Ok.opened answer (files (store_of c.ask_for-answer.new.session)) (c.in-Ok.ensures.opened was_honest)
     (λ first second doubt. c.in-Ok.ensures.recovers first second doubt was_honest) (meets_by g.S.Store request answer c.in-Ok.opened c.ask_for-answer.new.session c.ask_for-answer.ensures.answered is_honest) (c.ask_for-answer.ensures.answered.clash is_honest)
     (c.in-Ok.ensures.folder was_honest) (c.ask_for-answer.ensures.answered.folder is_honest))
+
+pub returns-in-Ok-clause-survives : goal.returns-in-Ok-clause-survives
+returns-in-Ok-clause-survives g c honest start found =
+    let store = g.S.Store in
+    let asked = store_of c.ask_for-answer.new.session in
+    let reads = subst (λ s. OnlyReads store s c.draw_planned-store.result.0) c.into_parts-store.ensures.store c.draw_planned-store.ensures.reads in
+    let is_honest = reads.was_honest honest in
+    let was_honest = c.ask_for-answer.ensures.answered.call.later.was_honest is_honest in
+    let end = answers_safely store c.args.store c.in-Ok.opened c.ask_for-answer.new.session c.args.request.now c.ask_for-answer.result.0 start found
+    (λ earlier held next doubt. c.in-Ok.ensures.survives earlier held next doubt was_honest) c.ask_for-answer.ensures.answered is_honest in
+    (end.0, end.1, found_alike store store asked c.draw_planned-store.result.0 (reads.files honest) reads.may (end.0).state (end.0).next end.2)
 
 pub returns-in-Ok-clause-reads_only : goal.returns-in-Ok-clause-reads_only
 returns-in-Ok-clause-reads_only g c honest look held standing =
@@ -72,6 +85,12 @@ returns-in-Err-clause-carries g c honest =
         folder = c.in-Err.ensures.folder honest;
       },
     )
+
+pub returns-in-Err-clause-survives : goal.returns-in-Err-clause-survives
+returns-in-Err-clause-survives g c honest start found =
+    let at = closed_safely g.S.Store c.args.store c.in-Err.store c.in-Err.refusal start found (λ first second doubt. c.in-Err.ensures.recovers first second doubt honest)
+    (λ earlier held next doubt. c.in-Err.ensures.survives earlier held next doubt honest) in
+    (at.0, inl (c.in-Err.refusal, refl, at.1), at.2.1)
 
 pub returns-in-Err-clause-reads_only : goal.returns-in-Err-clause-reads_only
 returns-in-Err-clause-reads_only g c honest look held standing = c.in-Err.ensures.quiet honest held standing

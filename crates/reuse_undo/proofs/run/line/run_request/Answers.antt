@@ -1,13 +1,14 @@
-use Rattle.std.proofs.Common.{◌≡◌, ◌<◌, Ok, Err, IfOk, IfErr, refl, subst}
+use Rattle.std.proofs.Common.{◌≡◌, ◌<◌, Result, Ok, Err, IfOk, IfErr, refl, subst}
 use Rattle.std.proofs.lemmas.Result.{IfOk-at_ok}
 use Rattle.reuse_session.specs.session.Answer.{HasCause}
-use Rattle.reuse_session.specs.session.Stops.{Point, AreLeft}
+use Rattle.reuse_session.specs.session.Stops.{Point, AreLeft, MayBeFound}
 use Rattle.reuse_undo.specs.run.AfterStops.{AnswersAfterStop}
 use Rattle.reuse_undo.specs.run.Drawn.{IsDiffOfCall}
 use Rattle.reuse_session.specs.session.Requests.{HasCallClash}
 use Rattle.reuse_undo.specs.run.RunLine.{RequestLeaves, FollowsModel}
 use Rattle.reuse_undo.specs.print.Responses.{IsDrawnPreview}
 use Rattle.reuse_undo.specs.print.WriterFaults.{IsUndrawn}
+use Rattle.reuse_session.specs.declared.reply.Refusal.{Refusal}
 use Rattle.reuse_session.specs.declared.reply.Response.{Response}
 use Rattle.reuse_undo.proofs.lemmas.run.AfterStopLemmas.{answers_after_stop, reports_end}
 use Rattle.reuse_undo.proofs.lemmas.run.DiffLemmas.{undrawn_told}
@@ -36,6 +37,11 @@ returns-in-Ok g c =
           reports_end c.args.options (λ end answer. AnswersAfterStop request answer start end) Ends old new outcome
           (reports_of c.args.options (λ answer. (end : Point) × AnswersAfterStop request answer start end × Ends end) c.in-Ok.response old new outcome
           (answers_after_stop before request (Ok c.in-Ok.response) after start found (carries honest)) finishes);
+      survives = λ honest start found.
+          let Ends = (λ (end : Point). MayBeFound g.S.Store left end.state end.next) in
+          let Is = (λ (answer : Result Response Refusal). (end : Point) × AnswersAfterStop request answer start end × Ends end) in
+          reports_end c.args.options (λ end answer. AnswersAfterStop request answer start end) Ends old new outcome
+          (reports_of c.args.options Is c.in-Ok.response old new outcome (subst Is c.in-Ok.is (c.call-store.ensures.survives honest start found)) finishes);
       drawn = λ honest held standing wants tree would.
           let tells = previews_tell request held tree before after c.in-Ok.response would (carries honest) in
           drawn_in_lines c.args.options held.tree tree c.in-Ok.response tells.0 old new outcome c.call-store.result.2 tells.1 wants finishes c.finish.ensures.behind
@@ -63,6 +69,10 @@ returns-in-Err g c =
       exact = λ honest. (carries honest, refl);
       machine = λ honest state held. (carries_step state before request (Err c.in-Err.refusal) after held (carries honest), refl);
       after_stop = λ honest start found. let at = answers_after_stop before request (Err c.in-Err.refusal) after start found (carries honest) in (at.0, (at.1, refl), at.2);
+      survives = λ honest start found.
+          let at = subst (λ answer. (end : Point) × AnswersAfterStop request answer start end × MayBeFound g.S.Store left end.state end.next) c.in-Err.is
+          (c.call-store.ensures.survives honest start found) in
+          (at.0, (at.1, refl), at.2);
       drawn = λ honest held standing wants tree would. tt;
       reads_only = c.call-store.ensures.reads_only;
       quiet = refl;
