@@ -8,7 +8,7 @@ use Rattle.reuse_tree.specs.declared.change.Change.{Change}
 use Rattle.reuse_tree.specs.declared.change.Change.TheVariants.{Make, Drop, Splice}
 use Rattle.reuse_undo.specs.declared.print.diff.hunk.Hunk.{Hunk}
 use Rattle.reuse_undo.specs.declared.print.diff.hunk.Piece.{Piece}
-use Rattle.reuse_undo.specs.print.Hunks.{IsHunk, hunk_text, old_lines, new_lines, piece_text}
+use Rattle.reuse_undo.specs.print.Hunks.{IsHunk, KeepsEnds, hunk_text, old_lines, new_lines, piece_text}
 use Rattle.reuse_undo.specs.print.RowLines.{AreJoined}
 use Rattle.reuse_undo.specs.print.TextLines.{AreLinesOf}
 
@@ -144,10 +144,11 @@ abbrev pub range_title : ℕ → List ℕ
 range_title at = codes "@@ byte " ++ decimal at ++ codes " @@\n"
 
 -- names, where the range stands, and lines that are kept, removed or added: those that are kept or removed are the
--- bytes that gave way, and those that are kept or added the bytes in their place
+-- bytes that gave way, and those that are kept or added the bytes in their place; all lines that both begin and end
+-- with are kept
 abbrev pub IsRangeLines : List ℕ → ℕ → (old new text : List ℕ) → Type 0
 IsRangeLines names at old new text =
-    (pieces : List Piece) × AreLinesOf old (old_lines pieces) × AreLinesOf new (new_lines pieces)
+    (pieces : List Piece) × AreLinesOf old (old_lines pieces) × AreLinesOf new (new_lines pieces) × KeepsEnds pieces
     × (text ≡ names ++ range_title at ++ flat_map piece_text pieces)
 
 -- what stands behind the head of a range: that it is a binary, or its lines

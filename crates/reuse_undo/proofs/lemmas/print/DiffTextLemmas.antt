@@ -10,7 +10,7 @@ use Rattle.reuse_tree.specs.declared.change.Change.TheVariants.{Make, Drop, Spli
 use Rattle.reuse_tree.specs.declared.digest.Seal.{Seal}
 use Rattle.reuse_undo.specs.declared.print.diff.hunk.Hunk.{Hunk}
 use Rattle.reuse_undo.specs.declared.print.diff.hunk.Piece.{Piece}
-use Rattle.reuse_undo.specs.print.Hunks.{IsHunk, hunk_text, old_lines, new_lines, piece_text}
+use Rattle.reuse_undo.specs.print.Hunks.{IsHunk, KeepsEnds, hunk_text, old_lines, new_lines, piece_text}
 use Rattle.reuse_undo.specs.print.TextLines.{AreLinesOf}
 use Rattle.reuse_undo.specs.print.RowLines.{AppendsSome}
 use Rattle.reuse_undo.proofs.lemmas.print.OutputLemmas.{appends_none}
@@ -50,14 +50,14 @@ range-body path before after at old mid new head body =
 
 -- names, where a range stands, and its lines
 pub range-lines : (names before after b a : List ℕ) (at : ℕ) (pieces shown : List Piece) (old named titled new : Option (List ℕ)) → b ≡ before → a ≡ after → shown ≡ pieces
-    → AreLinesOf b (old_lines pieces) → AreLinesOf a (new_lines pieces) → Appends old named names → Appends named titled (range_title at)
+    → AreLinesOf b (old_lines pieces) → AreLinesOf a (new_lines pieces) → KeepsEnds pieces → Appends old named names → Appends named titled (range_title at)
     → Appends titled new (flat_map piece_text shown) → AppendsSome old new (IsRangeLines names at before after)
-range-lines names before after b a at pieces shown old named titled new first second same olds news wrote title lines =
+range-lines names before after b a at pieces shown old named titled new first second same olds news ends wrote title lines =
     let last = flat_map piece_text pieces in
     let shows : Appends titled new last = subst (λ l. Appends titled new (flat_map piece_text l)) same lines in (
       names ++ range_title at ++ last,
       (
-        (pieces, subst (λ t. AreLinesOf t (old_lines pieces)) first olds, subst (λ t. AreLinesOf t (new_lines pieces)) second news, refl),
+        (pieces, subst (λ t. AreLinesOf t (old_lines pieces)) first olds, subst (λ t. AreLinesOf t (new_lines pieces)) second news, ends, refl),
         Appends-trans old titled new (names ++ range_title at) last (Appends-trans old named titled names (range_title at) wrote title) shows,
       ),
     )
