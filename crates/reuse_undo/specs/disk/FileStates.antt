@@ -1,5 +1,5 @@
 -- The regular files that names in folders lead to.
-use Rattle.std.specs.Prelude.{◌≡◌, ◌≢◌, ℕ, Bool, List, [], ◌∷◌, ◌++◌, Option, None, Some}
+use Rattle.std.specs.Prelude.{◌≡◌, ◌≢◌, ℕ, Bool, List, ◌∷◌, Option, None, Some}
 use Rattle.reuse_undo.specs.declared.disk.place.Identity.{Identity}
 
 -- which file it is: one that was there at the start, by a number of its own, or one that was made since, by how many

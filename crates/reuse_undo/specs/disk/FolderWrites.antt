@@ -1,6 +1,6 @@
 -- What a folder makes of the files that names lead to, where a path is put or removed. Which folder is that of new
 -- files is not said.
-use Rattle.std.specs.Prelude.{◌≡◌, ◌⊎◌, ℕ, Bool, false, List, Option, None, Some, Result, IfOk}
+use Rattle.std.specs.Prelude.{◌≡◌, ◌⊎◌, ℕ, Bool, false, List, None, Some, Result, IfOk}
 use Rattle.reuse_undo.specs.disk.Asides.{IsNewIn, IsNewPlace}
 use Rattle.reuse_undo.specs.disk.FileStates.{FileKey, FileState, file, place_in}
 use Rattle.reuse_undo.specs.disk.FolderReads.{IsHidden}

@@ -1,5 +1,5 @@
 -- What comes of what a line asks a session for.
-use Rattle.std.specs.Prelude.{◌≡◌, ◌⊎◌, Bool, List, Some, ℕ, Result, Ok, Err, IfErr, true}
+use Rattle.std.specs.Prelude.{◌≡◌, ◌⊎◌, List, Some, ℕ, Result, Ok, Err, IfErr, true}
 use Rattle.reuse_tree.specs.Files.{Files}
 use Rattle.reuse_tree.specs.Tree.{undo_folder_of}
 use Rattle.reuse_tree.specs.declared.cause.Cause.{Cause}

@@ -1,7 +1,7 @@
 -- Where names along a path lead.
-use Rattle.std.proofs.Common.{◌≡◌, ◌≢◌, ◌⊎◌, inl, inr, ℕ, ◌<◌, List, [], ◌∷◌, ◌++◌, length, get_or, Option, None, Some, refl, sym, ◌∙◌, ap, subst, append-nil}
+use Rattle.std.proofs.Common.{◌≡◌, ◌≢◌, ◌⊎◌, inl, inr, ℕ, ◌<◌, List, [], ◌∷◌, ◌++◌, length, get_or, Option, None, Some, refl, sym, ◌∙◌, ap, subst}
 use Rattle.reuse_undo.specs.cli.Places.{between_slashes}
-use Rattle.reuse_undo.specs.disk.FileStates.{StateFile, Place, FileState, place_in}
+use Rattle.reuse_undo.specs.disk.FileStates.{FileState}
 use Rattle.reuse_undo.specs.disk.Folders.{Folders, folder_in, folder_along, folder_at, file_in, file_along, file_at, folder_above, without_last, IsBare, IsBarredAlong, IsBarred}
 use Rattle.reuse_undo.specs.disk.Names.{IsNameOf, IsSplit}
 use Rattle.reuse_undo.specs.declared.disk.place.Identity.{Identity}

@@ -1,11 +1,11 @@
 -- A path that is put or removed in a folder.
-use Rattle.std.proofs.Common.{◌≡◌, ◌≢◌, ◌⊎◌, ◌<◌, inl, inr, ℕ, zero, suc, Bool, true, false, List, [], ◌∷◌, ◌++◌, length, get_or, refl, sym, ◌∙◌, ap, ap₂, ◌==◌, subst, arith, true≢false, Result, Ok, Err, IsErr, MatchResult}
+use Rattle.std.proofs.Common.{◌≡◌, ◌≢◌, ◌⊎◌, ◌<◌, inl, inr, ℕ, zero, suc, Bool, true, false, List, [], ◌∷◌, ◌++◌, length, get_or, refl, sym, ◌∙◌, ap, ap₂, ◌==◌, arith, true≢false, Result, Ok, Err, IsErr, MatchResult}
 use Rattle.std.specs.Bool.{Decides}
 use Rattle.std.proofs.lemmas.Bool.Decides.{Decides-eqb}
 use Rattle.std.specs.declared.io.Error.{Error}
 use Rattle.reuse_undo.specs.disk.Asides.{IsNewIn, IsNewPlace}
 use Rattle.reuse_undo.specs.disk.FolderWrites.{IsCleared, IsPutAt, IsRemovedAt}
-use Rattle.reuse_undo.specs.disk.FileStates.{Place, FileState, Holds, place_in}
+use Rattle.reuse_undo.specs.disk.FileStates.{FileState, place_in}
 use Rattle.reuse_undo.specs.disk.Names.{IsNameOf}
 use Rattle.reuse_undo.specs.disk.SystemLaws.{IsAlikeBut, IsAlikeUnless, IsRemoved}
 use Rattle.reuse_undo.specs.disk.Written.{IsWritten}

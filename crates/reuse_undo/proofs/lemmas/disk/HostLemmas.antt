@@ -1,5 +1,5 @@
 -- That the calls of a record keep the laws of the system.
-use Rattle.std.proofs.Common.{◌≡◌, ◌≢◌, ◌⊎◌, ◌<◌, ◌≤◌, ◌+◌, inl, inr, ℕ, zero, suc, Bool, true, false, cond, List, [], ◌∷◌, ◌++◌, length, take, ◌==◌, if◌then◌else◌, Option, None, Some, Result, Ok, Err, is_ok, IfOk, MatchResult, refl, sym, ◌∙◌, ap, subst, arith, append-nil}
+use Rattle.std.proofs.Common.{◌≡◌, ◌≢◌, ◌<◌, ◌+◌, inl, inr, ℕ, zero, suc, Bool, true, false, cond, List, [], ◌∷◌, ◌++◌, length, take, ◌==◌, Option, None, Some, Result, Ok, Err, is_ok, IfOk, MatchResult, refl, ◌∙◌, ap, arith, append-nil}
 use Rattle.std.proofs.lemmas.Bool.{false_from_ne_true}
 use Rattle.std.proofs.lemmas.Bool.Decides.{Decides-eqb}
 use Rattle.std.proofs.lemmas.Slice.Eq.{bytes_eq-Decides}
@@ -9,7 +9,7 @@ use Rattle.reuse_undo.specs.declared.disk.system.Aside.{Aside}
 use Rattle.reuse_undo.specs.disk.Asides.{place_of, key_of}
 use Rattle.reuse_undo.specs.disk.FileStates.{FileKey, StateFile, Place, FileState, file, IsNot}
 use Rattle.reuse_undo.specs.disk.FileStates.FileKey.{Found, Made}
-use Rattle.reuse_undo.specs.disk.SystemLaws.{IsAlike, IsAlikeBut, IsAlikeButFile, IsMade, IsFilled, IsSynced, IsRenamed, IsRemoved, MayBeRenamed}
+use Rattle.reuse_undo.specs.disk.SystemLaws.{IsAlikeBut, IsMade, IsFilled, IsSynced, IsRenamed, MayBeRenamed}
 use Rattle.reuse_undo.specs.disk.SystemCall.{SystemCall, made_of}
 use Rattle.reuse_undo.specs.disk.SystemCall.SystemCall.{MakeCall, AppendCall, SyncCall, RenameCall, RemoveCall, LookCall, ReadCall, RootCall, OpenCall, NoFolderCall, MakeFolderCall, RemoveFolderCall}
 use Rattle.reuse_undo.specs.disk.SystemCalls.{held_at_start, set, set_by, is_made, filled_if, filled, renamed, renamed_by, held_by, held_after, fate_at}

@@ -1,17 +1,17 @@
 -- Folders that are made and removed.
-use Rattle.std.proofs.Common.{◌≡◌, ◌≢◌, ℕ, zero, suc, Bool, true, false, cond, List, [], ◌∷◌, length, get_or, Option, None, Some, IfSome, Result, Ok, Err, is_ok, true≢false, refl, sym, ◌∙◌, ap, subst, string_bytes, IsTrue}
+use Rattle.std.proofs.Common.{◌≡◌, ◌≢◌, ℕ, zero, suc, Bool, true, false, cond, List, [], ◌∷◌, length, get_or, Option, None, Some, IfSome, Result, Ok, Err, is_ok, true≢false, refl, sym, ◌∙◌, ap, subst, string_bytes}
 use Rattle.std.specs.Option.{unwrap_or}
 use Rattle.std.specs.Str.{bytes_eq}
 use Rattle.std.specs.declared.io.Error.{Error}
 use Rattle.std.proofs.lemmas.Bool.{false_from_ne_true}
 use Rattle.std.proofs.lemmas.Slice.Eq.{bytes_eq-Decides}
 use Rattle.reuse_undo.specs.disk.FileStates.{Place, FileState, place_in}
-use Rattle.reuse_undo.specs.disk.Folders.{Folders, folder_in, folder_along, folder_at, IsAlikeFoldersBut, IsGrown}
+use Rattle.reuse_undo.specs.disk.Folders.{Folders, folder_along, folder_at, IsAlikeFoldersBut, IsGrown}
 use Rattle.reuse_undo.specs.disk.SystemCall.{SystemCall}
 use Rattle.reuse_undo.specs.disk.SystemCall.SystemCall.{MakeFolderCall, RemoveFolderCall}
 use Rattle.reuse_undo.specs.disk.SystemCalls.{FolderStart, fate_at, folders_after, with_folder, with_folder_by, without_folder, without_folder_by}
 use Rattle.reuse_undo.specs.disk.SystemLaws.{IsFolderMade, IsFolderRemoved, IsOpenedBelow}
-use Rattle.reuse_undo.specs.disk.Trails.{AreOpened, AreOpenedIf, IsOpenedFrom, IsRootOpened}
+use Rattle.reuse_undo.specs.disk.Trails.{AreOpened, IsOpenedFrom, IsRootOpened}
 use Rattle.reuse_undo.specs.cli.Places.{between_slashes}
 use Rattle.reuse_undo.specs.declared.disk.fault.FolderFault.{FolderFault}
 use Rattle.reuse_undo.specs.declared.disk.handle.Below.{Below}

@@ -1,9 +1,9 @@
 -- What was read of a file that was looked at, and where a path leads.
-use Rattle.std.proofs.Common.{◌≡◌, ◌≢◌, ◌⊎◌, inl, inr, ℕ, ◌<◌, List, [], ◌∷◌, ◌++◌, length, Option, None, Some, Result, Ok, Err, IfOk, IfSome, MatchResult, option_map, refl, sym, ◌∙◌, ap, subst, arith}
+use Rattle.std.proofs.Common.{◌≡◌, ◌⊎◌, inl, inr, ℕ, List, [], ◌∷◌, ◌++◌, length, Option, None, Some, Result, Ok, Err, IfOk, IfSome, MatchResult, option_map, refl, sym, ◌∙◌, ap, subst, arith}
 use Rattle.std.specs.declared.io.Error.{Error}
 use Rattle.reuse_tree.specs.Store.{reading_of}
 use Rattle.reuse_tree.specs.declared.store.Reading.{Reading}
-use Rattle.reuse_tree.specs.declared.store.Reading.TheVariants.{Absent, Found as FoundBytes, TooLong}
+use Rattle.reuse_tree.specs.declared.store.Reading.TheVariants.{Absent}
 use Rattle.reuse_undo.specs.disk.FolderReads.{IsPlaceAt, IsReadAt, IsReadIn, LiesIn, StandsIn}
 use Rattle.reuse_undo.specs.disk.FileStates.{StateFile, FileState, Place as FilePlace, place_in}
 use Rattle.reuse_undo.specs.disk.Folders.{Folders, folder_above, folder_at, file_at, file_in}

@@ -1,9 +1,9 @@
 -- What follows from the laws of the system's calls.
-use Rattle.std.proofs.Common.{◌≡◌, ◌≢◌, ◌⊎◌, inl, inr, ℕ, Bool, true, false, List, [], ◌++◌, Option, Result, Ok, Err, is_ok, true≢false, MatchResult, refl, sym, ◌∙◌, ap, subst, append_assoc}
+use Rattle.std.proofs.Common.{◌≡◌, ◌≢◌, ◌⊎◌, inl, inr, ℕ, Bool, false, List, [], ◌++◌, Option, Result, Ok, Err, is_ok, true≢false, MatchResult, sym, ◌∙◌, ap, subst, append_assoc}
 use Rattle.std.specs.declared.io.Error.{Error}
 use Rattle.reuse_undo.specs.disk.FileStates.{FileKey, StateFile, Place, FileState, Holds, file, IsNot}
-use Rattle.reuse_undo.specs.disk.SystemLaws.{IsAlike, IsAlikeBut, IsAlikeButFile, IsMade, IsFilled, IsAppended, IsSynced, IsRenamed, MayBeRenamed}
-use Rattle.reuse_undo.specs.disk.Written.{IsSyncedIf, StandsAlone, IsWritten}
+use Rattle.reuse_undo.specs.disk.SystemLaws.{IsAlikeBut, IsAlikeButFile, IsFilled, IsAppended, IsRenamed, MayBeRenamed}
+use Rattle.reuse_undo.specs.disk.Written.{StandsAlone, IsWritten}
 
 -- what is alike but for the file, and then again
 pub alike_twice : (key : FileKey) (a b c : FileState) → IsAlikeButFile key a b → IsAlikeButFile key b c → IsAlikeButFile key a c

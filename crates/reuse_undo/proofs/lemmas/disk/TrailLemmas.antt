@@ -1,5 +1,5 @@
 -- The open folders of a trail, as they come and go.
-use Rattle.std.proofs.Common.{◌≡◌, ◌≢◌, ◌⊎◌, inl, inr, ℕ, ◌<◌, ◌+◌, ◌-◌, List, [], ◌∷◌, ◌++◌, length, take, drop, get_or, Option, None, Some, IfSome, refl, sym, ◌∙◌, ap, subst, arith, length-append, string_bytes, slice_get, option_map}
+use Rattle.std.proofs.Common.{◌≡◌, ◌≢◌, ◌⊎◌, inl, inr, ℕ, ◌<◌, ◌-◌, List, [], ◌∷◌, ◌++◌, length, take, drop, get_or, Option, None, Some, IfSome, refl, sym, ◌∙◌, ap, subst, arith, length-append, string_bytes, slice_get, option_map}
 use Rattle.std.specs.List.{All}
 use Rattle.std.specs.Option.{option_or, unwrap_or}
 use Rattle.std.proofs.Math.Seq.{get_or-append_seam}
@@ -7,7 +7,7 @@ use Rattle.std.proofs.lemmas.List.Elements.{All-append, All-take, All-drop, All-
 use Rattle.std.proofs.lemmas.Option.{slice_get-get_or, slice_get_within, get_or_from_slice_get}
 use Rattle.reuse_undo.specs.cli.Places.{between_slashes}
 use Rattle.reuse_undo.specs.disk.FileStates.{FileState}
-use Rattle.reuse_undo.specs.disk.Folders.{Folders, folder_in, folder_along, folder_at, IsBare, IsBarredAlong, IsBarred}
+use Rattle.reuse_undo.specs.disk.Folders.{Folders, folder_in, folder_along, folder_at, IsBare, IsBarredAlong}
 use Rattle.reuse_undo.specs.disk.SystemLaws.{IsNoFolder}
 use Rattle.reuse_undo.specs.disk.Trails.{HasNoSlash, IsEntered, IsNext, IsOnWay, IsRest, path_below}
 use Rattle.reuse_undo.specs.disk.FolderPlaces.{place_below}
@@ -17,7 +17,7 @@ use Rattle.reuse_undo.specs.declared.disk.place.Found.TheVariants as found
 use Rattle.reuse_undo.specs.declared.disk.place.Identity.{Identity}
 use Rattle.reuse_undo.specs.declared.disk.place.Place.{Place}
 use Rattle.reuse_undo.specs.declared.disk.trail.Step.{Step}
-use Rattle.reuse_undo.proofs.lemmas.disk.AlongLemmas.{along_append, along_slash, along_nothing, barred_behind, barred_end, barred_slash, barred_nothing, bare_at}
+use Rattle.reuse_undo.proofs.lemmas.disk.AlongLemmas.{along_slash, along_nothing, barred_end, barred_slash}
 use Rattle.reuse_undo.proofs.lemmas.disk.LastNames.{between-append, no_slash}
 
 abbrev pub IsAt : Folders → Step → Type 0

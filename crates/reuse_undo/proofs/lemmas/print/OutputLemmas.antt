@@ -1,8 +1,8 @@
 -- A text that is written part by part.
-use Rattle.std.proofs.Common.{◌≡◌, ℕ, List, [], ◌∷◌, ◌++◌, Option, Some, None, take, drop, refl, sym, ap, ◌∙◌, append_assoc, append-nil, ◌-◌, length, arith}
+use Rattle.std.proofs.Common.{◌≡◌, ℕ, List, [], ◌++◌, Option, Some, None, take, drop, sym, ap, ◌∙◌, append_assoc, append-nil, ◌-◌, length, arith}
 use Rattle.std.proofs.lemmas.List.{take-append-drop, take_all, length-drop}
 use Rattle.std.specs.Io.KnownBytes.{Appends}
-use Rattle.reuse_undo.specs.print.Outputs.{Adds, AddsFront}
+use Rattle.reuse_undo.specs.print.Outputs.{Adds}
 
 -- of the text this is left
 abbrev pub Written : List ℕ → List ℕ → (text rest : List ℕ) → Type 0

@@ -1,5 +1,5 @@
 -- The text of one row more, and what stands behind it.
-use Rattle.std.proofs.Common.{◌<◌, ◌+◌, ℕ, List, [], ◌∷◌, ◌++◌, Option, length, take, refl, sym, ◌∙◌, ap, append_assoc, append-nil, get_or, subst, ◌≡◌, ◌⊎◌}
+use Rattle.std.proofs.Common.{◌<◌, ◌+◌, ℕ, List, [], ◌∷◌, ◌++◌, Option, length, take, refl, sym, ◌∙◌, ap, append_assoc, append-nil, get_or, subst, ◌≡◌}
 use Rattle.std.proofs.lemmas.List.{take_more}
 use Rattle.std.proofs.KnownBytes.{Appends-trans}
 use Rattle.std.specs.Io.KnownBytes.{Appends}

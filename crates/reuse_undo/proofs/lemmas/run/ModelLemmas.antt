@@ -1,5 +1,5 @@
 -- What comes of a session's one call from a state of the model, and what is reported of it.
-use Rattle.std.proofs.Common.{◌≡◌, ◌⊎◌, inl, inr, ⊎_elim, ℕ, List, Result, Ok, Err, refl, sym, subst}
+use Rattle.std.proofs.Common.{◌≡◌, inl, inr, ⊎_elim, ℕ, List, Result, Ok, Err, sym, subst}
 use Rattle.reuse_tree.specs.Files.{Files}
 use Rattle.reuse_session.specs.session.Answer.{IsFailure}
 use Rattle.reuse_session.specs.journal.Journal.{State}

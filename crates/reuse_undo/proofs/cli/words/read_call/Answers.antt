@@ -1,9 +1,9 @@
-use Rattle.std.proofs.Common.{◌∙◌, Ok, ap, codes, sym}
+use Rattle.std.proofs.Common.{◌∙◌, Ok, ap, sym}
 use Rattle.reuse_undo.proofs.lemmas.cli.CommandLineLemmas.{call_else}
 use Rattle.reuse_undo.proofs.lemmas.cli.LineFaultLemmas.{due_after, mistake_first, mistake_same, read_on}
 use Rattle.reuse_session.specs.declared.request.Call.TheVariants as calls
 use Rattle.reuse_undo.specs.cli.CommandLine.{call_read}
-use Rattle.reuse_undo.specs.cli.Found.{flag, found_in}
+use Rattle.reuse_undo.specs.cli.Found.{found_in}
 use Rattle.reuse_undo.proofs.cli.words.read_call.Goals as goal
 
 pub returns-in_err-read_annotate-in-annotate : goal.returns-in_err-read_annotate-in-annotate

@@ -1,5 +1,4 @@
-use Rattle.std.proofs.Common.{◌∙◌, Ok, ap, sym}
-use Rattle.reuse_session.specs.declared.request.Request.TheVariants as requests
+use Rattle.std.proofs.Common.{◌∙◌, Ok, ap}
 use Rattle.reuse_undo.proofs.lemmas.cli.CommandLineLemmas.{made_of, session_else}
 use Rattle.reuse_undo.proofs.lemmas.cli.LineFaultLemmas.{due_after, mistake_first, mistake_same, read_on}
 use Rattle.reuse_undo.specs.cli.CommandLine.{session_read}

@@ -1,5 +1,4 @@
 use Rattle.std.proofs.Common.{◌∙◌}
-use Rattle.reuse_undo.specs.disk.FileStates.{place_in}
 use Rattle.reuse_undo.specs.disk.SystemCalls.{folders_after}
 use Rattle.reuse_undo.proofs.lemmas.disk.MadeFolders.{root_stays}
 use Rattle.reuse_undo.proofs.disk.empty_folders.remove_folders.Goals as goal

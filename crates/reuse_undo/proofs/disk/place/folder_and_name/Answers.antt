@@ -1,4 +1,4 @@
-use Rattle.std.proofs.Common.{rules, MatchOption, ◌≡◌, [], ap}
+use Rattle.std.proofs.Common.{rules}
 use Rattle.reuse_undo.proofs.lemmas.disk.SlashLemmas.{name_behind, split_behind}
 use Rattle.reuse_undo.proofs.disk.place.folder_and_name.Goals as goal
 

@@ -1,13 +1,10 @@
 use Rattle.std.proofs.Common.{rules, ◌≡◌, ◌∙◌, refl, subst, ap, Some}
 use Rattle.reuse_undo.specs.disk.FolderReads.{IsPlaceAt, current_of}
-use Rattle.reuse_undo.specs.disk.Folders.{folder_at}
 use Rattle.reuse_undo.specs.disk.Names.{IsSplit}
 use Rattle.reuse_undo.specs.disk.SystemCalls.{folders_after, held_after}
 use Rattle.reuse_undo.specs.disk.Trails.{IsEntered}
 use Rattle.reuse_undo.proofs.lemmas.disk.ReadLemmas.{freely, told_above, told_look, nothing_told, entered_none, no_file_some, no_lies}
-use Rattle.reuse_undo.specs.declared.disk.place.Found.{Found}
 use Rattle.reuse_undo.specs.declared.disk.place.Found.TheVariants as found
-use Rattle.reuse_undo.specs.declared.disk.place.Place.{Place}
 use Rattle.reuse_undo.specs.declared.disk.place.Place.TheVariants as place
 use Rattle.reuse_undo.proofs.disk.folder.RootFolder.look_unless_seen.Goals as goal
 

@@ -1,4 +1,3 @@
-use Rattle.std.proofs.Common.{IsErr}
 use Rattle.reuse_undo.proofs.lemmas.disk.FolderLemmas.{nothing_cleared, cleared_at_error}
 use Rattle.reuse_undo.proofs.disk.folder.RootFolder.open_new_file.Goals as goal
 

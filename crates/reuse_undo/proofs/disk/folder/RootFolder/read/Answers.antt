@@ -1,4 +1,3 @@
-use Rattle.std.proofs.Common.{rules}
 use Rattle.reuse_undo.specs.disk.FolderReads.{current_of}
 use Rattle.reuse_undo.specs.disk.SystemCalls.{folders_after, held_after}
 use Rattle.reuse_undo.proofs.lemmas.disk.ReadLemmas.{absent_at, no_file_of}

@@ -1,4 +1,4 @@
-use Rattle.std.proofs.Common.{◌≡◌, true, ap, ◌∙◌, refl, string_bytes}
+use Rattle.std.proofs.Common.{◌≡◌, true, ap, ◌∙◌, string_bytes}
 use Rattle.reuse_undo.specs.disk.KeptOut.{is_new_name}
 use Rattle.reuse_undo.proofs.lemmas.disk.NewNameLemmas.{numbered_is_new}
 use Rattle.reuse_undo.proofs.disk.new_name.NewName.of_number.Goals as goal

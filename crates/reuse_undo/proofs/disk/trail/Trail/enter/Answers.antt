@@ -1,7 +1,5 @@
 use Rattle.std.proofs.Common.{rules, ◌≡◌, ◌∙◌, sym, subst, Some}
 use Rattle.reuse_undo.specs.disk.FolderReads.{current_of}
-use Rattle.reuse_undo.specs.disk.Folders.{folder_in}
-use Rattle.reuse_undo.specs.disk.SystemLaws.{IsNoFolder}
 use Rattle.reuse_undo.specs.disk.Trails.{AreOpened, IsNext}
 use Rattle.reuse_undo.proofs.lemmas.disk.ReadLemmas.{below_no_file}
 use Rattle.reuse_undo.proofs.lemmas.disk.TrailLemmas.{turn_way, turn_stops, leads_to}

@@ -1,7 +1,6 @@
-use Rattle.std.proofs.Common.{rules, ◌≡◌, ◌∙◌, subst, Ok}
-use Rattle.reuse_undo.specs.disk.FolderReads.{current_of}
+use Rattle.std.proofs.Common.{rules, ◌∙◌}
 use Rattle.reuse_undo.specs.disk.SystemCalls.{folders_after}
-use Rattle.reuse_undo.specs.disk.Trails.{IsNext, IsOpenedFrom}
+use Rattle.reuse_undo.specs.disk.Trails.{IsNext}
 use Rattle.reuse_undo.proofs.lemmas.disk.MadeFolders.{grown_twice, opened_grown}
 use Rattle.reuse_undo.proofs.disk.trail.Trail.make.Goals as goal
 

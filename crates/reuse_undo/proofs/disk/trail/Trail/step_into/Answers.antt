@@ -1,7 +1,3 @@
-use Rattle.std.proofs.Common.{◌≡◌, ◌∷◌, [], List, ℕ, Option, None, Some, string_bytes, rules}
-use Rattle.reuse_undo.specs.disk.FolderReads.{current_of}
-use Rattle.reuse_undo.specs.disk.Folders.{folder_along, folder_at}
-use Rattle.reuse_undo.specs.disk.Trails.{path_below}
 use Rattle.reuse_undo.proofs.lemmas.disk.TrailLemmas.{step_at}
 use Rattle.reuse_undo.proofs.disk.trail.Trail.step_into.Goals as goal
 
