@@ -1,9 +1,10 @@
 //! `reuse-undo`: adds licensing information to the files of a tree, and takes it back.
 #![tactic(auto)]
 
-ghost use Rattle.std.specs.Prelude.{string_bytes};
+ghost use Rattle.std.specs.Prelude.{◌≡◌, if◌then◌else◌, string_bytes, true};
 ghost use Rattle.std.specs.Option.{option_map};
 ghost use Rattle.reuse_undo.specs.cli.ListedCommands.{IsAskedWithList};
+ghost use Rattle.reuse_undo.specs.declared.print.shown_name.Names.TheVariants as names;
 
 mod cli;
 mod disk;
@@ -12,7 +13,7 @@ mod print;
 mod run;
 
 use cli::file_list::with_list;
-use cli::line::{Asked, ChangeStatus, LineFault};
+use cli::line::{Asked, LineFault};
 use cli::words::finder::Clap;
 use cli::words::{Said, words_to_command};
 use print::error_output::ErrorOutput;
@@ -83,6 +84,23 @@ struct Terminals {
     errors: bool,
 }
 
+impl Terminals {
+    /// What is reported beside the answer, and how a call works, by what the words say.
+    fn extras(self, said: &Said) -> Extras
+        ensures settings { result.settings ≡ said.now.settings }
+        ensures notes { result.notes ≡ (if self.errors then true else said.now.verbose) }
+        ensures progress { result.progress ≡ self.errors }
+        ensures names { result.names ≡ (if self.output then names.Escaped else names.AsTheyAre) }
+    {
+        Extras {
+            notes: self.errors || said.verbose,
+            progress: self.errors,
+            names: Names::on(self.output),
+            settings: said.settings,
+        }
+    }
+}
+
 /// Carries out what was asked for, and reports what came of it.
 fn run_asked<R: Runtime + Files<File = File> + AllocGlobal>(
     rt: &R,
@@ -91,19 +109,11 @@ fn run_asked<R: Runtime + Files<File = File> + AllocGlobal>(
     asked: Asked,
     extras: Extras,
 ) -> Ending {
-    let (carried_out, on_change) = match asked {
-        Asked::Line(line) => {
-            let on_change = line.change_status;
-            (run_line(rt, alloc, line, extras), on_change)
-        }
-        Asked::Recover(recovery) => (
-            recover_folder(rt, alloc, recovery, extras),
-            ChangeStatus::Zero,
-        ),
-        Asked::Forget(forgetting) => (
-            forget_folder(rt, alloc, forgetting, extras),
-            ChangeStatus::Zero,
-        ),
+    let on_change = asked.change_status();
+    let carried_out = match asked {
+        Asked::Line(line) => run_line(rt, alloc, line, extras),
+        Asked::Recover(recovery) => recover_folder(rt, alloc, recovery, extras),
+        Asked::Forget(forgetting) => forget_folder(rt, alloc, forgetting, extras),
     };
     tell_outcome(errors, &carried_out, extras.notes);
     let CarriedOut {
@@ -111,10 +121,7 @@ fn run_asked<R: Runtime + Files<File = File> + AllocGlobal>(
         rolled_back: _,
         diagnostics: _,
     } = carried_out;
-    match ending {
-        Ok(outcome) => Ending::Called { outcome, on_change },
-        Err(denial) => Ending::Denied(denial),
-    }
+    Ending::of_call(ending, on_change)
 }
 
 fn run_program<R: Runtime + Files<File = File> + AllocGlobal>(
@@ -125,12 +132,7 @@ fn run_program<R: Runtime + Files<File = File> + AllocGlobal>(
 ) -> Ending {
     let said = said_in(rt, alloc, moment);
     let errors = ErrorOutput::new(rt, alloc, Names::on(terminals.errors));
-    let extras = Extras {
-        notes: terminals.errors || said.verbose,
-        progress: terminals.errors,
-        names: Names::on(terminals.output),
-        settings: said.settings,
-    };
+    let extras = terminals.extras(&said);
     match whole_asked(rt, alloc, said) {
         Ok(asked) => run_asked(rt, &errors, alloc, asked, extras),
         Err(fault) => {

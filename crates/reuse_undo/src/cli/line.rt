@@ -1,5 +1,6 @@
 //! What a command line asks for.
 ghost use Rattle.std.specs.Prelude.{◌≡◌, Some, if◌then◌else◌};
+ghost use Rattle.reuse_undo.specs.print.Statuses.{change_status_of};
 ghost use Rattle.reuse_undo.specs.run.RefusalTexts.{line_fault_text};
 ghost use Rattle.reuse_undo.specs.declared.cli.line.ChangeStatus.TheVariants as statuses;
 
@@ -74,6 +75,18 @@ pub enum Asked {
     Recover(Recovery),
     /// To take steps out of the history.
     Forget(Forgetting),
+}
+
+impl Asked {
+    /// Whether a change is to end with status 1.
+    pub fn change_status(&self) -> ChangeStatus
+        ensures { result ≡ change_status_of self.now }
+    {
+        match self {
+            Asked::Line(line) => line.change_status,
+            Asked::Recover(_) | Asked::Forget(_) => ChangeStatus::Zero,
+        }
+    }
 }
 
 /// Where the pending step is to be rolled back, and how.

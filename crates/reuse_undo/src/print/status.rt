@@ -1,6 +1,6 @@
 //! What the program exits with.
 ghost use Rattle.std.specs.Prelude.{◌≡◌};
-ghost use Rattle.reuse_undo.specs.print.Statuses.{call_status_of, exit_status_of, line_status_of};
+ghost use Rattle.reuse_undo.specs.print.Statuses.{call_status_of, ending_of, exit_status_of, line_status_of};
 
 use crate::cli::line::{ChangeStatus, LineFault};
 use crate::run::denial::Denial;
@@ -26,6 +26,18 @@ pub enum Ending {
         outcome: Result<usize, Fault>,
         on_change: ChangeStatus,
     },
+}
+
+impl Ending {
+    /// How a call ended, of which this came.
+    pub fn of_call(ending: Result<Result<usize, Fault>, Denial>, on_change: ChangeStatus) -> Ending
+        ensures { result ≡ ending_of on_change ending }
+    {
+        match ending {
+            Ok(outcome) => Ending::Called { outcome, on_change },
+            Err(denial) => Ending::Denied(denial),
+        }
+    }
 }
 
 /// The status that says how it ended.
