@@ -68,8 +68,8 @@ use system::{HostSystem, System};
 /// The files of a folder. It is honest as long as each call was answered as a folder answers that
 /// held the files of the start and that nobody else writes. No contract says that a folder is:
 /// proved are the counts of failures, of bytes written and of puts and removals, and that each
-/// answer is noted as it was given. That a method makes the call that it notes, and what the folder
-/// holds then, is tested.
+/// answer is noted as it was given. Of a read, of one put and of a removal it is proved, too, what
+/// stands at the path then. That listings, batches and syncs are made as they are noted is tested.
 #[derive(Drop)]
 pub struct DiskStore<R: Files<File = File> + AllocGlobal + Clone + Drop> {
     folder: RootFolder<R>,

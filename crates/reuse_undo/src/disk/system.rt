@@ -1,6 +1,6 @@
-//! The calls of the system that open folders, and those that change regular files, look at them or
-//! read them: what they make of these, and what they tell of them. What a call tells holds as long
-//! as nobody else writes in the folders.
+//! The calls of the system that make, remove and open folders, and those that change regular files,
+//! look at them or read them: what they make of these, and what they tell of them. What is told
+//! holds as long as nobody else writes in the folders.
 ghost use Rattle.std.specs.Prelude.{◌≡◌, is_ok, IfOk, IfSome, MatchResult};
 ghost use Rattle.reuse_undo.specs.disk.FileStates.{FileState};
 ghost use Rattle.reuse_undo.specs.disk.Folders.{Folders};
