@@ -1,21 +1,53 @@
 #!/usr/bin/env bash
-# Tries the wrong bodies of tests/wrong_bodies/CRATE/*.edit, as `rt must-fail` does: each must be
-# refused. They don't stand in the crate's must-fail/: for the edits of a crate the gate proves it
-# once more from nothing, and reuse_undo comes last; and each further edit costs it 20 seconds to a
-# minute, so there each call that does something and each kind of wrong body has one, and what tells
-# more of the same calls, or of calls that hand over what a value holds, is here. It works in a copy
-# of the repository.
-# usage: tests/wrong_bodies.sh [CRATE..]      (by default all)
+# Tries the wrong bodies of crates/CRATE/must-fail and of tests/wrong_bodies/CRATE: each must be
+# refused. A body is checked against contracts alone, so many edits of different functions are tried
+# in one check: a round. An edit counts as refused if a goal of its own function fails there, and
+# what a round leaves open is tried alone (tests/wrong_bodies/rounds.py). It works in a copy of the
+# crates, and begins with what checks kept on this machine. Its last line counts the edits.
+# RT_JOBS: how many checks run side by side.
+# usage: tests/wrong_bodies.sh [-g] [CRATE..]      (by default each crate that has edits)
+#   -g   the gate has passed: the libraries are those that it kept, and no work of other checks
 set -euo pipefail
 top=$(cd "$(dirname "$0")/.." && pwd)
+lanes=${RT_JOBS:-$(nproc)}
+gate=
+if [ "${1:-}" = -g ]; then gate=yes; shift; fi
 room=$(mktemp -d)
 trap 'rm -rf "$room"' EXIT
-tar -C "$top" --exclude=./.git -cf - . | tar -C "$room" -xf -
+
+has_edits() {
+    local folder
+    for folder in "$top/crates/$1/must-fail" "$top/tests/wrong_bodies/$1"; do
+        ! ls "$folder"/*.edit > /dev/null 2>&1 || return 0
+    done
+    return 1
+}
+all_crates() {
+    local crate
+    for crate in $(sed -n 's/^\([a-z0-9_]*\):.*/\1/p' "$top/crates.txt"); do
+        ! has_edits "$crate" || echo "$crate"
+    done
+}
+# The copy, with the libraries below each crate
+prepare() {
+    local crate
+    tar -C "$top" --exclude='crates/*/out' --exclude='crates/*/must-fail' -cf - \
+        crates crates.txt HANDLES | tar -C "$room" -xf -
+    # (it is the top of a repository)
+    mkdir "$room/.git"
+    if [ "$gate" ]; then
+        (cd "$room" && rt ci)
+        return
+    fi
+    for crate in "$@"; do
+        (cd "$room/crates/$crate" && rt check --jobs "$lanes")
+    done
+}
+
 crates=("$@")
-[ $# -gt 0 ] || crates=(reuse_text reuse_notice reuse_header reuse_tree reuse_session reuse_undo)
+[ $# -gt 0 ] || mapfile -t crates < <(all_crates)
 for crate in "${crates[@]}"; do
-    rm -rf "$room/crates/$crate/must-fail"
-    cp -r "$top/tests/wrong_bodies/$crate" "$room/crates/$crate/must-fail"
+    has_edits "$crate" || { echo "No crate $crate has edits." >&2; exit 2; }
 done
-cd "$room"
-rt must-fail "${crates[@]}"
+prepare "${crates[@]}" > "$room/log" 2>&1 || { tail -n 20 "$room/log" >&2; exit 1; }
+python3 "$top/tests/wrong_bodies/rounds.py" "$top" "$room" "$lanes" "${crates[@]}"
