@@ -23,10 +23,11 @@ import types
 
 sys.dont_write_bytecode = True
 PARTS = ("src", "specs", "proofs")
-# What became of an edit. By a limit: the prover met a limit of its own.
-OPEN, REFUSED, LIMIT, PROVED, BAD, UNTRIED = "open", "refused", "limit", "proved", "bad", "untried"
+# What became of an edit, and what is said of it. (LIMIT: the prover met a limit of its own.)
+OPEN, REFUSED, LIMIT, PROVED, NAMED, BAD, UNTRIED = range(7)
 SAID = {
-    PROVED: "NOT REFUSED: the crate is still proved",
+    PROVED: "NOT REFUSED",
+    NAMED: "ONLY BY A NAME",
     BAD: "BAD EDIT",
     UNTRIED: "NOT TRIED",
 }
@@ -341,13 +342,13 @@ class Crate:
         elif verdict.refuses(edit):
             edit.settle(REFUSED)
         elif verdict.status == 0:
-            edit.settle(PROVED)
+            edit.settle(PROVED, "the crate is still proved")
         elif verdict.status == 3 and LIMITS.search(verdict.said):
             edit.settle(LIMIT)
         elif verdict.came_to_prover and verdict.status == 1:
             fails = [it for it in verdict.functions if verdict.fails(it)]
-            what = f"fails, but {' '.join(fails)}" if fails else "fails but the name of what is gone"
-            edit.settle(PROVED, f"no goal of {' '.join(edit.names)} {what}")
+            why = f"what fails is {' '.join(fails)}" if fails else "no goal failed"
+            edit.settle(PROVED if fails or verdict.proves(edit) else NAMED, why)
         else:
             edit.settle(UNTRIED, verdict.tells())
 
