@@ -10,7 +10,9 @@ usage: rounds.py TOP ROOM LANES CRATE..
 """
 import collections
 import concurrent.futures
+import glob
 import importlib.machinery
+import math
 import os
 import re
 import shutil
@@ -23,6 +25,8 @@ import types
 
 sys.dont_write_bytecode = True
 PARTS = ("src", "specs", "proofs")
+# The most edits of a round
+MOST = 25
 # What became of an edit, and what is said of it. (LIMIT: the prover met a limit of its own.)
 OPEN, REFUSED, LIMIT, PROVED, NAMED, BAD, UNTRIED = range(7)
 SAID = {
@@ -111,7 +115,7 @@ class Function:
         self.is_of_trait = bool(trait)
 
     def names(self, crate, listed):
-        """Returns its name in a check of the crate, or None, and how those of its closures begin."""
+        """Returns its name in a check of the crate, or None, and how its closures' begin."""
         start = "::".join([crate, *self.modules, ""])
         path = [self.name]
         if self.owner:
@@ -167,7 +171,7 @@ class Edit:
         return None if self.lines and not old else "it changes nothing, or an 'old:' has no 'new:'"
 
     def find(self, functions, crate, listed):
-        """Finds the functions in which its lines stand. Without a name of each it is tried alone."""
+        """Finds the functions in which its lines stand. If one has no name, it is tried alone."""
         for path, at in self.lines:
             around = [f for f in functions if f.path == path and f.first <= at <= f.last]
             inner = max(around, key=lambda it: it.first, default=None)
@@ -228,7 +232,8 @@ class Verdict:
         """Returns the errors at which a text can't be read or compiled."""
         if not self.came_to_prover:
             return self.errors
-        return [it for it in self.errors if not it[0].startswith("proofs/") and UNREAD.search(it[2])]
+        stated = [it for it in self.errors if not it[0].startswith("proofs/")]
+        return [it for it in stated if UNREAD.search(it[2])]
 
     def tells(self):
         """Returns a line that says why it came to no verdict."""
@@ -248,9 +253,9 @@ class Crate:
                 with open(f"{at}/{name}", encoding="utf-8") as it:
                     self.sources[os.path.relpath(f"{at}/{name}", self.folder)] = it.read()
         self.edits = []
-        for folder in (f"{top}/crates/{self.name}/must-fail", f"{top}/tests/wrong_bodies/{self.name}"):
-            found = sorted(os.listdir(folder)) if os.path.isdir(folder) else []
-            self.edits += [Edit(top, f"{folder}/{it}") for it in found if it.endswith(".edit")]
+        for place in (f"crates/{self.name}/must-fail", f"tests/wrong_bodies/{self.name}"):
+            files = sorted(glob.glob(f"{glob.escape(top)}/{place}/*.edit"))
+            self.edits += [Edit(top, it) for it in files]
 
     def check(self, folder, kept, *flags):
         """Checks the crate's text in a folder, over what was kept, and returns what was said."""
@@ -265,7 +270,7 @@ class Crate:
         return Verdict(self.name, ran.returncode, ran.stdout)
 
     def begin(self):
-        """Proves the crate as it stands, which each round begins with, and returns whether it is."""
+        """Proves the crate as it stands, which rounds begin with, and returns whether it is."""
         os.makedirs(self.kept, exist_ok=True)
         verdict = self.checks(self.check, self.folder, self.kept, "--jobs", str(self.jobs))
         if verdict.status:
@@ -286,19 +291,19 @@ class Crate:
 
     def group(self):
         """Returns the open edits in rounds: in one, no two touch a function or a line."""
+        open_edits = [it for it in self.edits if it.state == OPEN]
+        together = [it for it in open_edits if not it.is_alone]
+        most = math.ceil(len(together) / (math.ceil(len(together) / MOST) or 1))
         rounds = []
-        for edit in (it for it in self.edits if it.state == OPEN):
+        for edit in together:
             marks = {*edit.names, *edit.lines}
-            found = None if edit.is_alone else next((it for it in rounds if not it[0] & marks), None)
-            if edit.is_alone:
-                # (nothing else joins it)
-                rounds.insert(0, (Everything(), [edit]))
-            elif found:
-                found[0].update(marks)
-                found[1].append(edit)
-            else:
-                rounds.append((marks, [edit]))
-        return [edits for _, edits in rounds]
+            found = next((it for it in rounds if len(it[1]) < most and not it[0] & marks), None)
+            if not found:
+                found = (set(), [])
+                rounds.append(found)
+            found[0].update(marks)
+            found[1].append(edit)
+        return [[it] for it in open_edits if it.is_alone] + [edits for _, edits in rounds]
 
     def try_round(self, edits, jobs):
         """Tries edits in one check of a copy."""
@@ -383,13 +388,6 @@ def side_by_side(calls):
     """Makes calls side by side, and returns what they gave."""
     with concurrent.futures.ThreadPoolExecutor(len(calls)) as pool:
         return [it.result() for it in [pool.submit(call) for call in calls]]
-
-
-class Everything(set):
-    """The marks of an edit that is tried alone: whatever joins it touches the same."""
-
-    def __and__(self, other):
-        return True
 
 
 def link_or_copy(one, other):
