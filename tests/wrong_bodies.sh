@@ -3,51 +3,30 @@
 # refused. A body is checked against contracts alone, so many edits of different functions are tried
 # in one check: a round. An edit counts as refused if a goal of its own function fails there, and
 # what a round leaves open is tried alone (tests/wrong_bodies/rounds.py). It works in a copy of the
-# crates, and begins with what checks kept on this machine. Its last line counts the edits.
+# crates. A crate whose edits passed is passed over until a file that was read changes. The last
+# line counts the edits.
 # RT_JOBS: how many checks run side by side.
 # usage: tests/wrong_bodies.sh [-g] [CRATE..]      (by default each crate that has edits)
-#   -g   the gate has passed: the libraries are those that it kept, and no work of other checks
+#   -g   the gate has passed: begins with what it kept, and else with what `rt check` kept
 set -euo pipefail
 top=$(cd "$(dirname "$0")/.." && pwd)
-lanes=${RT_JOBS:-$(nproc)}
-gate=
-if [ "${1:-}" = -g ]; then gate=yes; shift; fi
+begin=checks
+if [ "${1:-}" = -g ]; then begin=gate; shift; fi
 room=$(mktemp -d)
 trap 'rm -rf "$room"' EXIT
 
 has_edits() {
-    local folder
-    for folder in "$top/crates/$1/must-fail" "$top/tests/wrong_bodies/$1"; do
-        ! ls "$folder"/*.edit > /dev/null 2>&1 || return 0
-    done
-    return 1
+    [ -n "$(find "$top/crates/$1/must-fail" "$top/tests/wrong_bodies/$1" -name '*.edit' \
+        -print -quit 2> /dev/null)" ]
 }
-all_crates() {
-    local crate
-    for crate in $(sed -n 's/^\([a-z0-9_]*\):.*/\1/p' "$top/crates.txt"); do
-        ! has_edits "$crate" || echo "$crate"
-    done
-}
-# The copy, with the libraries below each crate
-prepare() {
-    local crate
-    tar -C "$top" --exclude='crates/*/out' --exclude='crates/*/must-fail' -cf - \
-        crates crates.txt HANDLES | tar -C "$room" -xf -
-    # (it is the top of a repository)
-    mkdir "$room/.git"
-    if [ "$gate" ]; then
-        (cd "$room" && rt ci)
-        return
-    fi
-    for crate in "$@"; do
-        (cd "$room/crates/$crate" && rt check --jobs "$lanes")
-    done
-}
-
 crates=("$@")
-[ $# -gt 0 ] || mapfile -t crates < <(all_crates)
+if [ $# = 0 ]; then
+    while read -r crate; do
+        ! has_edits "$crate" || crates+=("$crate")
+    done < <(sed -n 's/^\([a-z0-9_]*\):.*/\1/p' "$top/crates.txt")
+fi
 for crate in "${crates[@]}"; do
     has_edits "$crate" || { echo "No crate $crate has edits." >&2; exit 2; }
 done
-prepare "${crates[@]}" > "$room/log" 2>&1 || { tail -n 20 "$room/log" >&2; exit 1; }
-python3 "$top/tests/wrong_bodies/rounds.py" "$top" "$room" "$lanes" "${crates[@]}"
+python3 "$top/tests/wrong_bodies/rounds.py" "$top" "$room" "${RT_JOBS:-$(nproc)}" "$begin" \
+    "${crates[@]}"

@@ -4,13 +4,14 @@ A body is checked against contracts alone, so one check of a copy tells of many 
 edited function, or a closure of it, must be among those of which a goal of its own fails. That a
 function which it calls isn't proved says nothing of it. What a round leaves open is tried once more
 with less beside it, and then alone.
-usage: rounds.py TOP ROOM LANES CRATE..
-    TOP has the edits. ROOM has crates.txt and crates/, whose libraries are built, and the work that
-    earlier checks kept, if any. So many LANES of checks run side by side.
+usage: rounds.py TOP ROOM LANES gate|checks CRATE..
+    TOP is the repository, of which ROOM, an empty folder, gets a copy. So many LANES of checks run
+    side by side. The libraries there are those that the gate kept, or that checks kept.
 """
 import collections
 import concurrent.futures
 import glob
+import hashlib
 import importlib.machinery
 import math
 import os
@@ -27,6 +28,9 @@ sys.dont_write_bytecode = True
 PARTS = ("src", "specs", "proofs")
 # The most edits of a round
 MOST = 25
+# Which crates passed, by the sums of all that was read
+CACHE = os.environ.get("XDG_CACHE_HOME") or os.path.expanduser("~/.cache")
+KEPT = f"{CACHE}/reuse-undo/wrong-bodies"
 # What became of an edit, and what is said of it. (LIMIT: the prover met a limit of its own.)
 OPEN, REFUSED, LIMIT, PROVED, NAMED, BAD, UNTRIED = range(7)
 SAID = {
@@ -252,10 +256,7 @@ class Crate:
             for name in names:
                 with open(f"{at}/{name}", encoding="utf-8") as it:
                     self.sources[os.path.relpath(f"{at}/{name}", self.folder)] = it.read()
-        self.edits = []
-        for place in (f"crates/{self.name}/must-fail", f"tests/wrong_bodies/{self.name}"):
-            files = sorted(glob.glob(f"{glob.escape(top)}/{place}/*.edit"))
-            self.edits += [Edit(top, it) for it in files]
+        self.edits = [Edit(top, it) for it in edits_of(top, self.name)]
 
     def check(self, folder, kept, *flags):
         """Checks the crate's text in a folder, over what was kept, and returns what was said."""
@@ -384,6 +385,46 @@ class Crate:
         return passed, len(self.edits) - passed
 
 
+def edits_of(top, name):
+    places = (f"crates/{name}/must-fail", f"tests/wrong_bodies/{name}")
+    return [it for at in places for it in sorted(glob.glob(f"{glob.escape(top)}/{at}/*.edit"))]
+
+
+def record_of(top, crate):
+    """Returns the file that stands if the edits passed, over the same files and by the same kit."""
+    made = hashlib.sha256(crate.stamp().encode())
+    for file in (os.path.realpath(__file__), *edits_of(top, crate.name)):
+        with open(file, "rb") as it:
+            made.update(repr((os.path.basename(file), it.read())).encode())
+    return f"{KEPT}/{crate.name}-{made.hexdigest()}"
+
+
+def keep(record):
+    try:
+        os.makedirs(KEPT, exist_ok=True)
+        open(record, "w").close()
+    except OSError:
+        # (then a later run tries the crate again)
+        pass
+
+
+def prepare(top, room, lanes, begins_with, names):
+    """Makes the copy, with the libraries below the crates."""
+    is_crate = lambda at: os.path.dirname(at) == f"{top}/crates"
+    left_out = lambda at, found: {"out", "must-fail"} & {*found} if is_crate(at) else ()
+    shutil.copytree(f"{top}/crates", f"{room}/crates", ignore=left_out)
+    for name in ("crates.txt", "HANDLES"):
+        shutil.copy2(f"{top}/{name}", room)
+    # (it is the top of a repository)
+    os.mkdir(f"{room}/.git")
+    runs = [(["rt", "check", "--jobs", lanes], f"{room}/crates/{it}") for it in names]
+    for words, folder in [(["rt", "ci"], room)] if begins_with == "gate" else runs:
+        how = {"cwd": folder, "stdin": subprocess.DEVNULL, "stdout": subprocess.PIPE}
+        ran = subprocess.run(words, **how, stderr=subprocess.STDOUT, errors="replace")
+        if ran.returncode:
+            sys.exit(f"{ran.stdout[-2000:]}{' '.join(words)} failed, so no edit was tried")
+
+
 def side_by_side(calls):
     """Makes calls side by side, and returns what they gave."""
     with concurrent.futures.ThreadPoolExecutor(len(calls)) as pool:
@@ -400,19 +441,28 @@ def link_or_copy(one, other):
     return shutil.copy2(one, other)
 
 
-def main(top, room, lanes, *names):
+def main(top, room, lanes, begins_with, *names):
     kit = load_kit()
     # (its first call sets a signal's handler, which only the main thread may)
     kit.guarded()
-    pool = concurrent.futures.ThreadPoolExecutor(int(lanes))
-    checks = lambda call, *given: pool.submit(call, *given).result()
-    chosen = [it for it in kit.crates_below(room) if it.name in names]
-    jobs = max(int(lanes) // max(len(chosen), 1), 1)
-    crates = [Crate(kit, top, it, checks, jobs) for it in chosen]
-    # The largest begins first.
-    crates.sort(key=lambda it: -sum(map(len, it.sources.values())))
-    found = side_by_side([it.run for it in crates])
-    passed, failed = map(sum, zip(*found))
+    records = {it.name: record_of(top, it) for it in kit.crates_below(top) if it.name in names}
+    old = [it for it in records if os.path.exists(records[it])]
+    passed, failed = sum(len(edits_of(top, it)) for it in old), 0
+    for it in old:
+        print(f"{it}: {len(edits_of(top, it))} edits refused, by an earlier run of the same files")
+    if len(old) < len(records):
+        prepare(top, room, lanes, begins_with, [it for it in records if it not in old])
+        pool = concurrent.futures.ThreadPoolExecutor(int(lanes))
+        checks = lambda call, *given: pool.submit(call, *given).result()
+        chosen = [it for it in kit.crates_below(room) if it.name in records and it.name not in old]
+        jobs = max(int(lanes) // len(chosen), 1)
+        crates = [Crate(kit, top, it, checks, jobs) for it in chosen]
+        # The largest begins first.
+        crates.sort(key=lambda it: -sum(map(len, it.sources.values())))
+        for crate, found in zip(crates, side_by_side([it.run for it in crates])):
+            passed, failed = passed + found[0], failed + found[1]
+            if not found[1]:
+                keep(records[crate.name])
     print(f"{passed} passed, {failed} failed")
     return 1 if failed else 0
 
