@@ -2,8 +2,10 @@
 # Passes all tests, in this order:
 # - the gate, `rt ci`: every proof, every must-fail edit and the program's run, from nothing;
 # - beside it the tests of calls (tests/calls.sh), which are compiled without proof;
+# - once the gate has passed, every wrong body (tests/wrong_bodies.sh), also those it doesn't try;
 # - the scripts of tests/ that take the program (tests/all.sh), on what the gate proved and built.
-# Ends with the gate's status if that isn't 0, and with 1 if a test of calls or a script fails.
+# Ends with the gate's status if that isn't 0, and with 1 if a test of calls or a script fails, or a
+# wrong body isn't refused.
 # A script that can't be run here, for want of a Debian package or of root, counts as skipped.
 # RT_JOBS: how many checks run side by side. ROUNDS: how often the scripts try that go by chance.
 # usage: ./test.sh
@@ -24,8 +26,9 @@ calls=$!
 lanes=$(nproc)
 memory=$(awk '/^MemAvailable:/ { print int($2 / 5000000) }' /proc/meminfo)
 ((lanes <= memory)) || lanes=$((memory > 1 ? memory : 1))
+export RT_JOBS="${RT_JOBS:-$lanes}"
 gate=0
-RT_JOBS="${RT_JOBS:-$lanes}" rt ci || gate=$?
+rt ci || gate=$?
 took=$((SECONDS / 60)):$(printf %02d $((SECONDS % 60)))
 [ $gate = 0 ] && gate_said=passed || gate_said="FAILED with status $gate"
 
@@ -34,6 +37,13 @@ wait $calls || called=$?
 calls=
 sed 's/^/tests of calls: /' "$room/calls"
 [ $called = 0 ] && calls_said=passed || calls_said=FAILED
+
+wrong=0
+wrong_said='not tried, since the gate failed'
+if [ $gate = 0 ]; then
+    tests/wrong_bodies.sh -g | tee "$room/wrong" || wrong=$?
+    wrong_said="$(tail -n 1 "$room/wrong"), after $((SECONDS / 60)) minutes"
+fi
 
 # The gate leaves the program that it built here, and has set aside what was here before.
 program=crates/reuse_undo/out/reuse_undo
@@ -49,6 +59,7 @@ fi
 echo
 echo "the gate (rt ci): $gate_said, after $took minutes"
 echo "the tests of calls (tests/calls.sh): $calls_said"
+echo "the wrong bodies (tests/wrong_bodies.sh): $wrong_said"
 echo "the scripts (tests/all.sh): $scripts_said"
 if [ $gate != 0 ]; then exit $gate; fi
-[ $called = 0 ] && [ $scripts = 0 ]
+[ $called = 0 ] && [ $wrong = 0 ] && [ $scripts = 0 ]

@@ -11,9 +11,10 @@ cat << 'HEAD'
 What the prover must refuse, crate by crate: edits of a body that still compile and read well. Each
 line has what the body does, the clause that no longer holds of it, and the name of the edit.
 
-- An edit stands in `crates/CRATE/must-fail/`, and `rt must-fail CRATE` and `rt ci` try it.
-- An edit with a star stands in `tests/wrong_bodies/CRATE/`, which `tests/wrong_bodies.sh` tries. In
-  the gate it would cost about a minute. Those of the program would cost one more proof of it, too.
+- An edit stands in `crates/CRATE/must-fail/`, and the gate tries it by a check of its own.
+- An edit with a star stands in `tests/wrong_bodies/CRATE/`. In the gate it would cost about a
+  minute. Those of the program would cost one more proof of it, too.
+- `tests/wrong_bodies.sh` tries all of them, many in one check. `./test.sh` calls it.
 - A clause is named behind its function. A function with one clause needs no name.
 - If the edit is inside a loop, what fails is the loop's invariant, which says the clause as far as
   the loop has come.

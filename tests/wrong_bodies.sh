@@ -1,21 +1,32 @@
 #!/usr/bin/env bash
-# Tries the wrong bodies of tests/wrong_bodies/CRATE/*.edit, as `rt must-fail` does: each must be
-# refused. They don't stand in the crate's must-fail/: for the edits of a crate the gate proves it
-# once more from nothing, and reuse_undo comes last; and each further edit costs it 20 seconds to a
-# minute, so there each call that does something and each kind of wrong body has one, and what tells
-# more of the same calls, or of calls that hand over what a value holds, is here. It works in a copy
-# of the repository.
-# usage: tests/wrong_bodies.sh [CRATE..]      (by default all)
+# Tries the wrong bodies of crates/CRATE/must-fail and of tests/wrong_bodies/CRATE: each must be
+# refused. A body is checked against contracts alone, so many edits of different functions are tried
+# in one check: a round. An edit counts as refused if a goal of its own function fails there, and
+# what a round leaves open is tried alone (tests/wrong_bodies/rounds.py). It works in a copy of the
+# crates. A crate whose edits passed is passed over until a file that was read changes. The last
+# line counts the edits.
+# RT_JOBS: how many checks run side by side.
+# usage: tests/wrong_bodies.sh [-g] [CRATE..]      (by default each crate that has edits)
+#   -g   the gate has passed: begins with what it kept, and else with what `rt check` kept
 set -euo pipefail
 top=$(cd "$(dirname "$0")/.." && pwd)
+begin=checks
+if [ "${1:-}" = -g ]; then begin=gate; shift; fi
 room=$(mktemp -d)
 trap 'rm -rf "$room"' EXIT
-tar -C "$top" --exclude=./.git -cf - . | tar -C "$room" -xf -
+
+has_edits() {
+    [ -n "$(find "$top/crates/$1/must-fail" "$top/tests/wrong_bodies/$1" -name '*.edit' \
+        -print -quit 2> /dev/null)" ]
+}
 crates=("$@")
-[ $# -gt 0 ] || crates=(reuse_text reuse_notice reuse_header reuse_tree reuse_session reuse_undo)
+if [ $# = 0 ]; then
+    while read -r crate; do
+        ! has_edits "$crate" || crates+=("$crate")
+    done < <(sed -n 's/^\([a-z0-9_]*\):.*/\1/p' "$top/crates.txt")
+fi
 for crate in "${crates[@]}"; do
-    rm -rf "$room/crates/$crate/must-fail"
-    cp -r "$top/tests/wrong_bodies/$crate" "$room/crates/$crate/must-fail"
+    has_edits "$crate" || { echo "No crate $crate has edits." >&2; exit 2; }
 done
-cd "$room"
-rt must-fail "${crates[@]}"
+python3 "$top/tests/wrong_bodies/rounds.py" "$top" "$room" "${RT_JOBS:-$(nproc)}" "$begin" \
+    "${crates[@]}"
