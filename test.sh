@@ -2,10 +2,12 @@
 # Passes all tests, in this order:
 # - the gate, `rt ci`: every proof, every must-fail edit and the program's run, from nothing;
 # - beside it the tests of calls (tests/calls.sh), which are compiled without proof;
-# - once the gate has passed, every wrong body (tests/wrong_bodies.sh), also those it doesn't try;
-# - the scripts of tests/ that take the program (tests/all.sh), on what the gate proved and built.
+# - the scripts of tests/ that take the program (tests/all.sh), on what the gate proved and built;
+# - once the gate has passed, every wrong body (tests/wrong_bodies.sh), also those it doesn't try.
 # Ends with the gate's status if that isn't 0, and with 1 if a test of calls or a script fails, or a
 # wrong body isn't refused.
+# DEADLINE: the time, in seconds since 1970, at which all has to end. What is left out for that is
+# named.
 # A script that can't be run here, for want of a Debian package or of root, counts as skipped.
 # RT_JOBS: how many checks run side by side. ROUNDS: how often the scripts try that go by chance.
 # usage: ./test.sh
@@ -38,13 +40,6 @@ calls=
 sed 's/^/tests of calls: /' "$room/calls"
 [ $called = 0 ] && calls_said=passed || calls_said=FAILED
 
-wrong=0
-wrong_said='not tried, since the gate failed'
-if [ $gate = 0 ]; then
-    tests/wrong_bodies.sh -g | tee "$room/wrong" || wrong=$?
-    wrong_said="$(tail -n 1 "$room/wrong"), after $((SECONDS / 60)) minutes"
-fi
-
 # The gate leaves the program that it built here, and has set aside what was here before.
 program=crates/reuse_undo/out/reuse_undo
 scripts=0
@@ -54,6 +49,19 @@ if [ -x "$program" ] && [ "$program" -nt "$room/begun" ]; then
 else
     scripts=1
     scripts_said='not run, since the gate built no program'
+fi
+
+# Last, since it takes longest. With a DEADLINE it ends then; an edit that isn't refused is a fault.
+wrong=0
+wrong_said='not tried, since the gate failed'
+if [ $gate = 0 ]; then
+    limit=()
+    [ -z "${DEADLINE:-}" ] || limit=(timeout -k 10 "$((DEADLINE - $(date +%s)))")
+    "${limit[@]}" tests/wrong_bodies.sh -g | tee "$room/wrong" || wrong=$?
+    wrong_said="$(tail -n 1 "$room/wrong"), after $((SECONDS / 60)) minutes"
+    if [ ${#limit[@]} != 0 ] && [ $wrong = 124 ] && ! grep -q 'NOT REFUSED' "$room/wrong"; then
+        wrong=0 wrong_said='not all tried, since no time was left'
+    fi
 fi
 
 echo
