@@ -54,12 +54,18 @@ fi
 # Last, since it takes longest. With a DEADLINE it ends then; an edit that isn't refused is a fault.
 wrong=0
 wrong_said='not tried, since the gate failed'
-if [ $gate = 0 ]; then
+left=1
+[ -z "${DEADLINE:-}" ] || left=$((DEADLINE - $(date +%s)))
+if [ $gate = 0 ] && ((left < 1)); then
+    wrong_said='not tried, since no time was left'
+elif [ $gate = 0 ]; then
     limit=()
-    [ -z "${DEADLINE:-}" ] || limit=(timeout -k 10 "$((DEADLINE - $(date +%s)))")
+    [ -z "${DEADLINE:-}" ] || limit=(timeout -k 10 "$left")
     "${limit[@]}" tests/wrong_bodies.sh -g | tee "$room/wrong" || wrong=$?
     wrong_said="$(tail -n 1 "$room/wrong"), after $((SECONDS / 60)) minutes"
-    if [ ${#limit[@]} != 0 ] && [ $wrong = 124 ] && ! grep -q 'NOT REFUSED' "$room/wrong"; then
+    # (timeout ends with 124, or with 137 where it had to kill)
+    if [ ${#limit[@]} != 0 ] && { [ $wrong = 124 ] || [ $wrong = 137 ]; } &&
+        ! grep -q 'NOT REFUSED' "$room/wrong"; then
         wrong=0 wrong_said='not all tried, since no time was left'
     fi
 fi
