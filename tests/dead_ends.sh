@@ -48,7 +48,8 @@ notes() {
 is_clean() { [[ -z $(git status --porcelain) ]] || fail "$1: $(git status --porcelain)"; }
 begins() { [[ $(head -n 1 "$tree/$1") == "$2" ]] || fail "$1 begins $(head -n 1 "$tree/$1")"; }
 
-# Kills a call at its Nth renaming. The first two of a step are those of the entry and the head.
+# Kills a call at its Nth renaming. The first two of a step are those of the entry and the head; a
+# file that is made isn't renamed.
 renames=rename,renameat,renameat2
 kill_at() {
   local nth=$1
@@ -160,7 +161,7 @@ folder_in_the_way() {
   make_dep5 "$tree"
   git add -A
   git commit -qm dep5
-  kill_at 4 convert-dep5
+  kill_at 3 convert-dep5
   [[ -e $tree/REUSE.toml && ! -e $tree/.reuse/dep5 ]] || fail 'in the way: the files of the kill'
   mkdir "$tree/.reuse/dep5"
   echo mine > "$tree/.reuse/dep5/file"

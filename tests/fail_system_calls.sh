@@ -10,7 +10,7 @@
 set -euo pipefail
 . "$(dirname "$0")/common.sh"
 wants strace strace
-calls=(openat read write close fchmod fchown statx newfstatat getdents64 rename renameat renameat2
+calls=(openat read write close fchmod fchown statx newfstatat getdents64 rename renameat renameat2 link linkat
   unlink unlinkat mkdir mkdirat fsync fdatasync)
 
 # Runs the program on the tree with this fault of this system call at its Nth time.
