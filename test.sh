@@ -5,7 +5,7 @@
 # - the scripts of tests/ that take the program (tests/all.sh), on what the gate proved and built;
 # - once the gate has passed, every wrong body (tests/wrong_bodies.sh), also those it doesn't try.
 # Ends with the gate's status if that isn't 0, and with 1 if a test of calls or a script fails, or a
-# wrong body isn't refused.
+# wrong body isn't refused. One that only a name in a proof refuses is named.
 # DEADLINE: the time, in seconds since 1970, at which all has to end. What is left out for that is
 # named.
 # A script that can't be run here, for want of a Debian package or of root, counts as skipped.
@@ -63,6 +63,11 @@ elif [ $gate = 0 ]; then
     [ -z "${DEADLINE:-}" ] || limit=(timeout -k 10 "$left")
     "${limit[@]}" tests/wrong_bodies.sh -g | tee "$room/wrong" || wrong=$?
     wrong_said="$(tail -n 1 "$room/wrong"), after $((SECONDS / 60)) minutes"
+    # An edit that is refused, but by no goal, is named and is no fault.
+    if [ $wrong = 1 ] && grep -q 'ONLY BY A NAME' "$room/wrong" &&
+        ! grep -qE 'NOT REFUSED|BAD EDIT|NOT TRIED' "$room/wrong"; then
+        wrong=0
+    fi
     # (timeout ends with 124, or with 137 where it had to kill)
     if [ ${#limit[@]} != 0 ] && { [ $wrong = 124 ] || [ $wrong = 137 ]; } &&
         ! grep -q 'NOT REFUSED' "$room/wrong"; then

@@ -1,24 +1,16 @@
 #!/usr/bin/env bash
 # Lists, reads and rewrites a tree of files through DiskStore, beside `cp -r` of the same tree, on a
-# tmpfs. Prints the least time of five rounds and the ratios to `cp -r`. The program is
-# crates/reuse_undo with bench/disk_speed/program.txt in the place of its root, built in a temporary
-# folder. Where this machine has kept the proof of the crate, only the new root is proved.
+# tmpfs. Prints the least time of five rounds and the ratios to `cp -r`. The program is built in a
+# temporary folder, over the crates up to that of the folder. Where this machine has kept the proofs
+# of these, only the program is proved.
 # usage: bench/disk_speed.sh [FILES]
 set -euo pipefail
 
-top=$(cd "$(dirname "$0")/.." && pwd)
 files=${1:-20000}
 build=$(mktemp -d)
 tree=$(mktemp -d /dev/shm/disk_speed.XXXXXX)
 trap 'rm -rf "$build" "$tree"' EXIT
-
-tar -C "$top" --exclude=out --exclude=must-fail -cf - crates crates.txt HANDLES |
-  tar -C "$build" -xf -
-crate=$build/crates/reuse_undo
-rm -rf "$crate/args" "$crate/data" "$crate/stdin" "$crate/stdout"
-cp "$top/bench/disk_speed/program.txt" "$crate/src/main.rt"
-(cd "$crate" && rt run -- list /nowhere) > "$build/log" 2>&1 || { tail -20 "$build/log"; exit 1; }
-program=$crate/out/reuse_undo
+. "$(dirname "$0")/build.sh" disk_speed reuse_text reuse_tree reuse_system reuse_lock reuse_folder
 
 . "$top/bench/python_tree.sh"
 make_tree "$tree/in" "$files"

@@ -21,8 +21,9 @@ line has what the body does, the clause that no longer holds of it, and the name
 - A member (`eq`, `cmp`, `output`, `next_gives`) stands at the `impl` of its trait.
 - The stores with faults are `FaultyStore`, under the names `FuseStore` (from the k-th call on) and
   `OnceStore` (the k-th call alone). The clauses of a store's calls are those of the trait `Store`.
-- The program exports nothing, so of `reuse_undo` the function is named whose contract an edit
-  breaks. That each edit is refused is tried; by which clause was read from the contracts.
+- Of the program and the crates that were made of it, from `reuse_system` on, the function is named
+  whose contract an edit breaks, also where it is a private one. That each edit is refused is tried;
+  by which clause was read from the contracts.
 
 This page is written by `docs/list_of_wrong_bodies.sh`.
 HEAD

@@ -11,7 +11,7 @@ set -euo pipefail
 . "$(dirname "$0")/common.sh"
 wants strace strace
 calls=(openat read write close fchmod fchown statx newfstatat getdents64 rename renameat renameat2
-  unlink unlinkat mkdir mkdirat fsync fdatasync)
+  link linkat unlink unlinkat mkdir mkdirat fsync fdatasync)
 
 # Runs the program on the tree with this fault of this system call at its Nth time.
 run_with() {
@@ -30,7 +30,8 @@ stand() {
   cp -a "$room/$2" "$room/$1"
 }
 
-# Makes `$room/NAME` from `$room/FROM` by a run that is killed when it renames a file the Nth time.
+# Makes `$room/NAME` from `$room/FROM` by a run that is killed when it renames a file the Nth time. A
+# file that is made takes its name by a link.
 make_killed() {
   stand tree "$2"
   run_with signal=KILL rename "$3" "${@:4}" || true
@@ -137,10 +138,10 @@ as_format_1 "$room/mixed"
 "$program" --root "$room/mixed" annotate -c "Max Roe" -r . > "$room/out"
 cp -a "$room/mixed" "$room/older"
 "$program" --root "$room/older" undo > "$room/out"
-# The last renaming of each call is that of the head.
-make_killed killed_annotate plain 6 "${annotate[@]}"
+# The last renaming of each call is that of the head; c.json.license, which is made, has none.
+make_killed killed_annotate plain 5 "${annotate[@]}"
 make_killed killed_undo done 4 undo
-make_killed killed_redo undone 5 redo
+make_killed killed_redo undone 4 redo
 make_killed killed_older older 4 undo
 # A step below another one, with a file that was edited and one that can't be taken back
 cp -a "$room/done" "$room/edited"

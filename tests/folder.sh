@@ -322,19 +322,20 @@ ROOTS
 }
 
 long_names() {
-  local longest
+  local longest told
   longest=$(printf %0255d 0)
   stand
   puts "$longest"
   lists "$longest"
   removes "$longest"
-  lay undone "0$longest"
-  cannot 'store fault' "read 0$longest: File name too long (os error 36)" redo
+  cannot_put "0$longest" 'File name too long (os error 36)'
   # A file that can stand there, but not its neighbour
   rm -r "$tree/.reuse"
   printf y > "$tree/$longest"
-  cannot 'store fault' "list $longest.license: File name too long (os error 36)" "${annotate[@]}" \
-    --force-dot-license "$longest"
+  told="can't write $longest.license: File name too long (os error 36)"
+  tells "reuse-undo: interrupted"$'\n'"reuse-undo: note: $told" \
+    "${annotate[@]}" --force-dot-license "$longest"
+  holds "$longest" y
 }
 
 # Says what was shown.

@@ -20,7 +20,7 @@ fail() {
 
 # The line of a program that is compiled, in install.sh and in the program
 nothing=$(sed -nE "s/^.* nothing='(.*)' .*/\1/p" "$top/install.sh")
-grep -qxF "$nothing\";" "$top/crates/reuse_undo/src/cli/arguments.rt" || fail "no line of '$nothing'"
+grep -qxF "$nothing\";" "$top/crates/reuse_arguments/src/arguments.rt" || fail "no line of '$nothing'"
 
 # An rt that leaves what a proof leaves, unless `refused` names the crate
 mkdir "$room/bin" "$copy"

@@ -73,7 +73,7 @@ texts() {
 # proof, or that of one that install.sh proved.
 version_told() {
   local source version proof
-  source=$(dirname "$0")/../crates/reuse_undo/src/cli/arguments.rt
+  source=$(dirname "$0")/../crates/reuse_arguments/src/arguments.rt
   version=$(sed -nE 's/^([0-9]+\.[0-9]+\.[0-9]+)$/\1/p' "$source")
   run --version
   proof=$(tail -n 1 <<< "${out%$'\n'}")

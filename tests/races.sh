@@ -18,7 +18,7 @@ set -euo pipefail
 wants strace strace
 tree=$room/tree away=$room/away outside=$room/outside other=$room/other
 annotate=(annotate -l MIT -r .)
-calls=openat,statx,read,getdents64,write,close,rename,unlink,mkdir,fsync,fdatasync
+calls=openat,statx,read,getdents64,write,close,rename,link,unlink,mkdir,fsync,fdatasync
 added='added = 1'
 rounds=0 refused=0 kept=0
 declare -A runs=([annotate]="${annotate[*]}" [undo]=undo [rollback]=log)

@@ -60,9 +60,9 @@ from() {
 short_paths() {
   local is_short=$1 folder=$2 root=$3
   make_tree
-  (cd "$folder" && strace -qq -o "$room/trace" -e trace=rename "$program" --root "$root" \
+  (cd "$folder" && strace -qq -o "$room/trace" -e trace=rename,link "$program" --root "$root" \
     "${annotate[@]}" > "$room/out")
-  [[ $(grep -cE '^rename\("[0-9]+/new(\.[0-9]+)?", "[0-9]+/[^/]+"\)' "$room/trace") == \
+  [[ $(grep -cE '^(rename|link)\("[0-9]+/new(\.[0-9]+)?", "[0-9]+/[^/]+"\)' "$room/trace") == \
     "$is_short" ]] || fail "the paths of $root in $folder: $(cat "$room/trace")"
 }
 

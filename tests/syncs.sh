@@ -26,7 +26,7 @@ trace() {
   # The braces keep bash from telling each kill.
   {
     strace -f -qq -y -o "$room/trace" "${options[@]}" \
-      -e trace=openat,fcntl,fsync,fdatasync,sync,syncfs,sync_file_range,rename,unlink,mkdir,rmdir \
+      -e trace=openat,fcntl,fsync,fdatasync,sync,syncfs,sync_file_range,rename,link,unlink,mkdir,rmdir \
       "$program" -v --root "$tree" "${@:2}" > "$room/out" 2>&1
   } 2> /dev/null
 }
@@ -60,7 +60,7 @@ traced() {
   named | sed -E -e '/^[0-9]+ \+\+\+/d' -e '/= \?$/d' -e 's/^[0-9]+ +//' -e "s#$tree/?##g" \
     -e 's/ *= (0|-1 .*)$//' \
     -e 's/^fdatasync\([0-9]+<(.*)>\)$/data \1/' -e 's/^fsync\([0-9]+<(.*)>\)$/folder \1/' \
-    -e 's/^rename\("(.*)", "(.*)"\)$/rename \1 \2/' \
+    -e 's/^(rename|link)\("(.*)", "(.*)"\)$/\1 \2 \3/' \
     -e 's/^(unlink|rmdir|mkdir)\("([^"]*)".*\)$/\1 \2/' -e 's/^folder $/folder ./' | in_order
 }
 
@@ -82,13 +82,14 @@ in_order() {
 # Where the file of this number in a batch is written aside
 new_name() { [[ $1 == 0 ]] && echo "$new" || echo "$new.$1"; }
 
-# Spells out what these lines say: `put PATH` writes a file, `batch PATH..` writes files together,
-# `barrier FOLDER..` syncs folders.
+# Spells out what these lines say: `put PATH` writes a file, `make PATH` makes one, `batch PATH..`
+# writes files together, `barrier FOLDER..` syncs folders.
 spell_out() {
   local words number
   while read -ra words; do
     case ${words[0]} in
       put) printf '%s\n' "data $new" "rename $new ${words[1]}" ;;
+      make) printf '%s\n' "data $new" "link $new ${words[1]}" "unlink $new" ;;
       batch)
         for number in $(seq 0 $((${#words[@]} - 2))); do echo "data $(new_name "$number")"; done
         for number in $(seq 0 $((${#words[@]} - 2))); do
@@ -153,14 +154,14 @@ folders() {
   mkdir -p "$room/texts"
   echo 'Permission is granted' > "$room/texts/MIT.txt"
   makes download --texts "$room/texts" MIT < <(step 000003 'mkdir LICENSES' \
-    'put LICENSES/MIT.txt' 'barrier . LICENSES')
+    'make LICENSES/MIT.txt' 'barrier . LICENSES')
   makes undo < <(replay 'unlink LICENSES/MIT.txt' 'barrier LICENSES')
   # A folder without files gives way to a file.
   mkdir -p "$tree/LICENSES/MIT.txt/in"
   makes redo < <(replay 'rmdir LICENSES/MIT.txt/in' 'rmdir LICENSES/MIT.txt' \
-    'put LICENSES/MIT.txt' 'barrier LICENSES')
+    'make LICENSES/MIT.txt' 'barrier LICENSES')
   make_dep5 "$tree"
-  makes convert-dep5 < <(step 000004 'unlink .reuse/dep5' 'put REUSE.toml' \
+  makes convert-dep5 < <(step 000004 'unlink .reuse/dep5' 'make REUSE.toml' \
     'barrier . .reuse')
 }
 
@@ -179,19 +180,20 @@ none() {
   makes redo --no-sync < <(printf '%s\n' "$head" "rename $new a.py" "$head")
 }
 
-# Kills the call at this rename.
+# Kills the call at the Nth such call of the system: a file is replaced by a rename, and made by a
+# link.
 killed_at() {
-  local number=$1
-  shift
-  trace -e inject=rename:signal=KILL:when="$number" -- "$@" || true
-  is_pending "$tree" || fail "$* is not pending after a kill at rename $number"
+  local call=$1 number=$2
+  shift 2
+  trace -e inject="$call:signal=KILL:when=$number" -- "$@" || true
+  is_pending "$tree" || fail "$* is not pending after a kill at $call $number"
 }
 
 # What a killed run began is set back: first what it wrote of the journal lasts, then all its paths
 # do, those too that are as before.
 set_back() {
   files src/a.py 'x\n' src/b.py 'x\n' in/c.py 'x\n'
-  killed_at 3 "${annotate[@]}" -r .
+  killed_at rename 3 "${annotate[@]}" -r .
   makes log << CALLS
 barrier .reuse/undo
 barrier in src
@@ -202,7 +204,7 @@ put .reuse/undo/head.json
 barrier .reuse/undo
 CALLS
   files src/a.py 'x\n' src/b.py 'x\n' in/c.py 'x\n'
-  killed_at 5 "${annotate[@]}" -r .
+  killed_at rename 5 "${annotate[@]}" -r .
   makes log << CALLS
 barrier .reuse/undo
 unlink $new.2
@@ -214,7 +216,7 @@ barrier .reuse/undo
 CALLS
   # A folder that isn't there any more: the nearest one above it
   files p.png 'x'
-  killed_at 3 download --texts "$room/texts" MIT
+  killed_at link 1 download --texts "$room/texts" MIT
   rmdir "$tree/LICENSES"
   makes log << CALLS
 barrier .reuse/undo

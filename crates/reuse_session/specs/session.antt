@@ -1,19 +1,15 @@
 -- What the calls of a session answer and leave.
-pub mod Answer
 pub mod Calls
-pub mod Cause
-pub mod Command
 pub mod Driven
-pub mod PathOutcomes
 pub mod Forgetting
 pub mod Fresh
 pub mod Machine
 pub mod Model
 pub mod Previews
-pub mod Reading
-pub mod RefusalTexts
 pub mod Requests
 pub mod RevertCalls
 pub mod Session
 pub mod Showing
 pub mod Stops
+pub mod Openings
+pub mod SafeCalls

@@ -1,4 +1,2 @@
-pub mod cli
-pub mod disk
 pub mod print
 pub mod run

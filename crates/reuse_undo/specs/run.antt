@@ -1,14 +1,10 @@
 -- What a line asks a session for, and what comes of it.
 pub mod AfterStops
-pub mod Asking
 pub mod CarriedOut
 pub mod Drawn
 pub mod Forgotten
 pub mod LinesInTurn
-pub mod LockCall
-pub mod Locks
 pub mod Recoveries
 pub mod RefusalTexts
-pub mod Requests
 pub mod RunLine
 pub mod Texts

@@ -3,7 +3,7 @@ ghost use Rattle.std.specs.Prelude.{List};
 ghost use Rattle.reuse_session.specs.session.Stops.{Point, AreLeft};
 ghost use Rattle.reuse_undo.specs.run.LinesInTurn.{CarriedLine, HoldsSame, AreInTurn, RunAsModel};
 
-use crate::print::output::Sink;
+use reuse_print::output::Sink;
 use reuse_tree::Store;
 
 /// Lines are carried out one after the other, each on the files that the one before it left, as

@@ -3,24 +3,22 @@
 
 ghost use Rattle.std.specs.Prelude.{◌≡◌, if◌then◌else◌, string_bytes, true};
 ghost use Rattle.std.specs.Option.{option_map};
-ghost use Rattle.reuse_undo.specs.cli.ListedCommands.{IsAskedWithList};
-ghost use Rattle.reuse_undo.specs.declared.print.shown_name.Names.TheVariants as names;
+ghost use Rattle.reuse_arguments.specs.ListedCommands.{IsAskedWithList};
+ghost use Rattle.reuse_shown.specs.declared.shown_name.Names.TheVariants as names;
 
-mod cli;
-mod disk;
 mod laws;
 mod print;
 mod run;
 
-use cli::file_list::with_list;
-use cli::line::{Asked, LineFault};
-use cli::words::finder::Clap;
-use cli::words::{Said, words_to_command};
-use print::error_output::ErrorOutput;
 use print::report::{tell_outcome, tell_words};
-use print::shown_name::Names;
 use print::status::{Ending, exit_status};
+use reuse_arguments::file_list::with_list;
+use reuse_arguments::line::{Asked, LineFault};
+use reuse_arguments::words::finder::Clap;
+use reuse_arguments::words::{Said, words_to_command};
 use reuse_session::Moment;
+use reuse_shown::error_output::ErrorOutput;
+use reuse_shown::shown_name::Names;
 use run::carried_out::CarriedOut;
 use run::locked::{Extras, forget_folder, recover_folder, run_line};
 use std::alloc::Global;

@@ -13,7 +13,6 @@ pub mod KnownCommands
 pub mod LaterSteps
 pub mod LeftByRuns
 pub mod Modelling
-pub mod OnlyReading
 pub mod Peeking
 pub mod Previewing
 pub mod Recording
@@ -28,3 +27,4 @@ pub mod SafeAnswers
 pub mod SafeDriving
 pub mod StepPathOutcomes
 pub mod StepsByNumber
+pub mod CountedCalls

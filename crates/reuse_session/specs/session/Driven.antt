@@ -2,17 +2,17 @@
 use Rattle.std.specs.Prelude.{◌≡◌, false, Some, Result, Err}
 use Rattle.reuse_tree.specs.Files.{Files}
 use Rattle.reuse_tree.specs.declared.store.Store.{Ghosts}
-use Rattle.reuse_session.specs.journal.Journal.{State}
-use Rattle.reuse_session.specs.journal.Losses.{AreSafeOn}
+use Rattle.reuse_journal.specs.Journal.{State}
+use Rattle.reuse_journal.specs.Losses.{AreSafeOn}
 use Rattle.reuse_session.specs.session.Machine.{Snapshots}
 use Rattle.reuse_session.specs.session.Model.{Gives}
 use Rattle.reuse_session.specs.session.Session.{store_of, StandsAt}
 use Rattle.reuse_session.specs.session.Stops.{Point, open_at, AreLeft, MayBeFound}
-use Rattle.reuse_session.specs.declared.request.Request.{Request}
-use Rattle.reuse_session.specs.declared.reply.Refusal.{Refusal}
-use Rattle.reuse_session.specs.declared.failure.Failure.TheVariants.{Interrupted}
-use Rattle.reuse_session.specs.declared.reply.Refusal.TheVariants.{Failed}
-use Rattle.reuse_session.specs.declared.reply.Response.{Response}
+use Rattle.reuse_command.specs.declared.request.Request.{Request}
+use Rattle.reuse_command.specs.declared.reply.Refusal.{Refusal}
+use Rattle.reuse_command.specs.declared.failure.Failure.TheVariants.{Interrupted}
+use Rattle.reuse_command.specs.declared.reply.Refusal.TheVariants.{Failed}
+use Rattle.reuse_command.specs.declared.reply.Response.{Response}
 use Rattle.reuse_session.specs.declared.session.Session.{Session}
 use Rattle.reuse_session.specs.declared.events.Driven.{Driven}
 use Rattle.reuse_session.specs.declared.events.Driven.TheVariants.{Open, Closed}

@@ -7,27 +7,23 @@ use Rattle.reuse_tree.specs.Asked.{Leaves}
 use Rattle.reuse_tree.specs.Files.{Files, Clashes, tree_of}
 use Rattle.reuse_tree.specs.Tree.{Sets}
 use Rattle.reuse_tree.specs.declared.store.Store.{Ghosts}
-use Rattle.reuse_session.specs.session.Answer.{IsStop, HasClash}
+use Rattle.reuse_command.specs.Answer.{IsStop, HasClash}
 use Rattle.reuse_session.specs.session.Calls.{files_of, folder_of}
-use Rattle.reuse_session.specs.journal.History.{Memory}
-use Rattle.reuse_session.specs.journal.Journal.{Recorded, Journal, State}
-use Rattle.reuse_session.specs.journal.JournalFiles.{head_path, entry_path, number_of, IsFree}
-use Rattle.reuse_session.specs.journal.Losses.{IsSafeOn, AreSafeOn}
+use Rattle.reuse_journal.specs.History.{Memory}
+use Rattle.reuse_journal.specs.Journal.{Recorded, Journal, State}
+use Rattle.reuse_journal.specs.JournalFiles.{head_path, entry_path, number_of, IsFree}
+use Rattle.reuse_journal.specs.Losses.{IsSafeOn, AreSafeOn}
 use Rattle.reuse_session.specs.session.Machine.{Kept, Snapshots}
-use Rattle.reuse_session.specs.session.Session.{store_of, memory_of, listed_count, head_room, HasHeadText, StandsOn}
-use Rattle.reuse_session.specs.session.Showing.{lists}
-use Rattle.reuse_session.specs.journal.Standing.{IsStanding}
-use Rattle.reuse_session.specs.declared.journal.history.ListedEntry.{ListedEntry}
-use Rattle.reuse_session.specs.declared.reply.Refusal.{Refusal}
-use Rattle.reuse_session.specs.declared.failure.Failure.TheVariants as failures
-use Rattle.reuse_session.specs.declared.reply.Refusal.TheVariants as refusals
+use Rattle.reuse_session.specs.session.Session.{store_of, memory_of, StandsOn}
+use Rattle.reuse_journal.specs.Remembered.{listed_count, head_room, HasHeadText}
+use Rattle.reuse_journal.specs.Standing.{IsStanding}
+use Rattle.reuse_command.specs.declared.reply.Refusal.{Refusal}
+use Rattle.reuse_command.specs.declared.failure.Failure.TheVariants as failures
+use Rattle.reuse_command.specs.declared.reply.Refusal.TheVariants as refusals
 use Rattle.reuse_session.specs.declared.session.Session.{Session}
+use Rattle.reuse_journal.specs.Numbered.{is_one_of, memory_besides}
 
 -- ---- numbers
-
--- whether the number is one of these
-abbrev pub is_one_of : List ℕ → ℕ → Bool
-is_one_of numbers number = list_any (λ other. other == number) numbers
 
 -- the second are the first, ascending, each once
 pub record AreInOrder (numbers ordered : List ℕ) : Type 0 where
@@ -85,28 +81,6 @@ pub record IsWithoutOldest (numbers : List ℕ) (state next : Snapshots) : Type 
 -- the state with no other tree than that now
 abbrev pub alone : Snapshots → Snapshots
 alone state = record { tree = state.tree; past = []; future = []; used = state.used }
-
--- ---- what is remembered
-
--- whether an entry that is done or undone has the number
-abbrev pub is_listed : Memory → ℕ → Bool
-is_listed memory number = lists memory.done number || lists memory.undone number
-
--- the first of the numbers that no entry has
-abbrev pub first_unlisted : Memory → List ℕ → Option ℕ
-first_unlisted memory numbers = find (λ number. not (is_listed memory number)) numbers
-
--- the entries whose number is none of these
-abbrev pub entries_besides : List ℕ → List ListedEntry → List ListedEntry
-entries_besides numbers entries = filter (λ (entry : ListedEntry). not (is_one_of numbers entry.number)) entries
-
-abbrev pub memory_besides : List ℕ → Memory → Memory
-memory_besides numbers memory = record { done = entries_besides numbers memory.done; undone = entries_besides numbers memory.undone; used = memory.used }
-
--- the numbers of all entries
-abbrev pub all_numbers : Memory → List ℕ
-all_numbers memory =
-    map (λ (entry : ListedEntry). entry.number) memory.done ++ map (λ (entry : ListedEntry). entry.number) memory.undone
 
 -- ---- the files
 

@@ -4,7 +4,7 @@ use Rattle.std.specs.FinMap.{get}
 use Rattle.reuse_tree.specs.Path.{lies_under, journal_folder}
 use Rattle.reuse_tree.specs.Files.{Files}
 use Rattle.reuse_session.specs.session.Machine.{Snapshots}
-use Rattle.reuse_session.specs.journal.Standing.{IsTree}
+use Rattle.reuse_journal.specs.Standing.{IsTree}
 
 -- the files are a tree, and nothing lies under `.reuse/undo/`
 pub record IsFresh (files : Files) : Type 0 where

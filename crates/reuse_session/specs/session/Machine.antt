@@ -1,27 +1,22 @@
 -- The reference model (it keeps a whole copy of each earlier tree).
-use Rattle.std.specs.Prelude.{ℕ, ◌+◌, Bool, true, false, ◌||◌, List, [], ◌∷◌, ◌++◌, length, map, Result, Ok, Err, nat_le, if◌then◌else◌}
+use Rattle.std.specs.Prelude.{ℕ, ◌+◌, true, false, List, [], ◌∷◌, ◌++◌, length, map, Result, Ok, Err, if◌then◌else◌}
 use Rattle.reuse_tree.specs.Files.{Files}
-use Rattle.reuse_session.specs.session.Command.{name_of}
-use Rattle.reuse_session.specs.session.PathOutcomes.{path_outcomes_of}
+use Rattle.reuse_command.specs.Command.{name_of}
+use Rattle.reuse_plan.specs.PathOutcomes.{path_outcomes_of}
 use Rattle.reuse_tree.specs.Tree.{changed_paths}
 use Rattle.reuse_tree.specs.declared.direction.Direction.{Direction}
 use Rattle.reuse_tree.specs.declared.direction.Direction.TheVariants as go
-use Rattle.reuse_session.specs.plan.Outcome.{outcome_of}
-use Rattle.reuse_session.specs.declared.command.Command.{Command}
+use Rattle.reuse_plan.specs.Outcome.{outcome_of}
+use Rattle.reuse_command.specs.declared.command.Command.{Command}
 use Rattle.reuse_tree.specs.declared.command_name.CommandName.{CommandName}
-use Rattle.reuse_session.specs.declared.path_outcome.PathOutcome.{PathOutcome}
-use Rattle.reuse_session.specs.declared.path_outcome.PathOutcome.TheVariants.{Changes}
-use Rattle.reuse_session.specs.declared.reply.Row.{Row}
-use Rattle.reuse_session.specs.declared.reply.Response.{Response}
-use Rattle.reuse_session.specs.declared.reply.Response.TheVariants.{Changed, NothingChanged, Undone, Redone}
-use Rattle.reuse_session.specs.declared.reply.Refusal.{Refusal}
-use Rattle.reuse_session.specs.declared.reply.Refusal.TheVariants.{JournalFull, NothingToUndo, NothingToRedo}
-
--- what names a step: its number, its moment and its command
-pub record Label : Type 0 where
-  pub number : ℕ
-  pub when : ℕ
-  pub command : CommandName
+use Rattle.reuse_command.specs.declared.path_outcome.PathOutcome.{PathOutcome}
+use Rattle.reuse_command.specs.declared.path_outcome.PathOutcome.TheVariants.{Changes}
+use Rattle.reuse_command.specs.declared.reply.Row.{Row}
+use Rattle.reuse_command.specs.declared.reply.Response.{Response}
+use Rattle.reuse_command.specs.declared.reply.Response.TheVariants.{Changed, NothingChanged, Undone, Redone}
+use Rattle.reuse_command.specs.declared.reply.Refusal.{Refusal}
+use Rattle.reuse_command.specs.declared.reply.Refusal.TheVariants.{JournalFull, NothingToUndo, NothingToRedo}
+use Rattle.reuse_journal.specs.Labels.{Label, is_full, row_of}
 
 -- a tree that is kept, with the label of the step between it and the next
 pub record Kept : Type 0 where
@@ -58,10 +53,6 @@ abbrev pub ran : Snapshots → ℕ → CommandName → Result Files Refusal → 
 ran s when command (Err refusal) = (Err refusal, s)
 ran s when command (Ok after) = taken s when command after (changed_paths s.tree after)
 
--- the journal takes no further entry: so many are done, or so many numbers are used
-abbrev pub is_full : ℕ → ℕ → Bool
-is_full done used = nat_le 4096 done || nat_le 999_999 used
-
 -- a run of a command
 abbrev pub ran_by : Snapshots → Command → ℕ → Step
 ran_by s command when = if is_full (length s.past) s.used then (Err JournalFull, s) else ran s when (name_of command) (outcome_of command s.tree)
@@ -89,11 +80,6 @@ redone s (kept ∷ future) = (
     used = s.used;
   },
 )
-
--- a row of the log
-abbrev pub row_of : Label → ℕ → Bool → Row
-row_of label count done =
-    record { number = label.number; when = label.when; command = label.command; count = count; done = done }
 
 -- the rows of the steps that led to the tree, the oldest first, each with the number of paths at which its two trees
 -- differ

@@ -3,17 +3,17 @@ use Rattle.std.specs.Prelude.{◌≡◌, List, [], ◌∷◌, Result, Ok, Err, l
 use Rattle.reuse_tree.specs.Asked.{OnlyReads}
 use Rattle.reuse_tree.specs.Files.{Files}
 use Rattle.reuse_tree.specs.declared.store.Store.{Ghosts}
-use Rattle.reuse_session.specs.session.Answer.{RefusedAsRead, IsReadRefusal}
-use Rattle.reuse_session.specs.session.PathOutcomes.{ArePathOutcomesOf, path_outcomes_of}
-use Rattle.reuse_session.specs.journal.Journal.{Recorded, State, end_of}
-use Rattle.reuse_session.specs.session.Machine.{is_full}
+use Rattle.reuse_command.specs.Answer.{RefusedAsRead, IsReadRefusal}
+use Rattle.reuse_plan.specs.PathOutcomes.{ArePathOutcomesOf, path_outcomes_of}
+use Rattle.reuse_journal.specs.Journal.{Recorded, State, end_of}
+use Rattle.reuse_journal.specs.Labels.{is_full}
 use Rattle.reuse_session.specs.session.Session.{store_of, IsKept}
-use Rattle.reuse_session.specs.declared.command.Command.{Command}
+use Rattle.reuse_command.specs.declared.command.Command.{Command}
 use Rattle.reuse_tree.specs.declared.direction.Direction.{Direction}
-use Rattle.reuse_session.specs.declared.path_outcome.PathOutcome.{PathOutcome}
-use Rattle.reuse_session.specs.declared.path_outcome.Previewed.{Previewed}
-use Rattle.reuse_session.specs.declared.reply.Refusal.{Refusal}
-use Rattle.reuse_session.specs.declared.reply.Refusal.TheVariants.{Broken, JournalFull, NothingToUndo, NothingToRedo, Failed}
+use Rattle.reuse_command.specs.declared.path_outcome.PathOutcome.{PathOutcome}
+use Rattle.reuse_command.specs.declared.path_outcome.Previewed.{Previewed}
+use Rattle.reuse_command.specs.declared.reply.Refusal.{Refusal}
+use Rattle.reuse_command.specs.declared.reply.Refusal.TheVariants.{Broken, JournalFull, NothingToUndo, NothingToRedo}
 use Rattle.reuse_session.specs.declared.session.Session.{Session}
 
 -- a preview of an undo or a redo: the path outcomes of the next step's changes, or that there is no step
@@ -33,11 +33,6 @@ pub record ReadsOnly {S A : Type 0} (store : Ghosts S) (answer : Result A Refusa
   pub reads : OnlyReads store (store_of old) (store_of new)
   pub kept : IsKept old new
   pub fails : RefusedAsRead store (store_of old) (store_of new) answer
-
--- the refusal is no failure
-abbrev pub IsTold : Refusal → Type 0
-IsTold (Failed failure) = ⊥
-IsTold refusal = Unit {0}
 
 -- the refusals of a preview; that of an entry that is listed reads it
 abbrev pub IsPreviewRefusal : Refusal → Type 0

@@ -7,30 +7,31 @@ use Rattle.reuse_tree.specs.Tree.{undo_folder_of}
 use Rattle.reuse_tree.specs.declared.journal.head.PendingDirection.TheVariants as directions
 use Rattle.reuse_tree.specs.declared.store.Store.{Ghosts}
 use Rattle.reuse_tree.specs.declared.direction.Direction.TheVariants as go
-use Rattle.reuse_session.specs.session.Answer.{IsEarly, IsStop, HasCause, HasClash, IsNoClash, RefusedAsRead, TellsNoFault}
+use Rattle.reuse_command.specs.Answer.{IsEarly, IsStop, HasCause, HasClash, IsNoClash, RefusedAsRead, TellsNoFault}
 use Rattle.reuse_session.specs.session.Calls.{files_of, folder_of, IsCall}
-use Rattle.reuse_session.specs.journal.Journal.{Recorded, State, Undoes, Redoes, rows_in}
-use Rattle.reuse_session.specs.journal.JournalFiles.{head_path, entry_path, number_of, IsFree}
-use Rattle.reuse_session.specs.journal.Losses.{AreSafeOn, Survives, IsNextBy}
+use Rattle.reuse_journal.specs.Journal.{Recorded, State, Undoes, Redoes, rows_in}
+use Rattle.reuse_journal.specs.JournalFiles.{head_path, entry_path, number_of, IsFree}
+use Rattle.reuse_journal.specs.Losses.{AreSafeOn, Survives, IsNextBy}
 use Rattle.reuse_session.specs.session.Previews.{run_path_outcomes_on, PreviewsReplay}
 use Rattle.reuse_session.specs.session.RevertCalls.{IsAfterRevert, Reverts, changed_or_none, touched_later}
-use Rattle.reuse_session.specs.session.Session.{store_of, is_broken, IsKept, IsRun, IsSameBut, IsSameButTwo, Runs, StandsOn}
+use Rattle.reuse_session.specs.session.Session.{store_of, is_broken, IsKept, IsRun, Runs, StandsOn}
+use Rattle.reuse_journal.specs.Remembered.{IsSameBut, IsSameButTwo}
 use Rattle.reuse_session.specs.session.Showing.{IsUnused, ShowsIn}
-use Rattle.reuse_session.specs.journal.Standing.{InDoubt, IsStanding}
-use Rattle.reuse_session.specs.declared.command.Command.TheVariants.{Revert}
-use Rattle.reuse_session.specs.declared.failure.Failure.{Failure}
-use Rattle.reuse_session.specs.declared.failure.Failure.TheVariants.{Interrupted, Memory}
-use Rattle.reuse_session.specs.declared.path_outcome.PathOutcome.{PathOutcome}
-use Rattle.reuse_session.specs.declared.reply.Refusal.{Refusal}
-use Rattle.reuse_session.specs.declared.reply.Refusal.TheVariants.{Broken, Failed, NoSuchStep}
-use Rattle.reuse_session.specs.declared.reply.Response.{Response}
-use Rattle.reuse_session.specs.declared.reply.Response.TheVariants as responses
-use Rattle.reuse_session.specs.declared.reply.Reverted.{Reverted}
-use Rattle.reuse_session.specs.declared.reply.Shown.{Shown}
-use Rattle.reuse_session.specs.declared.request.Call.{Call}
-use Rattle.reuse_session.specs.declared.request.Call.TheVariants as calls
-use Rattle.reuse_session.specs.declared.request.Request.{Request}
-use Rattle.reuse_session.specs.declared.request.Request.TheVariants as requests
+use Rattle.reuse_journal.specs.Standing.{InDoubt, IsStanding}
+use Rattle.reuse_command.specs.declared.command.Command.TheVariants.{Revert}
+use Rattle.reuse_command.specs.declared.failure.Failure.{Failure}
+use Rattle.reuse_command.specs.declared.failure.Failure.TheVariants.{Interrupted, Memory}
+use Rattle.reuse_command.specs.declared.path_outcome.PathOutcome.{PathOutcome}
+use Rattle.reuse_command.specs.declared.reply.Refusal.{Refusal}
+use Rattle.reuse_command.specs.declared.reply.Refusal.TheVariants.{Broken, Failed, NoSuchStep}
+use Rattle.reuse_command.specs.declared.reply.Response.{Response}
+use Rattle.reuse_command.specs.declared.reply.Response.TheVariants as responses
+use Rattle.reuse_command.specs.declared.reply.Reverted.{Reverted}
+use Rattle.reuse_command.specs.declared.reply.Shown.{Shown}
+use Rattle.reuse_command.specs.declared.request.Call.{Call}
+use Rattle.reuse_command.specs.declared.request.Call.TheVariants as calls
+use Rattle.reuse_command.specs.declared.request.Request.{Request}
+use Rattle.reuse_command.specs.declared.request.Request.TheVariants as requests
 use Rattle.reuse_session.specs.declared.session.Session.{Session}
 
 -- what changes nothing: a preview, a log, or a step that is shown

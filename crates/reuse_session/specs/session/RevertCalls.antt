@@ -6,24 +6,24 @@ use Rattle.reuse_tree.specs.Asked.{OnlyReads}
 use Rattle.reuse_tree.specs.Files.{Files}
 use Rattle.reuse_tree.specs.declared.change.Change.{Change}
 use Rattle.reuse_tree.specs.declared.store.Store.{Ghosts}
-use Rattle.reuse_session.specs.session.Answer.{IsEarly, RefusedAsRead}
+use Rattle.reuse_command.specs.Answer.{IsEarly, RefusedAsRead}
 use Rattle.reuse_session.specs.session.Calls.{folder_of, LeavesRun}
 use Rattle.reuse_tree.specs.Entry.{paths_of, touches}
-use Rattle.reuse_session.specs.journal.Journal.{Recorded, Journal, State}
-use Rattle.reuse_session.specs.journal.JournalFiles.{entry_path, number_of, EntrySays}
+use Rattle.reuse_journal.specs.Journal.{Recorded, Journal, State}
+use Rattle.reuse_journal.specs.JournalFiles.{entry_path, number_of, EntrySays}
 use Rattle.reuse_tree.specs.Listing.{is_among}
 use Rattle.reuse_session.specs.session.Machine.{Kept, Snapshots, ran_by}
 use Rattle.reuse_session.specs.session.Session.{store_of, StandsOn, StandsAt, Follows, IsRun, Runs}
 use Rattle.reuse_session.specs.session.Showing.{IsUnused, LedTo}
 use Rattle.reuse_tree.specs.Tree.{changed_paths}
-use Rattle.reuse_session.specs.declared.command.Command.{Command}
-use Rattle.reuse_session.specs.declared.command.Command.TheVariants.{Revert}
+use Rattle.reuse_command.specs.declared.command.Command.{Command}
+use Rattle.reuse_command.specs.declared.command.Command.TheVariants.{Revert}
 use Rattle.reuse_tree.specs.declared.journal.entry.Entry.{Entry}
-use Rattle.reuse_session.specs.declared.reply.Refusal.{Refusal}
-use Rattle.reuse_session.specs.declared.reply.Refusal.TheVariants.{NoSuchStep}
-use Rattle.reuse_session.specs.declared.reply.Response.{Response}
-use Rattle.reuse_session.specs.declared.reply.Response.TheVariants.{Changed, NothingChanged}
-use Rattle.reuse_session.specs.declared.reply.Reverted.{Reverted}
+use Rattle.reuse_command.specs.declared.reply.Refusal.{Refusal}
+use Rattle.reuse_command.specs.declared.reply.Refusal.TheVariants.{NoSuchStep}
+use Rattle.reuse_command.specs.declared.reply.Response.{Response}
+use Rattle.reuse_command.specs.declared.reply.Response.TheVariants.{Changed, NothingChanged}
+use Rattle.reuse_command.specs.declared.reply.Reverted.{Reverted}
 use Rattle.reuse_session.specs.declared.session.Session.{Session}
 
 -- the answer as that of a run

@@ -1,31 +1,30 @@
 -- When a session stands at a state of the machine.
-use Rattle.std.specs.Prelude.{◌≡◌, ◌≢◌, ℕ, ◌+◌, ◌*◌, ◌≤◌, Bool, true, false, List, [], ◌∷◌, length, map, reverse, Some, None, Result, Ok, Err}
-use Rattle.std.specs.FinMap.{get}
+use Rattle.std.specs.Prelude.{◌≡◌, ℕ, ◌+◌, ◌≤◌, Bool, true, false, List, [], ◌∷◌, length, Result, Ok, Err}
 use Rattle.reuse_tree.specs.Files.{Files, AreFiles}
-use Rattle.reuse_session.specs.session.Command.{name_of}
+use Rattle.reuse_command.specs.Command.{name_of}
 use Rattle.reuse_tree.specs.Entry.{IsEntry, LeadsAll}
-use Rattle.reuse_tree.specs.EntryText.{entry_text}
-use Rattle.reuse_tree.specs.Head.{head_text}
 use Rattle.reuse_tree.specs.declared.change.Change.{Change}
-use Rattle.reuse_session.specs.declared.reply.Refusal.TheVariants.{JournalFull}
-use Rattle.reuse_session.specs.journal.History.{Memory, head_listing}
-use Rattle.reuse_session.specs.journal.Journal.{Recorded, Journal, State}
-use Rattle.reuse_session.specs.journal.JournalFiles.{head_path, entry_path, number_of, IsKeptIn}
-use Rattle.reuse_session.specs.session.Machine.{Kept, Snapshots, Step, is_full}
-use Rattle.reuse_session.specs.plan.Outcome.{edits_of, outcome_of}
-use Rattle.reuse_session.specs.plan.Plan.{IsPlan, Records}
-use Rattle.reuse_session.specs.journal.Standing.{IsStanding, IsStep, InDoubt}
+use Rattle.reuse_command.specs.declared.reply.Refusal.TheVariants.{JournalFull}
+use Rattle.reuse_journal.specs.History.{Memory}
+use Rattle.reuse_journal.specs.Journal.{Recorded, State}
+use Rattle.reuse_journal.specs.JournalFiles.{number_of, IsKeptIn}
+use Rattle.reuse_session.specs.session.Machine.{Kept, Snapshots, Step}
+use Rattle.reuse_journal.specs.Labels.{is_full}
+use Rattle.reuse_plan.specs.Outcome.{edits_of, outcome_of}
+use Rattle.reuse_plan.specs.Plan.{IsPlan, Records}
+use Rattle.reuse_journal.specs.Standing.{IsStanding, IsStep, InDoubt}
 use Rattle.reuse_tree.specs.Tree.{changed_paths}
-use Rattle.reuse_session.specs.declared.command.Command.{Command}
-use Rattle.reuse_session.specs.declared.journal.history.ListedEntry.{ListedEntry}
+use Rattle.reuse_command.specs.declared.command.Command.{Command}
 use Rattle.reuse_tree.specs.declared.journal.entry.Entry.{Entry}
 use Rattle.reuse_tree.specs.declared.journal.head.Pending.{Pending}
 use Rattle.reuse_tree.specs.declared.journal.head.PendingDirection.{PendingDirection}
 use Rattle.reuse_tree.specs.declared.journal.head.PendingDirection.TheVariants as directions
 use Rattle.reuse_session.specs.declared.session.Session.{Session}
-use Rattle.reuse_session.specs.declared.reply.Response.{Response}
-use Rattle.reuse_session.specs.declared.reply.Response.TheVariants.{Changed, NothingChanged}
-use Rattle.reuse_session.specs.declared.reply.Refusal.{Refusal}
+use Rattle.reuse_command.specs.declared.reply.Response.{Response}
+use Rattle.reuse_command.specs.declared.reply.Response.TheVariants.{Changed, NothingChanged}
+use Rattle.reuse_command.specs.declared.reply.Refusal.{Refusal}
+use Rattle.reuse_journal.specs.Remembered.{Remembers}
+use Rattle.reuse_plan.specs.declared.counts.Counts.{Counts}
 
 -- the store of a session
 abbrev pub store_of : {S : Type 0} → Session S → S
@@ -35,19 +34,13 @@ store_of session = session.store
 abbrev pub is_broken : {S : Type 0} → Session S → Bool
 is_broken session = session.broken
 
+-- what the last run of a session counted, or its preview, which is no part of what it stands at
+abbrev pub counts_of : {S : Type 0} → Session S → Counts
+counts_of session = session.counts
+
 -- what a session remembers of the journal
 abbrev pub memory_of : {S : Type 0} → Session S → Memory
 memory_of session = session.history
-
--- a step as an entry that the head lists
-abbrev pub listed_as : Recorded → ListedEntry
-listed_as step = record { number = step.label.number; when = step.label.when; command = step.label.command; count = length step.changes }
-
--- this is remembered of the journal
-pub record Remembers (memory : Memory) (journal : Journal) : Type 0 where
-  pub done : memory.done ≡ map listed_as (reverse journal.done)
-  pub undone : memory.undone ≡ map listed_as (reverse journal.undone)
-  pub used : memory.used ≡ journal.used
 
 -- the session isn't broken, its store's files are the standing, and it remembers its journal
 pub record StandsOn {S : Type 0} (files : S → Files) (session : Session S) (held : State) : Type 0 where
@@ -58,22 +51,6 @@ pub record StandsOn {S : Type 0} (files : S → Files) (session : Session S) (he
 -- what the session remembers, and whether it is broken, are as they were
 abbrev pub IsKept : {S : Type 0} → Session S → Session S → Type 0
 IsKept old new = (memory_of new ≡ memory_of old) × (is_broken new ≡ is_broken old)
-
--- no path but this one holds something else
-abbrev pub IsSameBut : List ℕ → Files → Files → Type 0
-IsSameBut path before after = (other : List ℕ) → other ≢ path → get after other ≡ get before other
-
--- no path but these two holds something else
-abbrev pub IsSameButTwo : (one two : List ℕ) → Files → Files → Type 0
-IsSameButTwo one two before after = (other : List ℕ) → other ≢ one → other ≢ two → get after other ≡ get before other
-
--- the head's file is the very text that lists what is remembered, with nothing pending
-abbrev pub HasHeadText : Memory → Files → Type 0
-HasHeadText memory files = get files head_path ≡ Some (head_text (head_listing memory None))
-
--- the file of this number is the very text of the entry
-abbrev pub HasEntryText : ℕ → Entry → Files → Type 0
-HasEntryText number entry files = get files (entry_path number) ≡ Some (entry_text entry)
 
 -- the step leads from one tree to the other
 pub record Connects (step : Recorded) (before after : Files) : Type 0 where
@@ -148,14 +125,6 @@ StopsAfterRun command when first files = (second : State) × IsRun command when 
 abbrev pub StopsAfter : PendingDirection → State → Files → Type 0
 StopsAfter direction first files =
     (second : State) × (step : Recorded) × IsStep direction step first second × InDoubt first second files
-
--- the bytes that a head of so many entries takes at most
-abbrev pub head_room : ℕ → ℕ
-head_room entries = 128 + 7 * entries
-
--- how many entries are remembered
-abbrev pub listed_count : Memory → ℕ
-listed_count memory = length memory.done + length memory.undone
 
 -- ---- for private clauses
 

@@ -1,18 +1,16 @@
 -- Steps by their numbers, and what a session shows of one.
-use Rattle.std.specs.Prelude.{◌≡◌, ◌≢◌, ◌⊎◌, ℕ, Bool, true, false, ◌==◌, List, [], ◌∷◌, length, find, Option, Some, None, Result, Ok, Err}
-use Rattle.std.specs.List.{All, Contains, list_any}
+use Rattle.std.specs.Prelude.{◌≡◌, ◌≢◌, ◌⊎◌, ℕ, Bool, true, false, List, [], ◌∷◌, length, Result, Ok, Err}
+use Rattle.std.specs.List.{All, Contains}
 use Rattle.reuse_tree.specs.Files.{Files}
 use Rattle.reuse_tree.specs.declared.change.Change.{Change}
 use Rattle.reuse_tree.specs.Entry.{IsEntry, LeadsAll}
-use Rattle.reuse_session.specs.journal.History.{Memory, row_listing}
-use Rattle.reuse_session.specs.journal.Journal.{Recorded, Journal}
-use Rattle.reuse_session.specs.journal.JournalFiles.{number_of}
-use Rattle.reuse_session.specs.session.Machine.{Kept, Snapshots, row_of, rows_of}
-use Rattle.reuse_session.specs.declared.journal.history.ListedEntry.{ListedEntry}
-use Rattle.reuse_session.specs.declared.reply.Refusal.{Refusal}
-use Rattle.reuse_session.specs.declared.reply.Refusal.TheVariants.{NoSuchStep}
-use Rattle.reuse_session.specs.declared.reply.Row.{Row}
-use Rattle.reuse_session.specs.declared.reply.Shown.{Shown}
+use Rattle.reuse_journal.specs.Journal.{Recorded, Journal}
+use Rattle.reuse_journal.specs.JournalFiles.{number_of}
+use Rattle.reuse_session.specs.session.Machine.{Kept, Snapshots, rows_of}
+use Rattle.reuse_journal.specs.Labels.{row_of}
+use Rattle.reuse_command.specs.declared.reply.Refusal.{Refusal}
+use Rattle.reuse_command.specs.declared.reply.Refusal.TheVariants.{NoSuchStep}
+use Rattle.reuse_command.specs.declared.reply.Shown.{Shown}
 
 -- ---- a journal
 
@@ -58,24 +56,3 @@ pub record ShowsAt (state : Snapshots) (number : ℕ) (shown : Shown) : Type 0 w
   pub row : Contains (rows_of state) shown.row
   pub numbered : shown.row.number ≡ number
   pub changes : LedTo number shown.changes state.tree state.past ⊎ LedOn number shown.changes state.tree state.future
-
--- ---- what is remembered
-
--- one of the entries has the number
-abbrev pub lists : List ListedEntry → ℕ → Bool
-lists entries number = list_any (λ (entry : ListedEntry). entry.number == number) entries
-
--- ---- for private clauses
-
--- the first entry of the number
-abbrev pub entry_of : List ListedEntry → ℕ → Option ListedEntry
-entry_of entries number = find (λ (entry : ListedEntry). entry.number == number) entries
-
--- its row, of the entries done and then of those undone
-abbrev pub row_among : Option ListedEntry → Option ListedEntry → Option Row
-row_among (Some entry) other = Some (row_listing true entry)
-row_among None (Some entry) = Some (row_listing false entry)
-row_among None None = None
-
-abbrev pub row_in : Memory → ℕ → Option Row
-row_in memory number = row_among (entry_of memory.done number) (entry_of memory.undone number)

@@ -2,22 +2,22 @@
 use Rattle.std.specs.Prelude.{◌≡◌, ◌⊎◌, ◌≤◌, ◌<◌, ℕ, Bool, true, false, List, [], ◌∷◌, Option, Some, None, Result, Ok, Err, IfErr}
 use Rattle.reuse_tree.specs.Files.{Files}
 use Rattle.reuse_tree.specs.declared.store.Store.{Ghosts}
-use Rattle.reuse_session.specs.session.Answer.{HasCause}
-use Rattle.reuse_session.specs.journal.Journal.{State}
-use Rattle.reuse_session.specs.journal.Losses.{AreSafeOn, AreInDoubt}
+use Rattle.reuse_command.specs.Answer.{HasCause}
+use Rattle.reuse_journal.specs.Journal.{State}
+use Rattle.reuse_journal.specs.Losses.{AreSafeOn, AreInDoubt}
 use Rattle.reuse_session.specs.session.Machine.{Snapshots}
 use Rattle.reuse_session.specs.session.Model.{Gives}
 use Rattle.reuse_session.specs.session.Requests.{MayFail}
 use Rattle.reuse_session.specs.session.Session.{HoldsSnapshots}
-use Rattle.reuse_session.specs.journal.Standing.{IsStanding, InDoubt}
+use Rattle.reuse_journal.specs.Standing.{IsStanding, InDoubt}
 use Rattle.reuse_session.specs.declared.events.Event.{Event}
 use Rattle.reuse_session.specs.declared.events.Event.TheVariants as event
-use Rattle.reuse_session.specs.declared.request.Request.{Request}
-use Rattle.reuse_session.specs.declared.reply.Response.{Response}
-use Rattle.reuse_session.specs.declared.reply.Response.TheVariants.{Opened}
-use Rattle.reuse_session.specs.declared.reply.Refusal.{Refusal}
-use Rattle.reuse_session.specs.declared.failure.Failure.TheVariants.{Interrupted}
-use Rattle.reuse_session.specs.declared.reply.Refusal.TheVariants.{Broken, Failed}
+use Rattle.reuse_command.specs.declared.request.Request.{Request}
+use Rattle.reuse_command.specs.declared.reply.Response.{Response}
+use Rattle.reuse_command.specs.declared.reply.Response.TheVariants.{Opened}
+use Rattle.reuse_command.specs.declared.reply.Refusal.{Refusal}
+use Rattle.reuse_command.specs.declared.failure.Failure.TheVariants.{Interrupted}
+use Rattle.reuse_command.specs.declared.reply.Refusal.TheVariants.{Broken, Failed}
 
 -- Where a run is: whether a session is open, the state of the machine, and, where a call stopped since the last
 -- opening, the state after its step, which may have been reached or not.

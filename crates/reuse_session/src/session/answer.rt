@@ -2,16 +2,16 @@
 ghost use Rattle.std.specs.Prelude.{◌≡◌, ◌↔◌, true};
 ghost use Rattle.reuse_session.specs.session.Requests.{as_answer};
 
-use crate::path_outcome::PathOutcomes;
-use crate::reply::{Answer, Refusal, Response, Reverted, Rows, Shown};
-use crate::request::{Call, Request};
 use crate::session::Session;
+use reuse_command::path_outcome::PathOutcomes;
+use reuse_command::reply::{Answer, Refusal, Response, Reverted, Rows, Shown};
+use reuse_command::request::{Call, Request};
 use reuse_tree::{Moment, Store};
 use std::alloc::Global;
 
 impl<S: Store + Drop> Session<S> {
-    ghost use Rattle.reuse_session.specs.session.Answer.{TellsNoFault};
-    ghost use Rattle.reuse_session.specs.journal.Journal.{State};
+    ghost use Rattle.reuse_command.specs.Answer.{TellsNoFault};
+    ghost use Rattle.reuse_journal.specs.Journal.{State};
     ghost use Rattle.reuse_session.specs.session.Requests.{IsAnswered, ReadsOnlyWithCause, Previews};
     ghost use Rattle.reuse_session.specs.session.Session.{store_of, is_broken, StandsOn};
 

@@ -8,26 +8,28 @@ ghost use Rattle.std.specs.List.{Contains};
 ghost use Rattle.std.specs.List.Sorted.{IsStrictlyIncreasing};
 ghost use Rattle.reuse_tree.specs.Asked.{Leaves, IsLater};
 ghost use Rattle.reuse_tree.specs.Files.{Files, Clashes, tree_of};
-ghost use Rattle.reuse_session.specs.session.Forgetting.{AreInOrder, PutsAndRemoves, PutsAndRemovesSome, Removes, RemovesSome, memory_besides};
-ghost use Rattle.reuse_session.specs.journal.History.{head_listing};
-ghost use Rattle.reuse_session.specs.session.Session.{head_room, listed_count};
+ghost use Rattle.reuse_session.specs.session.Forgetting.{AreInOrder, PutsAndRemoves, PutsAndRemovesSome, Removes, RemovesSome};
+ghost use Rattle.reuse_journal.specs.Numbered.{memory_besides};
+ghost use Rattle.reuse_journal.specs.History.{head_listing};
+ghost use Rattle.reuse_journal.specs.Remembered.{head_room, listed_count};
 ghost use Rattle.reuse_tree.specs.Head.{head_text, IsGoodHead, IsSoundHead};
-ghost use Rattle.reuse_session.specs.journal.JournalFiles.{head_path, entry_path};
-ghost use Rattle.reuse_session.specs.journal.Losses.{HaveTree};
+ghost use Rattle.reuse_journal.specs.JournalFiles.{head_path, entry_path};
+ghost use Rattle.reuse_journal.specs.Losses.{HaveTree};
 
-use crate::failure::Failure;
-use crate::journal::files::{HeadPath, entry_path, put_head};
-use crate::journal::history::History;
-use crate::reply::Refusal;
 use crate::session::Session;
+use reuse_command::failure::Failure;
+use reuse_command::reply::Refusal;
+use reuse_journal::files::{HeadPath, entry_path, put_head};
+use reuse_journal::history::History;
 use reuse_tree::{Cause, EntryNumbers, PathText, Store};
 use std::alloc::{AllocError, Global};
 
 impl<S: Store + Drop> Session<S> {
-    ghost use Rattle.reuse_session.specs.session.Answer.{IsEarly, IsFailure, TellsNoFault};
+    ghost use Rattle.reuse_command.specs.Answer.{IsEarly, IsFailure, TellsNoFault};
     ghost use Rattle.reuse_session.specs.session.Calls.{IsCall};
-    ghost use Rattle.reuse_session.specs.session.Forgetting.{AreInOrder, Forgets, IsForgetRefusal, IsWithoutOldest, LeavesForgetting, SurvivesToForget, all_numbers, alone, first_unlisted, memory_besides, numbers_in, state_besides};
-    ghost use Rattle.reuse_session.specs.journal.Journal.{State};
+    ghost use Rattle.reuse_session.specs.session.Forgetting.{AreInOrder, Forgets, IsForgetRefusal, IsWithoutOldest, LeavesForgetting, SurvivesToForget, alone, numbers_in, state_besides};
+    ghost use Rattle.reuse_journal.specs.Numbered.{all_numbers, first_unlisted, memory_besides};
+    ghost use Rattle.reuse_journal.specs.Journal.{State};
     ghost use Rattle.reuse_session.specs.session.Machine.{Snapshots};
     ghost use Rattle.reuse_session.specs.session.Session.{store_of, is_broken, memory_of, StandsOn, StandsAt};
 

@@ -1,28 +1,30 @@
 //! Previews: what a call would do, alone or with the changes of the same plan. They only read.
 ghost use Rattle.std.specs.Prelude.{◌≡◌, ◌↔◌, ◌++◌, ◌∷◌, [], List, true, false, length, None, Some, IfOk, IfErr, OnOk};
-ghost use Rattle.reuse_session.specs.session.Answer.{TellsNoFault, IsReadRefusal};
-ghost use Rattle.reuse_session.specs.plan.Counted.{counts_of, IsCounted};
-ghost use Rattle.reuse_session.specs.session.PathOutcomes.{path_outcomes_of, first_refusal};
-ghost use Rattle.reuse_session.specs.journal.History.{entries_ahead};
-ghost use Rattle.reuse_session.specs.journal.Journal.{State, ahead, changes_ahead, end_of};
-ghost use Rattle.reuse_session.specs.session.Machine.{Snapshots, is_full, run_path_outcomes, undo_path_outcomes, redo_path_outcomes, step_path_outcomes};
-ghost use Rattle.reuse_session.specs.plan.Outcome.{outcome_of, edits_of};
-ghost use Rattle.reuse_session.specs.plan.Plan.{IsPlan, Records};
+ghost use Rattle.reuse_command.specs.Answer.{TellsNoFault, IsReadRefusal};
+ghost use Rattle.reuse_plan.specs.Counted.{IsCounted};
+ghost use Rattle.reuse_session.specs.session.Session.{counts_of};
+ghost use Rattle.reuse_plan.specs.PathOutcomes.{path_outcomes_of, first_refusal};
+ghost use Rattle.reuse_journal.specs.History.{entries_ahead};
+ghost use Rattle.reuse_journal.specs.Journal.{State, ahead, changes_ahead, end_of};
+ghost use Rattle.reuse_session.specs.session.Machine.{Snapshots, run_path_outcomes, undo_path_outcomes, redo_path_outcomes, step_path_outcomes};
+ghost use Rattle.reuse_journal.specs.Labels.{is_full};
+ghost use Rattle.reuse_plan.specs.Outcome.{outcome_of, edits_of};
+ghost use Rattle.reuse_plan.specs.Plan.{IsPlan, Records};
 ghost use Rattle.reuse_session.specs.session.Previews.{run_path_outcomes_on, path_outcomes_alone, PreviewsReplay, ReadsOnly, IsPreviewRefusal};
 ghost use Rattle.reuse_session.specs.session.Session.{store_of, is_broken, memory_of, StandsOn, StandsAt};
 ghost use Rattle.reuse_tree.specs.Entry.{IsEntry};
 ghost use Rattle.reuse_tree.specs.declared.direction.Direction.TheVariants as go;
-ghost use Rattle.reuse_session.specs.declared.journal.history.ListedEntry.{ListedEntry};
+ghost use Rattle.reuse_journal.specs.declared.history.ListedEntry.{ListedEntry};
 
-use crate::command::Command;
-use crate::journal::files::read_entry;
-use crate::journal::history::ListedEntry;
-use crate::path_outcome::{PathOutcomes, Previewed};
-use crate::plan::run::plan_preview;
-use crate::reply::Refusal;
 use crate::session::Session;
 use crate::session::replay::end_of;
 use crate::session::replay_path_outcomes::replay_path_outcomes;
+use reuse_command::command::Command;
+use reuse_command::path_outcome::{PathOutcomes, Previewed};
+use reuse_command::reply::Refusal;
+use reuse_journal::files::read_entry;
+use reuse_journal::history::ListedEntry;
+use reuse_plan::run::plan_preview;
 use reuse_tree::{Direction, Store};
 use std::alloc::Global;
 

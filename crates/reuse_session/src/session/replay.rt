@@ -2,20 +2,21 @@
 ghost use Rattle.std.specs.Prelude.{◌≡◌, ◌↔◌, ◌⊎◌, ◌++◌, ◌∷◌, [], List, true, false, IfErr};
 ghost use Rattle.reuse_tree.specs.Head.{listed_direction};
 ghost use Rattle.reuse_tree.specs.declared.direction.Direction.TheVariants as go;
-ghost use Rattle.reuse_session.specs.session.Answer.{TellsNoFault, IsOpenRefusal};
+ghost use Rattle.reuse_command.specs.Answer.{TellsNoFault, IsOpenRefusal};
 ghost use Rattle.reuse_session.specs.session.Calls.{IsCall, LeavesReplay};
-ghost use Rattle.reuse_session.specs.journal.History.{entries_ahead};
-ghost use Rattle.reuse_session.specs.journal.Journal.{State, Replays, Undoes, Redoes, ahead, end_of, reply_of};
-ghost use Rattle.reuse_session.specs.journal.Losses.{SurvivesCall, IsNextBy};
+ghost use Rattle.reuse_journal.specs.History.{entries_ahead};
+ghost use Rattle.reuse_journal.specs.Journal.{State, Replays, Undoes, Redoes, ahead, end_of, reply_of};
+ghost use Rattle.reuse_journal.specs.Losses.{IsNextBy};
+ghost use Rattle.reuse_session.specs.session.SafeCalls.{SurvivesCall};
 ghost use Rattle.reuse_session.specs.session.Machine.{Snapshots, undone, redone};
 ghost use Rattle.reuse_session.specs.session.Session.{store_of, is_broken, memory_of, Follows, StandsAt, StandsOn};
-ghost use Rattle.reuse_session.specs.declared.journal.history.ListedEntry.{ListedEntry};
+ghost use Rattle.reuse_journal.specs.declared.history.ListedEntry.{ListedEntry};
 
-use crate::journal::files::read_entry;
-use crate::journal::history::ListedEntry;
-use crate::journal::prepare::prepare;
-use crate::reply::{Paths, Refusal, Response};
 use crate::session::Session;
+use reuse_command::reply::{Paths, Refusal, Response};
+use reuse_journal::files::read_entry;
+use reuse_journal::history::ListedEntry;
+use reuse_journal::prepare::prepare;
 use reuse_tree::{Direction, Pending, PendingDirection, Store};
 use std::alloc::Global;
 

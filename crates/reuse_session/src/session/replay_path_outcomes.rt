@@ -3,12 +3,12 @@ ghost use Rattle.std.specs.Prelude.{◌≡◌, IfOk, IfErr, true};
 ghost use Rattle.reuse_tree.specs.Change.{path_of, IsProper};
 ghost use Rattle.reuse_tree.specs.Entry.{IsEntry, IsSmall};
 ghost use Rattle.reuse_tree.specs.Tree.{is_of_tree};
-ghost use Rattle.reuse_session.specs.session.PathOutcomes.{IsPathOutcomeOf, ArePathOutcomesOf};
-ghost use Rattle.reuse_session.specs.session.Answer.{IsEarlyFailure};
-ghost use Rattle.reuse_session.specs.session.Reading.{tree_of, OnlyReads, ReadsAlone, RefusedAsRead};
+ghost use Rattle.reuse_plan.specs.PathOutcomes.{IsPathOutcomeOf, ArePathOutcomesOf};
+ghost use Rattle.reuse_command.specs.Answer.{IsEarlyFailure};
+ghost use Rattle.reuse_command.specs.Reading.{tree_of, OnlyReads, ReadsAlone, RefusedAsRead};
 
-use crate::path_outcome::{PathOutcome, PathOutcomes};
-use crate::reply::Refusal;
+use reuse_command::path_outcome::{PathOutcome, PathOutcomes};
+use reuse_command::reply::Refusal;
 use reuse_tree::apply_changes::can_be_made;
 use reuse_tree::{Change, Direction, Store};
 use std::alloc::Global;

@@ -1,28 +1,29 @@
 //! A session takes a step back that need not be the last.
 ghost use Rattle.std.specs.Prelude.{◌≡◌, ◌↔◌, ◌⊎◌, length, not, IfErr, IfOk, true, false};
-ghost use Rattle.reuse_session.specs.session.Answer.{IsRunAnswer};
+ghost use Rattle.reuse_command.specs.Answer.{IsRunAnswer};
 ghost use Rattle.reuse_tree.specs.Listing.{ArePaths, is_among};
 ghost use Rattle.reuse_session.specs.session.RevertCalls.{as_run, left_of};
 
-use crate::command::Command;
-use crate::journal::prepare::paths_of;
-use crate::reply::{Paths, Refusal, Response, Reverted};
 use crate::session::Session;
 use crate::session::later_steps::read_back;
+use reuse_command::command::Command;
+use reuse_command::reply::{Paths, Refusal, Response, Reverted};
+use reuse_journal::prepare::paths_of;
 use reuse_tree::{Moment, PathText, Store, is_among};
 use std::alloc::Global;
 
 impl<S: Store + Drop> Session<S> {
     ghost use Rattle.reuse_tree.specs.Asked.{OnlyReads};
-    ghost use Rattle.reuse_session.specs.session.Answer.{TellsNoFault, IsNoClash, IsNoStep};
+    ghost use Rattle.reuse_command.specs.Answer.{TellsNoFault, IsNoClash, IsNoStep};
     ghost use Rattle.reuse_session.specs.session.Calls.{IsCall};
-    ghost use Rattle.reuse_session.specs.journal.Journal.{State};
-    ghost use Rattle.reuse_session.specs.journal.Losses.{SurvivesCall};
-    ghost use Rattle.reuse_session.specs.session.Machine.{Snapshots, is_full};
+    ghost use Rattle.reuse_journal.specs.Journal.{State};
+    ghost use Rattle.reuse_session.specs.session.SafeCalls.{SurvivesCall};
+    ghost use Rattle.reuse_session.specs.session.Machine.{Snapshots};
+    ghost use Rattle.reuse_journal.specs.Labels.{is_full};
     ghost use Rattle.reuse_session.specs.session.RevertCalls.{as_run, GivesRevert, GivesRevertAt, IsAfterRevert, Reverts, RevertFollows, LeavesRevert};
     ghost use Rattle.reuse_session.specs.session.Previews.{ReadsOnly};
     ghost use Rattle.reuse_session.specs.session.Session.{store_of, is_broken, memory_of, StandsOn, StandsAt};
-    ghost use Rattle.reuse_session.specs.session.Showing.{lists};
+    ghost use Rattle.reuse_journal.specs.Numbered.{lists};
 
     /// Takes the changes of a step back, on whatever the tree is now, as a new step. With
     /// `skip_moved` a change that can't be taken back is left out. It answers the paths that

@@ -1,20 +1,21 @@
 //! A session shows what a step changed.
 ghost use Rattle.std.specs.Prelude.{◌≡◌, ◌↔◌, ◌||◌, true, false, IfOk};
 
-use crate::journal::files::read_entry;
-use crate::reply::{Refusal, Shown};
 use crate::session::Session;
+use reuse_command::reply::{Refusal, Shown};
+use reuse_journal::files::read_entry;
 use reuse_tree::{EntryChanges, Store};
 use std::alloc::Global;
 
 impl<S: Store + Drop> Session<S> {
     ghost use Rattle.reuse_tree.specs.Asked.{OnlyReads};
-    ghost use Rattle.reuse_session.specs.session.Answer.{TellsNoFault, RefusedAsRead};
+    ghost use Rattle.reuse_command.specs.Answer.{TellsNoFault, RefusedAsRead};
     ghost use Rattle.reuse_session.specs.session.Calls.{IsCall};
-    ghost use Rattle.reuse_session.specs.journal.Journal.{State};
+    ghost use Rattle.reuse_journal.specs.Journal.{State};
     ghost use Rattle.reuse_session.specs.session.Machine.{Snapshots};
     ghost use Rattle.reuse_session.specs.session.Session.{store_of, is_broken, memory_of, IsKept, StandsOn, StandsAt};
-    ghost use Rattle.reuse_session.specs.session.Showing.{lists, ShowsIn, ShowsAt};
+    ghost use Rattle.reuse_session.specs.session.Showing.{ShowsIn, ShowsAt};
+    ghost use Rattle.reuse_journal.specs.Numbered.{lists};
 
     /// The step of this number, done or undone: its row of the log, and what it changed.
     ///

@@ -7,7 +7,6 @@ pub mod DrawnLemmas
 pub mod DrawnLines
 pub mod PreviewedLemmas
 pub mod ForgettingLemmas
-pub mod LockLemmas
 pub mod ModelLemmas
 pub mod SafeCalls
 pub mod TextLemmas

@@ -2,21 +2,21 @@
 use Rattle.std.specs.Prelude.{◌≡◌, ◌⊎◌, ℕ, Bool, List, [], ◌++◌, Result, Ok, Err, true, false}
 use Rattle.std.specs.List.{list_any}
 use Rattle.std.specs.declared.vec.Vec.{Vec}
-use Rattle.reuse_session.specs.declared.path_outcome.PathOutcome.{PathOutcome}
-use Rattle.reuse_session.specs.declared.path_outcome.PathOutcome.TheVariants.{Refused}
-use Rattle.reuse_session.specs.declared.reply.Refusal.{Refusal}
-use Rattle.reuse_session.specs.declared.reply.Response.TheVariants.{Log, Preview, Shown}
-use Rattle.reuse_undo.specs.declared.run.fault.Fault.{Fault}
-use Rattle.reuse_undo.specs.declared.run.fault.Fault.TheVariants.{WouldRefuse, NoDiff, Write, Memory}
-use Rattle.reuse_undo.specs.declared.cli.line.PrintOptions.{PrintOptions}
-use Rattle.reuse_undo.specs.declared.cli.line.OutputFormat.{OutputFormat}
-use Rattle.reuse_undo.specs.declared.cli.line.OutputFormat.TheVariants.{Diff, Json}
-use Rattle.reuse_session.specs.declared.reply.Response.{Response}
-use Rattle.reuse_undo.specs.declared.print.shown_name.Names.{Names}
-use Rattle.reuse_undo.specs.print.DiffText.{AreRecords}
-use Rattle.reuse_undo.specs.print.Lines.{IsResponseText, path_count}
-use Rattle.reuse_undo.specs.print.Objects.{ArePathOutcomeObjects, AreRowObjects, IsShownObject}
-use Rattle.reuse_undo.specs.print.Outputs.{AddsFront, AddsSome}
+use Rattle.reuse_command.specs.declared.path_outcome.PathOutcome.{PathOutcome}
+use Rattle.reuse_command.specs.declared.path_outcome.PathOutcome.TheVariants.{Refused}
+use Rattle.reuse_command.specs.declared.reply.Refusal.{Refusal}
+use Rattle.reuse_command.specs.declared.reply.Response.TheVariants.{Log, Preview, Shown}
+use Rattle.reuse_print.specs.declared.fault.Fault.{Fault}
+use Rattle.reuse_print.specs.declared.fault.Fault.TheVariants.{WouldRefuse, NoDiff, Write, Memory}
+use Rattle.reuse_arguments.specs.declared.line.PrintOptions.{PrintOptions}
+use Rattle.reuse_arguments.specs.declared.line.OutputFormat.{OutputFormat}
+use Rattle.reuse_arguments.specs.declared.line.OutputFormat.TheVariants.{Diff, Json}
+use Rattle.reuse_command.specs.declared.reply.Response.{Response}
+use Rattle.reuse_shown.specs.declared.shown_name.Names.{Names}
+use Rattle.reuse_diff.specs.DiffText.{AreRecords}
+use Rattle.reuse_print.specs.Lines.{IsResponseText, path_count}
+use Rattle.reuse_print.specs.Objects.{ArePathOutcomeObjects, AreRowObjects, IsShownObject}
+use Rattle.reuse_print.specs.Outputs.{AddsFront, AddsSome}
 
 -- whether the call would be refused so
 abbrev pub is_refusal : PathOutcome → Bool

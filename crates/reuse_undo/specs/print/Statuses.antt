@@ -2,15 +2,13 @@
 use Rattle.std.specs.Prelude.{ℕ, zero, suc, max, Result, Ok, Err, true, false}
 use Rattle.reuse_notice.specs.declared.adding.NoticeRefusal.TheVariants as notices
 use Rattle.reuse_undo.specs.declared.run.denial.Denial.{Denial}
-use Rattle.reuse_undo.specs.declared.run.fault.Fault.{Fault}
-use Rattle.reuse_undo.specs.declared.cli.line.Asked.{Asked}
-use Rattle.reuse_undo.specs.declared.cli.line.Asked.TheVariants.{Line, Recover, Forget}
-use Rattle.reuse_undo.specs.declared.cli.line.ChangeStatus.{ChangeStatus}
-use Rattle.reuse_undo.specs.declared.cli.line.ChangeStatus.TheVariants.{Zero, One}
-use Rattle.reuse_undo.specs.declared.cli.line.LineFault.{LineFault}
+use Rattle.reuse_print.specs.declared.fault.Fault.{Fault}
+use Rattle.reuse_arguments.specs.declared.line.ChangeStatus.{ChangeStatus}
+use Rattle.reuse_arguments.specs.declared.line.ChangeStatus.TheVariants.{Zero, One}
+use Rattle.reuse_arguments.specs.declared.line.LineFault.{LineFault}
 use Rattle.reuse_undo.specs.declared.print.status.Ending.{Ending}
 use Rattle.reuse_undo.specs.declared.print.status.Ending.TheVariants.{BadClock, NoLine, Denied, Called}
-use Rattle.reuse_undo.specs.declared.cli.line.LineFault.TheVariants.{Usage, Help, BadPath, BadAdditions, NothingToAmend, BadGlob, Unreadable, Memory}
+use Rattle.reuse_arguments.specs.declared.line.LineFault.TheVariants.{Usage, Help, BadPath, BadAdditions, NothingToAmend, BadGlob, Unreadable, Memory}
 
 -- after a call, by how many paths changed, or would change in a dry run: 1 where it was refused or failed, and 1 where
 -- a path changed and that is asked for
@@ -41,12 +39,6 @@ exit_status_of (NoLine fault true) = line_status_of fault
 exit_status_of (NoLine fault false) = max (line_status_of fault) 1
 exit_status_of (Denied denial) = 1
 exit_status_of (Called outcome on_change) = call_status_of on_change outcome
-
--- whether a change is to end with 1: only a line asks for that
-abbrev pub change_status_of : Asked → ChangeStatus
-change_status_of (Line line) = line.change_status
-change_status_of (Recover recovery) = Zero
-change_status_of (Forget forgetting) = Zero
 
 -- how a call ended, of which this came: it was made, or was to be made, or the program denied it
 abbrev pub ending_of : ChangeStatus → Result (Result ℕ Fault) Denial → Ending

@@ -1,13 +1,13 @@
 -- Which faults making a diff gives.
 use Rattle.std.specs.Prelude.{◌≡◌, ◌≢◌, ◌<◌}
-use Rattle.reuse_session.specs.declared.failure.Fault.TheVariants as stores
+use Rattle.reuse_command.specs.declared.failure.Fault.TheVariants as stores
 use Rattle.reuse_tree.specs.declared.store.Store.{Ghosts}
-use Rattle.reuse_session.specs.session.Answer.{IsEarlyFailure}
-use Rattle.reuse_session.specs.declared.reply.Refusal.{Refusal}
-use Rattle.reuse_session.specs.declared.failure.Failure.TheVariants.{Fault as StoreFailed}
-use Rattle.reuse_session.specs.declared.reply.Refusal.TheVariants.{Failed}
-use Rattle.reuse_undo.specs.declared.run.fault.Fault.{Fault}
-use Rattle.reuse_undo.specs.declared.run.fault.Fault.TheVariants.{NoDiff, Memory}
+use Rattle.reuse_command.specs.Answer.{IsEarlyFailure}
+use Rattle.reuse_command.specs.declared.reply.Refusal.{Refusal}
+use Rattle.reuse_command.specs.declared.failure.Failure.TheVariants.{Fault as StoreFailed}
+use Rattle.reuse_command.specs.declared.reply.Refusal.TheVariants.{Failed}
+use Rattle.reuse_print.specs.declared.fault.Fault.{Fault}
+use Rattle.reuse_print.specs.declared.fault.Fault.TheVariants.{NoDiff, Memory}
 
 -- what was to be drawn can't be read: a device fault is told where the device failed, an honest store tells no clash,
 -- and of an honest store nothing is told but an early failure

@@ -3,22 +3,22 @@ use Rattle.std.specs.Prelude.{◌≡◌, ◌<◌, ◌≤◌, ℕ, Bool, List, Re
 use Rattle.reuse_tree.specs.Asked.{OnlyReads}
 use Rattle.reuse_tree.specs.Files.{Files}
 use Rattle.reuse_tree.specs.declared.store.Store.{Ghosts}
-use Rattle.reuse_session.specs.session.Answer.{HasCause}
-use Rattle.reuse_session.specs.journal.Journal.{State}
+use Rattle.reuse_command.specs.Answer.{HasCause}
+use Rattle.reuse_journal.specs.Journal.{State}
 use Rattle.reuse_session.specs.session.Machine.{Snapshots}
-use Rattle.reuse_session.specs.journal.Standing.{IsStanding}
+use Rattle.reuse_journal.specs.Standing.{IsStanding}
 use Rattle.reuse_session.specs.session.Stops.{Point, HoldState, AreLeft, MayBeFound}
 use Rattle.reuse_undo.specs.run.AfterStops.{AnswersAfterStop}
 use Rattle.reuse_undo.specs.run.Drawn.{IsDrawnText, WouldLeave}
-use Rattle.reuse_undo.specs.print.Outputs.{AddsSome}
+use Rattle.reuse_print.specs.Outputs.{AddsSome}
 use Rattle.reuse_session.specs.session.Requests.{HasCallClash, IsReading}
 use Rattle.reuse_undo.specs.run.RunLine.{RequestLeaves, FollowsModel, ReportsAnswer, IfRefused, IfNoDiff}
 use Rattle.reuse_undo.specs.print.Responses.{ReportsFailure}
 use Rattle.reuse_undo.specs.print.WriterFaults.{IsUndrawn}
-use Rattle.reuse_undo.specs.declared.run.fault.Fault.{Fault}
-use Rattle.reuse_undo.specs.declared.cli.line.OutputFormat.TheVariants.{Diff}
-use Rattle.reuse_undo.specs.declared.cli.line.PrintOptions.{PrintOptions}
-use Rattle.reuse_session.specs.declared.request.Request.{Request}
+use Rattle.reuse_print.specs.declared.fault.Fault.{Fault}
+use Rattle.reuse_arguments.specs.declared.line.OutputFormat.TheVariants.{Diff}
+use Rattle.reuse_arguments.specs.declared.line.PrintOptions.{PrintOptions}
+use Rattle.reuse_command.specs.declared.request.Request.{Request}
 
 -- The store went from `old` to `new`, what the answer is written to from `before` to `after`, and this is reported.
 pub record CarriesOut {S O : Type 0} (store : Ghosts S) (contents : O → List ℕ) (has_failed : O → Bool)

@@ -11,22 +11,22 @@ use Rattle.reuse_tree.specs.declared.change.Change.{Change}
 use Rattle.reuse_tree.specs.declared.store.Store.{Ghosts}
 use Rattle.reuse_tree.specs.declared.direction.Direction.{Direction}
 use Rattle.reuse_tree.specs.declared.direction.Direction.TheVariants as go
-use Rattle.reuse_session.specs.journal.Journal.{State}
+use Rattle.reuse_journal.specs.Journal.{State}
 use Rattle.reuse_session.specs.session.Session.{store_of, StandsOn}
-use Rattle.reuse_session.specs.declared.path_outcome.PathOutcome.{PathOutcome}
-use Rattle.reuse_session.specs.declared.path_outcome.Previewed.{Previewed}
-use Rattle.reuse_session.specs.declared.reply.Refusal.{Refusal}
-use Rattle.reuse_session.specs.declared.reply.Response.{Response}
-use Rattle.reuse_session.specs.declared.reply.Response.TheVariants.{Preview}
+use Rattle.reuse_command.specs.declared.path_outcome.PathOutcome.{PathOutcome}
+use Rattle.reuse_command.specs.declared.path_outcome.Previewed.{Previewed}
+use Rattle.reuse_command.specs.declared.reply.Refusal.{Refusal}
+use Rattle.reuse_command.specs.declared.reply.Response.{Response}
+use Rattle.reuse_command.specs.declared.reply.Response.TheVariants.{Preview}
 use Rattle.reuse_session.specs.declared.session.Session.{Session}
-use Rattle.reuse_undo.specs.print.DiffText.{IsDiff}
-use Rattle.reuse_undo.specs.print.RowLines.{AreJoined}
+use Rattle.reuse_diff.specs.DiffText.{IsDiff}
+use Rattle.reuse_shown.specs.JoinedTexts.{AreJoined}
 use Rattle.reuse_session.specs.session.Requests.{IsAnswered, Makes}
-use Rattle.reuse_undo.specs.print.Lines.{IsResponseText}
+use Rattle.reuse_print.specs.Lines.{IsResponseText}
 use Rattle.reuse_undo.specs.print.Responses.{is_refused, IsAccepted}
-use Rattle.reuse_session.specs.declared.request.Request.{Request}
-use Rattle.reuse_session.specs.declared.request.Request.TheVariants as requests
-use Rattle.reuse_undo.specs.declared.print.shown_name.Names.{Names}
+use Rattle.reuse_command.specs.declared.request.Request.{Request}
+use Rattle.reuse_command.specs.declared.request.Request.TheVariants as requests
+use Rattle.reuse_shown.specs.declared.shown_name.Names.{Names}
 use Rattle.reuse_undo.specs.declared.run.line.planned.PlannedChanges.{PlannedChanges}
 
 -- the diff of what a path holds in the one tree and in the other

@@ -4,18 +4,18 @@ use Rattle.std.specs.Fmt.{decimal}
 use Rattle.std.specs.List.{flat_map}
 use Rattle.reuse_tree.specs.Files.{Files}
 use Rattle.reuse_session.specs.session.Forgetting.{first_absent, numbers_in, state_besides, Forgets}
-use Rattle.reuse_session.specs.journal.Journal.{Journal, State}
-use Rattle.reuse_session.specs.journal.Opening.{OpensOn}
-use Rattle.reuse_session.specs.journal.Standing.{IsStanding}
-use Rattle.reuse_session.specs.declared.reply.Refusal.{Refusal}
-use Rattle.reuse_session.specs.declared.failure.Failure.TheVariants as failures
-use Rattle.reuse_session.specs.declared.reply.Refusal.TheVariants as refusals
-use Rattle.reuse_undo.specs.print.Outputs.{Adds, AddsFront}
+use Rattle.reuse_journal.specs.Journal.{Journal, State}
+use Rattle.reuse_journal.specs.Opening.{OpensOn}
+use Rattle.reuse_journal.specs.Standing.{IsStanding}
+use Rattle.reuse_command.specs.declared.reply.Refusal.{Refusal}
+use Rattle.reuse_command.specs.declared.failure.Failure.TheVariants as failures
+use Rattle.reuse_command.specs.declared.reply.Refusal.TheVariants as refusals
+use Rattle.reuse_print.specs.Outputs.{Adds, AddsFront}
 use Rattle.reuse_undo.specs.run.RunLine.{IsUnopened}
-use Rattle.reuse_undo.specs.declared.run.fault.Fault.{Fault}
-use Rattle.reuse_undo.specs.declared.run.fault.Fault.TheVariants as faults
-use Rattle.reuse_undo.specs.declared.cli.line.Steps.{Steps}
-use Rattle.reuse_undo.specs.declared.cli.line.Steps.TheVariants.{All, Numbers}
+use Rattle.reuse_print.specs.declared.fault.Fault.{Fault}
+use Rattle.reuse_print.specs.declared.fault.Fault.TheVariants as faults
+use Rattle.reuse_arguments.specs.declared.line.Steps.{Steps}
+use Rattle.reuse_arguments.specs.declared.line.Steps.TheVariants.{All, Numbers}
 
 -- the numbers that are asked for, of a journal
 abbrev pub asked_numbers : Steps → Journal → List ℕ

@@ -5,9 +5,9 @@ use Rattle.reuse_session.specs.session.Stops.{Point}
 use Rattle.reuse_undo.specs.run.AfterStops.{AnswersAfterStop}
 use Rattle.reuse_undo.specs.run.CarriedOut.{CarriesOut}
 use Rattle.reuse_undo.specs.run.RunLine.{ReportsAnswer}
-use Rattle.reuse_undo.specs.declared.run.fault.Fault.{Fault}
-use Rattle.reuse_undo.specs.declared.cli.line.PrintOptions.{PrintOptions}
-use Rattle.reuse_session.specs.declared.request.Request.{Request}
+use Rattle.reuse_print.specs.declared.fault.Fault.{Fault}
+use Rattle.reuse_arguments.specs.declared.line.PrintOptions.{PrintOptions}
+use Rattle.reuse_command.specs.declared.request.Request.{Request}
 
 -- a line that was carried out: what it asked for, its store and what its answer is written to, each before and after,
 -- and what was reported

@@ -2,17 +2,17 @@
 use Rattle.std.specs.Prelude.{◌≡◌, ℕ, Bool, List, [], ◌∷◌, ◌++◌, length, Result, Ok, Err, codes}
 use Rattle.reuse_tree.specs.Files.{Files}
 use Rattle.reuse_tree.specs.declared.cause.Cause.{Cause}
-use Rattle.reuse_session.specs.session.Answer.{IsEarly, IsOpenRefusal, TellsNoFault}
-use Rattle.reuse_session.specs.journal.Recovery.{RecoversFiles, RefusesRecovery, StopsRecovering}
-use Rattle.reuse_session.specs.declared.reply.Recovered.{Recovered}
-use Rattle.reuse_session.specs.declared.reply.Refusal.{Refusal}
-use Rattle.reuse_session.specs.declared.failure.Failure.TheVariants.{Interrupted}
-use Rattle.reuse_session.specs.declared.reply.Refusal.TheVariants.{Failed}
-use Rattle.reuse_undo.specs.declared.run.fault.Fault.{Fault}
-use Rattle.reuse_undo.specs.declared.run.fault.Fault.TheVariants.{Refused, Write, Memory}
-use Rattle.reuse_undo.specs.declared.print.shown_name.Names.{Names}
-use Rattle.reuse_undo.specs.print.Lines.{lines_of}
-use Rattle.reuse_undo.specs.print.Outputs.{Adds, AddsFront}
+use Rattle.reuse_command.specs.Answer.{IsEarly, IsOpenRefusal, TellsNoFault}
+use Rattle.reuse_journal.specs.Recovery.{RecoversFiles, RefusesRecovery, StopsRecovering}
+use Rattle.reuse_command.specs.declared.reply.Recovered.{Recovered}
+use Rattle.reuse_command.specs.declared.reply.Refusal.{Refusal}
+use Rattle.reuse_command.specs.declared.failure.Failure.TheVariants.{Interrupted}
+use Rattle.reuse_command.specs.declared.reply.Refusal.TheVariants.{Failed}
+use Rattle.reuse_print.specs.declared.fault.Fault.{Fault}
+use Rattle.reuse_print.specs.declared.fault.Fault.TheVariants.{Refused, Write, Memory}
+use Rattle.reuse_shown.specs.declared.shown_name.Names.{Names}
+use Rattle.reuse_print.specs.Lines.{lines_of}
+use Rattle.reuse_print.specs.Outputs.{Adds, AddsFront}
 
 -- the paths that were rolled back
 abbrev pub rolled_back_text : Names → List (List ℕ) → List ℕ

@@ -3,27 +3,27 @@ use Rattle.std.specs.Prelude.{◌≡◌, ◌⊎◌, List, Some, ℕ, Result, Ok,
 use Rattle.reuse_tree.specs.Files.{Files}
 use Rattle.reuse_tree.specs.Tree.{undo_folder_of}
 use Rattle.reuse_tree.specs.declared.cause.Cause.{Cause}
-use Rattle.reuse_session.specs.session.Answer.{IsEarly, IsFailure, IsNoClash, IsOpenRefusal}
-use Rattle.reuse_session.specs.journal.Journal.{State}
-use Rattle.reuse_session.specs.journal.JournalFiles.{head_path}
+use Rattle.reuse_command.specs.Answer.{IsEarly, IsFailure, IsNoClash, IsOpenRefusal}
+use Rattle.reuse_journal.specs.Journal.{State}
+use Rattle.reuse_journal.specs.JournalFiles.{head_path}
 use Rattle.reuse_session.specs.session.Machine.{Snapshots}
 use Rattle.reuse_session.specs.session.Model.{Gives}
-use Rattle.reuse_session.specs.journal.Opening.{IsFirstBad, IsStuckAt, OpensOn, StopsOpening}
+use Rattle.reuse_journal.specs.Opening.{IsFirstBad, IsStuckAt, OpensOn, StopsOpening}
 use Rattle.reuse_session.specs.session.Requests.{HasCallClash, KeepsFolder, Meets}
-use Rattle.reuse_session.specs.session.Session.{IsSameBut}
-use Rattle.reuse_session.specs.journal.Standing.{IsStanding, InDoubt}
+use Rattle.reuse_journal.specs.Remembered.{IsSameBut}
+use Rattle.reuse_journal.specs.Standing.{IsStanding, InDoubt}
 use Rattle.reuse_session.specs.session.Stops.{HoldState, AreLeft}
-use Rattle.reuse_session.specs.declared.failure.Failure.TheVariants as failures
-use Rattle.reuse_session.specs.declared.reply.Refusal.{Refusal}
-use Rattle.reuse_session.specs.declared.reply.Refusal.TheVariants as refusals
-use Rattle.reuse_session.specs.declared.reply.Response.{Response}
-use Rattle.reuse_session.specs.declared.reply.Response.TheVariants as responses
-use Rattle.reuse_session.specs.declared.request.Request.{Request}
-use Rattle.reuse_undo.specs.declared.run.fault.Fault.{Fault}
-use Rattle.reuse_undo.specs.declared.run.fault.Fault.TheVariants as faults
-use Rattle.reuse_undo.specs.declared.cli.line.PrintOptions.{PrintOptions}
-use Rattle.reuse_undo.specs.print.Lines.{path_count}
-use Rattle.reuse_undo.specs.print.Outputs.{AddsFront, AddsSome}
+use Rattle.reuse_command.specs.declared.failure.Failure.TheVariants as failures
+use Rattle.reuse_command.specs.declared.reply.Refusal.{Refusal}
+use Rattle.reuse_command.specs.declared.reply.Refusal.TheVariants as refusals
+use Rattle.reuse_command.specs.declared.reply.Response.{Response}
+use Rattle.reuse_command.specs.declared.reply.Response.TheVariants as responses
+use Rattle.reuse_command.specs.declared.request.Request.{Request}
+use Rattle.reuse_print.specs.declared.fault.Fault.{Fault}
+use Rattle.reuse_print.specs.declared.fault.Fault.TheVariants as faults
+use Rattle.reuse_arguments.specs.declared.line.PrintOptions.{PrintOptions}
+use Rattle.reuse_print.specs.Lines.{path_count}
+use Rattle.reuse_print.specs.Outputs.{AddsFront, AddsSome}
 use Rattle.reuse_undo.specs.print.Responses.{IsPrintedText, is_refused, IsDrawnPreview, WouldBeMade}
 
 -- ---- from any files

@@ -3,7 +3,7 @@ use Rattle.std.specs.Prelude.{◌≡◌, ◌≢◌, ℕ, List, ◌++◌, Option,
 use Rattle.std.specs.IoError.{error_kind}
 use Rattle.std.specs.declared.io.Error.{Error}
 use Rattle.std.specs.declared.io.ErrorKind.TheVariants.{OutOfMemory}
-use Rattle.reuse_session.specs.plan.Licence.{is_id}
+use Rattle.reuse_plan.specs.Licence.{is_id}
 
 -- the licence of an id, where the id is one of a licence
 abbrev pub licence_named : List ℕ → Option (List ℕ)

@@ -1,13 +1,14 @@
 //! Notes: what a fault is about, what can be done about it, and what a call has done.
-use crate::cli::line::LineFault;
-use crate::disk::Kept;
 use crate::run::damage::Headless;
 use crate::run::denial::Denial;
 use crate::run::diagnostics::{Diagnostics, RequestKind, unrecognised_among};
-use crate::run::fault::Fault;
+use reuse_arguments::line::LineFault;
 use reuse_dep5::{Dep5Cause, Dep5Refusal};
+use reuse_folder::Kept;
 use reuse_notice::NoticeRefusal;
+use reuse_print::fault::Fault;
 use reuse_session::{AmendFault, Failure, PathOutcome, Refusal};
+use reuse_tree::Cause;
 use std::fmt::Display;
 
 /// Prints a note. Where standard error can't be written, there is nobody to read it.
@@ -49,8 +50,8 @@ fn advice(refusal: &Refusal, is_begun: bool, diagnostics: &Diagnostics) -> Optio
         Refusal::Moved(_) if diagnostics.is_gone => Some(gone_advice(diagnostics.kind)),
         Refusal::Moved(_) => Some(moved_advice(diagnostics.kind)),
         Refusal::NoSuchStep(_) => Some("reuse-undo log tells the numbers of the steps"),
-        Refusal::Failed(Failure::Interrupted(_)) => {
-            Some("the next call on this tree, log too, takes back what was begun")
+        Refusal::Failed(Failure::Interrupted(cause)) => {
+            Some(interrupted_advice(is_begun, *cause, diagnostics))
         }
         Refusal::BadJournal(_) => Some(BAD_JOURNAL),
         Refusal::Dep5(refusal) => dep5_advice(refusal),
@@ -60,6 +61,26 @@ fn advice(refusal: &Refusal, is_begun: bool, diagnostics: &Diagnostics) -> Optio
         ),
         Refusal::Amend(_, fault) => Some(amend_advice(*fault)),
         _ => None,
+    }
+}
+
+/// What can be done about a call that stopped when a step was pending.
+fn interrupted_advice(is_begun: bool, cause: Cause, diagnostics: &Diagnostics) -> &'static str {
+    let (is_changed, is_foreign) = match &diagnostics.failure {
+        Some(failure) => (failure.is_change(), failure.is_foreign()),
+        None => (cause == Cause::Moved, false),
+    };
+    if is_changed {
+        "what another program wrote meanwhile stays; the next call on this tree, log too, takes back what was begun, \
+        or names the file that was changed since: then reuse-undo recover --skip-moved leaves that one as it is"
+    } else if !is_begun {
+        "the next call on this tree, log too, takes back what was begun"
+    } else if is_foreign {
+        "a stopped run had begun this step, and what stands there is in its way: take that away and call again, \
+        or call reuse-undo recover --skip-moved, which leaves it as it is"
+    } else {
+        "a stopped run had begun this step, and it can't be taken back as long as that file can't be written: \
+        make it writable, and call again"
     }
 }
 
@@ -351,6 +372,11 @@ pub fn note_call(rt: &impl Eprint, diagnostics: &Diagnostics, outcome: &Result<u
         note(
             rt,
             "there is no /proc: no other program may move folders or make links here meanwhile",
+        );
+    }
+    if let Some(error) = diagnostics.lock_error {
+        let _ = eprintln!(rt;
+            "reuse-undo: note: no lock can be had here ({error}): no other run may work on this tree meanwhile"
         );
     }
     if let Some(folder) = &diagnostics.above {

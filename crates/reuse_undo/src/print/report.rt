@@ -1,10 +1,10 @@
 //! What is printed on standard error of a run.
-use crate::cli::line::LineFault;
-use crate::print::error_output::ErrorOutput;
 use crate::print::notes::{note_call, note_denial, note_rolled_back, note_words};
 use crate::run::carried_out::CarriedOut;
-use crate::run::fault::Fault;
+use reuse_arguments::line::LineFault;
+use reuse_print::fault::Fault;
 use reuse_session::PathOutcome;
+use reuse_shown::error_output::ErrorOutput;
 use std::io;
 
 /// Prints why the words are no line, and what to do about that where notes are asked for; whether
@@ -30,7 +30,14 @@ fn tell<R: Print + Eprint + Drop>(
     fault: &LineFault,
 ) -> io::Result<()> {
     match fault {
-        LineFault::Help(text) => print!(rt; "{text}"),
+        LineFault::Help(text) => {
+            let printed = print!(rt; "{text}");
+            if printed.is_err() {
+                // Where standard error can't be written either, the status reports it.
+                let _ = eprintln!(errors; "reuse-undo: {}", Fault::Write);
+            }
+            printed
+        }
         LineFault::Usage(text) => errors.eprint_lines(text.as_str()),
         _ => eprintln!(errors; "reuse-undo: {fault}"),
     }

@@ -2,10 +2,10 @@
 ghost use Rattle.std.specs.Prelude.{◌≡◌};
 ghost use Rattle.reuse_undo.specs.print.Statuses.{call_status_of, ending_of, exit_status_of, line_status_of};
 
-use crate::cli::line::{ChangeStatus, LineFault};
 use crate::run::denial::Denial;
-use crate::run::fault::Fault;
+use reuse_arguments::line::{ChangeStatus, LineFault};
 use reuse_notice::NoticeRefusal;
+use reuse_print::fault::Fault;
 
 /// How a run of the program ended.
 #[derive(Drop)]

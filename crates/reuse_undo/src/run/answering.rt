@@ -3,20 +3,20 @@
 //! file that can't keep its owner, and then what it would change is looked at, path by path, as in
 //! a dry run.
 ghost use Rattle.std.specs.Prelude.{◌≡◌, ◌≤◌};
-ghost use Rattle.reuse_session.specs.session.Answer.{TellsNoFault};
-ghost use Rattle.reuse_session.specs.journal.Journal.{State};
+ghost use Rattle.reuse_command.specs.Answer.{TellsNoFault};
+ghost use Rattle.reuse_journal.specs.Journal.{State};
 ghost use Rattle.reuse_session.specs.session.Session.{store_of, StandsOn};
 ghost use Rattle.reuse_session.specs.session.Requests.{Previews, ReadsOnlyWithCause};
 
-use crate::cli::line::PrintOptions;
-use crate::disk::DiskStore;
-use crate::print::output::Output;
-use crate::print::progress::{ClearedOutput, Progress};
 use crate::run::denial::Denial;
-use crate::run::fault::Fault;
 use crate::run::line::is_refused;
 use crate::run::on_folder::run_on_folder;
+use reuse_arguments::line::PrintOptions;
+use reuse_folder::DiskStore;
+use reuse_print::fault::Fault;
+use reuse_print::output::Output;
 use reuse_session::{Call, Counts, PathOutcome, PathOutcomes, Refusal, Request, Session};
+use reuse_shown::progress::{ClearedOutput, Progress};
 use reuse_tree::{PathText, Store};
 use std::alloc::Global;
 use std::fs::File;

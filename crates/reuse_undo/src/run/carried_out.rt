@@ -2,7 +2,7 @@
 use crate::run::answering::CallEnding;
 use crate::run::denial::Denial;
 use crate::run::diagnostics::Diagnostics;
-use crate::run::fault::Fault;
+use reuse_print::fault::Fault;
 
 /// What comes of what was asked for.
 #[derive(Drop)]

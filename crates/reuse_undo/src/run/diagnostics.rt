@@ -1,12 +1,12 @@
 //! What is found out about a call beside its outcome, for notes.
 ghost use Rattle.reuse_tree.specs.Asked.{OnlyReads};
 
-use crate::cli::line::Line;
-use crate::disk::{DiskStore, Failure, Kept};
 use crate::run::above::journal_above;
 use crate::run::damage::{Damage, Headless, damage_of, is_gone, steps_without_head};
-use crate::run::fault::Fault;
+use reuse_arguments::line::Line;
 use reuse_dep5::{Glob, glob_matches};
+use reuse_folder::{DiskStore, Failure, Kept};
+use reuse_print::fault::Fault;
 use reuse_session::{
     Call, Command, Counts, Head, PathOutcome, Refusal, Request, Scope, Session, Unknown, Unused,
     decode_head,
@@ -15,7 +15,7 @@ use reuse_text::{Bytes, LONGEST_FILE};
 use reuse_tree::{PathText, Reading, Store};
 use std::alloc::{AllocError, Global};
 use std::fs::{self, File};
-use std::io::ErrorKind;
+use std::io::{self, ErrorKind};
 use std::rt::Files;
 
 const HEAD: &str = ".reuse/undo/head.json";
@@ -99,6 +99,8 @@ pub struct Diagnostics {
     pub missing_root: Option<String>,
     /// Whether folders were sought by their paths, since the system doesn't show open ones.
     pub is_by_path: bool,
+    /// Why the root, or a folder above it, couldn't be locked, where one couldn't.
+    pub lock_error: Option<io::Error>,
 }
 
 impl Diagnostics {
@@ -147,6 +149,7 @@ impl Diagnostics {
             failure: None,
             missing_root: missing_root(rt, alloc, root),
             is_by_path: false,
+            lock_error: None,
         }
     }
 
@@ -204,6 +207,7 @@ impl Diagnostics {
     ) {
         self.failure = folder.take_failure();
         self.is_by_path = folder.is_by_path();
+        self.lock_error = folder.lock_error();
         self.is_rolled_back = folder.rolled_back().is_some();
         self.kept = folder.kept();
         if let Err(

@@ -1,16 +1,16 @@
 //! Takes steps out of the history on a store, and prints which.
 ghost use Rattle.std.specs.Prelude.{◌≡◌, Err, IfErr, IfOk, OnOk};
 ghost use Rattle.std.specs.Io.KnownBytes.{Appends};
-ghost use Rattle.reuse_session.specs.journal.Journal.{State};
+ghost use Rattle.reuse_journal.specs.Journal.{State};
 ghost use Rattle.reuse_session.specs.session.Session.{store_of, StandsOn};
 ghost use Rattle.reuse_session.specs.session.Forgetting.{Forgets};
 ghost use Rattle.reuse_undo.specs.run.Forgotten.{asked_numbers, forgotten_line, forgotten_lines, forgotten_text, ForgetsOn, HasForgotten, PrintsForgotten, PrintsNumbers, RefusesFrom, RefusesToForget};
 ghost use Rattle.reuse_undo.specs.run.RunLine.{IfRefused};
 ghost use Rattle.reuse_undo.specs.print.Responses.{ReportsFailure};
 
-use crate::cli::line::Steps;
-use crate::print::output::{Sink, write_text};
-use crate::run::fault::{Fault, in_memory};
+use reuse_arguments::line::Steps;
+use reuse_print::fault::{Fault, in_memory};
+use reuse_print::output::{Sink, write_text};
 use reuse_session::{EntryNumbers, Refusal, Session};
 use reuse_tree::Store;
 use std::alloc::Global;

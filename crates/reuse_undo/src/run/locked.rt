@@ -1,21 +1,21 @@
 //! Carries out what was asked for, on the folder that it names and while no other run works there.
 //! It prints the answer on standard output, and finds out what notes report.
-use crate::cli::line::{Forgetting, Line, PrintOptions, Recovery, Steps};
-use crate::cli::settings::Settings;
-use crate::disk::DiskStore;
-use crate::print::output::Output;
-use crate::print::progress::{ClearedOutput, Progress};
-use crate::print::shown_name::Names;
 use crate::run::answering::{Asking, CallEnding, answer};
 use crate::run::carried_out::{CarriedOut, rolled_back_step};
 use crate::run::denial::Denial;
 use crate::run::diagnostics::{Diagnostics, RequestKind, begun_step};
-use crate::run::fault::Fault;
-use crate::run::lock::{RootLock, lock_root};
 use crate::run::on_folder::{forget_on_folder, recover_on_folder};
-use crate::run::request::{ids_of, with_texts};
 use crate::run::texts::find_texts;
+use reuse_arguments::line::{Forgetting, Line, PrintOptions, Recovery, Steps};
+use reuse_arguments::request::{ids_of, with_texts};
+use reuse_arguments::settings::Settings;
+use reuse_folder::DiskStore;
+use reuse_lock::{RootLock, lock_root};
+use reuse_print::fault::Fault;
+use reuse_print::output::Output;
 use reuse_session::{LicenceTexts, Request};
+use reuse_shown::progress::{ClearedOutput, Progress};
+use reuse_shown::shown_name::Names;
 use std::alloc::{AllocError, Global};
 use std::fs::File;
 use std::io;
@@ -284,9 +284,13 @@ fn work_opened<R: Files<File = File> + AllocGlobal + Clock + Print + Eprint + Cl
 ) -> CarriedOut {
     // A recovery prints which files were rolled back. So its step is noted with the other notes
     // alone.
+    let pending = begun_step(alloc, &mut folder);
+    if let (JournalWork::Recover { .. }, Some(_)) = (work, pending) {
+        folder.expect_rollback();
+    }
     let begun = match work {
         JournalWork::Recover { .. } if !extras.notes => None,
-        _ => begun_step(alloc, &mut folder),
+        _ => pending,
     };
     let diagnostics = found_of(rt, alloc, root, work.kind(), begun, extras.notes);
     let (folder, outcome) = work_aloud(rt, alloc, folder, work, extras);

@@ -9,11 +9,11 @@ ghost use Rattle.reuse_undo.specs.run.Recoveries.{recovered_text, rolled_back_te
 ghost use Rattle.reuse_undo.specs.run.RunLine.{IfRefused};
 ghost use Rattle.reuse_undo.specs.print.Responses.{ReportsFailure};
 
-use crate::print::lines::print_paths;
-use crate::print::output::{Sink, write_text};
-use crate::print::shown_name::Names;
-use crate::run::fault::{Fault, in_memory};
+use reuse_print::fault::{Fault, in_memory};
+use reuse_print::lines::print_paths;
+use reuse_print::output::{Sink, write_text};
 use reuse_session::{Recovered, recover};
+use reuse_shown::shown_name::Names;
 use reuse_tree::{PathText, Store};
 use std::alloc::Global;
 use std::io::{self, Write};

@@ -3,8 +3,8 @@ ghost use Rattle.std.specs.Prelude.{◌≡◌, IfOk, IfSome, map, string_bytes, 
 ghost use Rattle.std.specs.Option.{option_map};
 ghost use Rattle.reuse_undo.specs.run.Texts.{IsTextOf, licence_named, licences_among, text_file};
 
-use crate::disk::reading::read_front;
 use reuse_session::{Ids, LicenceText, LicenceTexts, is_id};
+use reuse_system::reading::read_front;
 use reuse_text::Bytes;
 use std::alloc::{AllocError, Global};
 use std::fs;

@@ -1,8 +1,8 @@
 use Rattle.std.proofs.Common.{◌<◌, IfErr, Some, arith, ap, sym, subst, ◌∙◌}
 use Rattle.std.proofs.lemmas.Bool.{false≢true}
 use Rattle.reuse_tree.specs.Files.{Files}
-use Rattle.reuse_session.specs.session.Answer.{HasCause}
-use Rattle.reuse_session.specs.journal.JournalFiles.{IsFree}
+use Rattle.reuse_command.specs.Answer.{HasCause}
+use Rattle.reuse_journal.specs.JournalFiles.{IsFree}
 use Rattle.reuse_session.specs.session.Driven.{IsSafelyAt}
 use Rattle.reuse_session.specs.session.Stops.{Point, open_at, Continues, AreLeft}
 use Rattle.reuse_session.specs.declared.events.Driven.TheVariants.{Closed}

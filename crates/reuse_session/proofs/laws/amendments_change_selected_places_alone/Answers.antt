@@ -1,8 +1,8 @@
-use Rattle.reuse_session.specs.declared.command.Command.TheVariants.{Amend}
-use Rattle.reuse_session.proofs.lemmas.plan.AcceptedAmendments.{amend_accepted}
-use Rattle.reuse_session.proofs.lemmas.plan.AmendedTrees.{amends, same_paths}
+use Rattle.reuse_command.specs.declared.command.Command.TheVariants.{Amend}
+use Rattle.reuse_plan.proofs.AcceptedAmendments.{amend_accepted}
+use Rattle.reuse_plan.proofs.AmendedTrees.{amends, same_paths}
 use Rattle.reuse_session.proofs.lemmas.session.LeftByRuns.{left_by_run}
-use Rattle.reuse_session.proofs.lemmas.plan.OneAmendment.{one_amended}
+use Rattle.reuse_plan.proofs.OneAmendment.{one_amended}
 use Rattle.reuse_session.proofs.laws.amendments_change_selected_places_alone.Goals as goal
 
 pub returns : goal.returns

@@ -1,6 +1,6 @@
-use Rattle.reuse_session.specs.declared.command.Command.TheVariants.{Annotate}
-use Rattle.reuse_session.proofs.lemmas.plan.AnnotationPathOutcomes.{annotation_accepted, annotates}
-use Rattle.reuse_session.proofs.lemmas.plan.OneAnnotation.{stays_or_text, one_tree}
+use Rattle.reuse_command.specs.declared.command.Command.TheVariants.{Annotate}
+use Rattle.reuse_plan.proofs.AnnotationPathOutcomes.{annotation_accepted, annotates}
+use Rattle.reuse_plan.proofs.OneAnnotation.{stays_or_text, one_tree}
 use Rattle.reuse_session.proofs.lemmas.session.LeftByRuns.{left_by_run}
 use Rattle.reuse_session.proofs.laws.annotations_change_chosen_places_alone.Goals as goal
 

@@ -1,4 +1,4 @@
-use Rattle.reuse_session.proofs.lemmas.plan.AnnotationPathOutcomes.{skipped_told, told_skipped_all, left_stays}
+use Rattle.reuse_plan.proofs.AnnotationPathOutcomes.{skipped_told, told_skipped_all, left_stays}
 use Rattle.reuse_session.proofs.laws.annotations_follow_path_outcomes.Goals as goal
 
 pub returns : goal.returns

@@ -1,7 +1,7 @@
-use Rattle.reuse_session.specs.declared.command.Command.TheVariants.{ConvertDep5}
-use Rattle.reuse_session.proofs.lemmas.plan.Accepting.{conversion_accepted}
+use Rattle.reuse_command.specs.declared.command.Command.TheVariants.{ConvertDep5}
+use Rattle.reuse_plan.proofs.Accepting.{conversion_accepted}
 use Rattle.reuse_session.proofs.lemmas.session.LeftByRuns.{left_by_run}
-use Rattle.reuse_session.proofs.lemmas.plan.Converting.{conversion_puts}
+use Rattle.reuse_plan.proofs.Converting.{conversion_puts}
 use Rattle.reuse_session.proofs.laws.conversions_put_a_table.Goals as goal
 
 pub returns : goal.returns

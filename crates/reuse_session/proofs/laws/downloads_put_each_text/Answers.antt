@@ -1,7 +1,7 @@
-use Rattle.reuse_session.specs.declared.command.Command.TheVariants.{Download}
-use Rattle.reuse_session.proofs.lemmas.plan.Accepting.{download_accepted}
+use Rattle.reuse_command.specs.declared.command.Command.TheVariants.{Download}
+use Rattle.reuse_plan.proofs.Accepting.{download_accepted}
 use Rattle.reuse_session.proofs.lemmas.session.LeftByRuns.{left_by_run}
-use Rattle.reuse_session.proofs.lemmas.plan.TextsPut.{download_puts}
+use Rattle.reuse_plan.proofs.TextsPut.{download_puts}
 use Rattle.reuse_session.proofs.laws.downloads_put_each_text.Goals as goal
 
 pub returns : goal.returns

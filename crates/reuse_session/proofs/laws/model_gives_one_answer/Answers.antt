@@ -2,12 +2,12 @@ use Rattle.std.proofs.Common.{◌≡◌, ◌∙◌, Result, ap, sym}
 use Rattle.reuse_session.specs.session.Machine.{Snapshots}
 use Rattle.reuse_session.specs.session.Model.{Gives, IsByTrees}
 use Rattle.reuse_session.specs.session.Requests.{as_answer}
-use Rattle.reuse_session.specs.declared.reply.Refusal.{Refusal}
-use Rattle.reuse_session.specs.declared.reply.Response.{Response}
-use Rattle.reuse_session.specs.declared.reply.Response.TheVariants as responses
-use Rattle.reuse_session.specs.declared.request.Call.TheVariants as calls
-use Rattle.reuse_session.specs.declared.request.Request.{Request}
-use Rattle.reuse_session.specs.declared.request.Request.TheVariants as requests
+use Rattle.reuse_command.specs.declared.reply.Refusal.{Refusal}
+use Rattle.reuse_command.specs.declared.reply.Response.{Response}
+use Rattle.reuse_command.specs.declared.reply.Response.TheVariants as responses
+use Rattle.reuse_command.specs.declared.request.Call.TheVariants as calls
+use Rattle.reuse_command.specs.declared.request.Request.{Request}
+use Rattle.reuse_command.specs.declared.request.Request.TheVariants as requests
 use Rattle.reuse_session.proofs.laws.model_gives_one_answer.Goals as goal
 
 one : (state : Snapshots) (request : Request) (first second : Result Response Refusal) (next other : Snapshots) → IsByTrees request → Gives state request first next → Gives state request second other

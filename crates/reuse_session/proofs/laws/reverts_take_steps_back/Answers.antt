@@ -1,10 +1,10 @@
 use Rattle.std.proofs.Common.{◌≡◌, [], Result, Ok, sym, ◌∙◌}
 use Rattle.reuse_tree.specs.Files.{Files}
-use Rattle.reuse_session.specs.declared.command.Command.TheVariants.{Revert}
-use Rattle.reuse_session.specs.declared.reply.Refusal.{Refusal}
+use Rattle.reuse_command.specs.declared.command.Command.TheVariants.{Revert}
+use Rattle.reuse_command.specs.declared.reply.Refusal.{Refusal}
 use Rattle.reuse_session.proofs.lemmas.session.LeftByRuns.{left_by_run}
-use Rattle.reuse_session.proofs.lemmas.plan.RevertLaws.{put_back_below, once, reverts_as_undo}
-use Rattle.reuse_session.proofs.lemmas.plan.RevertsByPath.{returned, still_there, is_refused}
+use Rattle.reuse_plan.proofs.RevertLaws.{put_back_below, once, reverts_as_undo}
+use Rattle.reuse_plan.proofs.RevertsByPath.{returned, still_there, is_refused}
 use Rattle.reuse_session.proofs.laws.reverts_take_steps_back.Goals as goal
 
 one_outcome : (one other : Files) → ◌≡◌ {A = Result Files Refusal} (Ok one) (Ok other) → one ≡ other

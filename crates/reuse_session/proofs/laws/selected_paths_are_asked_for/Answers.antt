@@ -1,5 +1,5 @@
-use Rattle.reuse_session.proofs.lemmas.plan.AmendedPlaces.{amended_exactly, amended_given, amended_ascend}
-use Rattle.reuse_session.proofs.lemmas.plan.Choosing.{selected_exactly, given_exactly, selected_ascend, all_chosen}
+use Rattle.reuse_plan.proofs.AmendedPlaces.{amended_exactly, amended_given, amended_ascend}
+use Rattle.reuse_plan.proofs.Choosing.{selected_exactly, given_exactly, selected_ascend, all_chosen}
 use Rattle.reuse_session.proofs.laws.selected_paths_are_asked_for.Goals as goal
 
 pub returns : goal.returns

@@ -20,9 +20,9 @@ use Rattle.reuse_tree.proofs.Applying.{applies_back, inverse_twice, path_of-inve
 use Rattle.reuse_tree.specs.declared.direction.Direction.{Direction}
 use Rattle.reuse_tree.specs.declared.direction.Direction.TheVariants.{Backward}
 use Rattle.reuse_tree.specs.Entry.{touches, paths_of, IsEntry, AppliesBy, LeadsBy, LeadsAll}
-use Rattle.reuse_session.specs.journal.InTurn.{LeadsInTurn}
-use Rattle.reuse_session.specs.plan.Outcome.{with_file}
-use Rattle.reuse_session.proofs.lemmas.plan.Planning.{with_same, with_other}
+use Rattle.reuse_journal.specs.InTurn.{LeadsInTurn}
+use Rattle.reuse_plan.specs.Outcome.{with_file}
+use Rattle.reuse_plan.proofs.Planning.{with_same, with_other}
 use Rattle.reuse_tree.proofs.Walk.{of_no_change}
 
 -- ---- one change before others of other paths

@@ -11,14 +11,14 @@ use Rattle.reuse_tree.specs.Change.{path_of, is_sealed}
 use Rattle.reuse_tree.specs.declared.change.Change.{Change}
 use Rattle.reuse_tree.proofs.Sealed.{same_after, same_before}
 use Rattle.reuse_tree.specs.Entry.{IsReady, CanBeMade, AreAllSealed}
-use Rattle.reuse_session.specs.journal.Journal.{State}
-use Rattle.reuse_session.specs.journal.Seals.{tree_for, IsAsLeft, IsUntouched, IsToldApart}
+use Rattle.reuse_journal.specs.Journal.{State}
+use Rattle.reuse_journal.specs.Seals.{tree_for, IsAsLeft, IsUntouched, IsToldApart}
 use Rattle.reuse_tree.specs.Apply.{IsReadyByRange}
 use Rattle.reuse_session.specs.session.Session.{IsRun}
-use Rattle.reuse_session.specs.declared.command.Command.{Command}
+use Rattle.reuse_command.specs.declared.command.Command.{Command}
 use Rattle.reuse_tree.specs.declared.direction.Direction.{Direction}
 use Rattle.reuse_tree.specs.declared.direction.Direction.TheVariants.{Forward, Backward}
-use Rattle.reuse_session.proofs.lemmas.plan.Planning.{sealed_each}
+use Rattle.reuse_plan.proofs.Planning.{sealed_each}
 
 -- a file that is ready is so by range and length
 pub ready_by_range : (direction : Direction) (change : Change) (file : Option (List ℕ)) → IsReady direction change file → IsReadyByRange direction change file

@@ -5,31 +5,33 @@ use Rattle.std.proofs.lemmas.List.{length-append, length-map, length-reverse, ge
 use Rattle.std.specs.FinMap.{get}
 use Rattle.reuse_tree.specs.Path.{lies_under}
 use Rattle.reuse_tree.specs.Files.{Files, Clashes, tree_of}
-use Rattle.reuse_session.specs.declared.failure.Fault.TheVariants as faults
-use Rattle.reuse_session.specs.session.Answer.{IsEarly, TellsNoFault, IsReadRefusal, IsFailure, HasClash, IsNoClash, IsEarlyFailure}
+use Rattle.reuse_command.specs.declared.failure.Fault.TheVariants as faults
+use Rattle.reuse_command.specs.Answer.{IsEarly, TellsNoFault, IsReadRefusal, IsFailure, HasClash, IsNoClash, IsEarlyFailure}
 use Rattle.reuse_tree.specs.Head.{IsSoundHead}
-use Rattle.reuse_session.specs.journal.History.{Memory}
-use Rattle.reuse_session.specs.journal.Journal.{Recorded, Journal, State, ahead, moved_on}
-use Rattle.reuse_session.specs.session.Machine.{is_full}
-use Rattle.reuse_session.specs.journal.JournalFiles.{head_path, entry_path, head_of, number_of, EntrySays, IsFree, IsJournalPath}
+use Rattle.reuse_journal.specs.History.{Memory}
+use Rattle.reuse_journal.specs.Journal.{Recorded, Journal, State, ahead, moved_on}
+use Rattle.reuse_journal.specs.Labels.{is_full}
+use Rattle.reuse_journal.specs.JournalFiles.{head_path, entry_path, head_of, number_of, EntrySays, IsFree, IsJournalPath}
 use Rattle.reuse_tree.specs.declared.journal.entry.Entry.{Entry}
-use Rattle.reuse_session.specs.session.Session.{store_of, memory_of, listed_as, listed_count, IsSameBut, Remembers, StandsOn}
-use Rattle.reuse_session.specs.journal.Standing.{IsTree, IsStanding}
+use Rattle.reuse_session.specs.session.Session.{store_of, memory_of, StandsOn}
+use Rattle.reuse_journal.specs.Remembered.{listed_count, IsSameBut, Remembers}
+use Rattle.reuse_journal.specs.Standing.{IsTree, IsStanding}
 use Rattle.reuse_tree.specs.Tree.{undo_folder_of}
 use Rattle.reuse_session.specs.declared.session.Session.{Session}
 use Rattle.reuse_tree.specs.declared.direction.Direction.{Direction}
 use Rattle.reuse_tree.specs.declared.direction.Direction.TheVariants.{Forward, Backward}
 use Rattle.reuse_tree.specs.declared.cause.Cause.TheVariants as causes
-use Rattle.reuse_session.specs.declared.reply.Response.{Response}
-use Rattle.reuse_session.specs.declared.reply.Refusal.{Refusal}
-use Rattle.reuse_session.specs.declared.failure.Failure.TheVariants.{Memory as OutOfMemory, Fault, Interrupted}
-use Rattle.reuse_session.specs.declared.reply.Refusal.TheVariants.{BadJournal, Failed}
-use Rattle.reuse_session.proofs.lemmas.session.OnlyReading.{is_refused}
-use Rattle.reuse_session.proofs.lemmas.journal.HeadMutations.{below}
-use Rattle.reuse_session.proofs.lemmas.journal.JournalLemmas.{clash_beneath, entry_in_folder, like, paths_apart}
+use Rattle.reuse_command.specs.declared.reply.Response.{Response}
+use Rattle.reuse_command.specs.declared.reply.Refusal.{Refusal}
+use Rattle.reuse_command.specs.declared.failure.Failure.TheVariants.{Memory as OutOfMemory, Fault, Interrupted}
+use Rattle.reuse_command.specs.declared.reply.Refusal.TheVariants.{BadJournal, Failed}
+use Rattle.reuse_command.proofs.OnlyReading.{is_refused}
+use Rattle.reuse_journal.proofs.HeadMutations.{below}
+use Rattle.reuse_journal.proofs.JournalLemmas.{clash_beneath, entry_in_folder, like, paths_apart}
 use Rattle.reuse_tree.proofs.OfTree.{get-folder}
-use Rattle.reuse_session.proofs.lemmas.journal.Standings.{after_entry}
+use Rattle.reuse_journal.proofs.Standings.{after_entry}
 use Rattle.reuse_session.proofs.lemmas.journal.Stepping.{last_number}
+use Rattle.reuse_journal.proofs.MemoryLemmas.{counted}
 
 -- ---- sessions
 
@@ -172,11 +174,6 @@ low_of Forward step steps old list sound =
     omega (arith, given.1, at, sound.next.1)
 
 -- a listed step that moves leaves as many listed
-pub counted : (memory : Memory) (journal : Journal) → Remembers memory journal → listed_count memory ≡ length journal.done + length journal.undone
-counted memory journal r =
-    ap (λ es. length es + length memory.undone) r.done ∙ ap (λ es. length (map listed_as (reverse journal.done)) + length es) r.undone
-    ∙ omega (arith, length-map (reverse journal.done) listed_as, length-reverse journal.done, length-map (reverse journal.undone) listed_as, length-reverse journal.undone)
-
 pub as_many : (direction : Direction) (step : Recorded) (steps : List Recorded) (old : Journal) (memory moved : Memory) → ahead direction old ≡ step ∷ steps → Remembers memory old
     → Remembers moved (moved_on direction step steps old) → listed_count moved ≡ listed_count memory
 as_many Backward step steps old memory moved list r s = omega (arith, counted moved (moved_on Backward step steps old) s, counted memory old r, ap length list)

@@ -16,23 +16,23 @@ use Rattle.reuse_tree.specs.declared.direction.Direction.TheVariants as go
 use Rattle.reuse_tree.proofs.MadeLemmas.{made_none, made_all, reach_ready}
 use Rattle.reuse_tree.proofs.TreeLemmas.{tree_are_files}
 use Rattle.reuse_tree.proofs.Walk.{leads_once}
-use Rattle.reuse_session.specs.journal.Carried.{SetsHead, IsStopped}
-use Rattle.reuse_session.specs.journal.Journal.{Recorded, Journal, State, reply_of}
-use Rattle.reuse_session.specs.journal.JournalFiles.{head_path, entry_path, entry_in, head_of, number_of, EntrySays, IsKeptIn, KeepsJournal}
-use Rattle.reuse_session.specs.journal.Losses.{IsSafeOn, AreSafeOn, AreInDoubt, StopsWithDoubt, Survives}
-use Rattle.reuse_session.specs.session.Answer.{IsEarly, IsStop}
-use Rattle.reuse_session.specs.session.Session.{IsSameBut}
-use Rattle.reuse_session.specs.declared.reply.Response.{Response}
-use Rattle.reuse_session.specs.declared.reply.Response.TheVariants.{NothingChanged}
-use Rattle.reuse_session.specs.declared.reply.Refusal.{Refusal}
-use Rattle.reuse_session.specs.declared.failure.Failure.TheVariants.{Interrupted}
-use Rattle.reuse_session.specs.declared.reply.Refusal.TheVariants.{Failed}
-use Rattle.reuse_session.specs.journal.Standing.{IsTree, IsStanding, IsStep, IsUnderWay}
-use Rattle.reuse_session.proofs.lemmas.journal.JournalReading.{file_in_folder}
+use Rattle.reuse_journal.specs.Carried.{SetsHead, IsStopped}
+use Rattle.reuse_journal.specs.Journal.{Recorded, Journal, State, reply_of}
+use Rattle.reuse_journal.specs.JournalFiles.{head_path, entry_path, entry_in, head_of, number_of, EntrySays, IsKeptIn, KeepsJournal}
+use Rattle.reuse_journal.specs.Losses.{IsSafeOn, AreSafeOn, AreInDoubt, StopsWithDoubt, Survives}
+use Rattle.reuse_command.specs.Answer.{IsEarly, IsStop}
+use Rattle.reuse_journal.specs.Remembered.{IsSameBut}
+use Rattle.reuse_command.specs.declared.reply.Response.{Response}
+use Rattle.reuse_command.specs.declared.reply.Response.TheVariants.{NothingChanged}
+use Rattle.reuse_command.specs.declared.reply.Refusal.{Refusal}
+use Rattle.reuse_command.specs.declared.failure.Failure.TheVariants.{Interrupted}
+use Rattle.reuse_command.specs.declared.reply.Refusal.TheVariants.{Failed}
+use Rattle.reuse_journal.specs.Standing.{IsTree, IsStanding, IsStep, IsUnderWay}
+use Rattle.reuse_journal.proofs.JournalReading.{file_in_folder}
 use Rattle.reuse_session.proofs.lemmas.session.Replaying.{first_of_all}
-use Rattle.reuse_session.proofs.lemmas.journal.HeadPuts.{head_sets, head_keeps_tree, sets_again}
-use Rattle.reuse_session.proofs.lemmas.journal.JournalLemmas.{entry_in_folder, same_but_in_folder, keeps_beside_any, keeps_with_head, kept_beside, kept_moved, keeps_settled, kept_stays}
-use Rattle.reuse_session.proofs.lemmas.journal.Standings.{after_entry, still_tree, under_way}
+use Rattle.reuse_journal.proofs.HeadPuts.{head_sets, head_keeps_tree, sets_again}
+use Rattle.reuse_journal.proofs.JournalLemmas.{entry_in_folder, same_but_in_folder, keeps_beside_any, keeps_with_head, kept_beside, kept_moved, keeps_settled, kept_stays}
+use Rattle.reuse_journal.proofs.Standings.{after_entry, still_tree, under_way}
 
 -- what is safe on a standing has the entries of its journal
 pub safe_entries : (earlier held : State) (left : Files) → IsSafeOn earlier held left → All (IsKeptIn (undo_folder_of left)) held.journal.done × All (IsKeptIn (undo_folder_of left)) held.journal.undone

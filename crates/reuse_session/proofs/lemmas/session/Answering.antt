@@ -10,31 +10,32 @@ use Rattle.reuse_tree.specs.declared.change.Change.{Change}
 use Rattle.reuse_tree.specs.declared.journal.entry.Entry.{Entry}
 use Rattle.reuse_tree.specs.declared.store.Store.{Ghosts}
 use Rattle.reuse_tree.specs.declared.cause.Cause.{Cause}
-use Rattle.reuse_session.specs.session.Answer.{IsBrokenOrMemory, IsEarly, IsStop, IsNoClash, IsRunAnswer, HasClash, RefusedAsRead, TellsNoFault}
+use Rattle.reuse_command.specs.Answer.{IsBrokenOrMemory, IsEarly, IsStop, IsNoClash, IsRunAnswer, HasClash, RefusedAsRead, TellsNoFault}
 use Rattle.reuse_session.specs.session.Calls.{files_of, folder_of, IsCall, LeavesRun}
-use Rattle.reuse_session.specs.journal.Journal.{Recorded, State, rows_in}
-use Rattle.reuse_session.specs.journal.JournalFiles.{head_path, entry_in, entry_path, number_of, EntrySays, IsFree}
-use Rattle.reuse_session.specs.journal.Losses.{AreSafeOn}
+use Rattle.reuse_journal.specs.Journal.{Recorded, State, rows_in}
+use Rattle.reuse_journal.specs.JournalFiles.{head_path, entry_in, entry_path, number_of, EntrySays, IsFree}
+use Rattle.reuse_journal.specs.Losses.{AreSafeOn}
 use Rattle.reuse_session.specs.session.Requests.{IsReading, MayFail, IfFailed, as_answer, LeadsTo, HasCallClash, KeepsFolder, SurvivesRequest, as_step, IsAnswered, ReadsOnlyWithCause}
 use Rattle.reuse_session.specs.session.RevertCalls.{IsAfterRevert, LeavesRevert, as_run, touched_later}
-use Rattle.reuse_session.specs.session.Session.{store_of, is_broken, memory_of, IsKept, IsSameButTwo, Remembers, StandsOn, StopsAfterRun}
-use Rattle.reuse_session.specs.session.Showing.{lists}
-use Rattle.reuse_session.specs.journal.Standing.{InDoubt, IsStanding}
-use Rattle.reuse_session.specs.declared.command.Command.TheVariants.{Revert}
-use Rattle.reuse_session.specs.declared.failure.Fault.TheVariants as stores
-use Rattle.reuse_session.specs.declared.failure.Failure.TheVariants.{Fault, Memory, Interrupted}
-use Rattle.reuse_session.specs.declared.reply.Refusal.{Refusal}
-use Rattle.reuse_session.specs.declared.reply.Refusal.TheVariants.{Broken, NoSuchStep, Failed}
-use Rattle.reuse_session.specs.declared.reply.Response.{Response}
-use Rattle.reuse_session.specs.declared.reply.Response.TheVariants as responses
-use Rattle.reuse_session.specs.declared.reply.Reverted.{Reverted}
-use Rattle.reuse_session.specs.declared.reply.Row.{Row}
-use Rattle.reuse_session.specs.declared.request.Call.{Call}
-use Rattle.reuse_session.specs.declared.request.Request.{Request}
-use Rattle.reuse_session.specs.declared.request.Request.TheVariants as requests
+use Rattle.reuse_session.specs.session.Session.{store_of, is_broken, memory_of, IsKept, StandsOn, StopsAfterRun}
+use Rattle.reuse_journal.specs.Remembered.{IsSameButTwo, Remembers}
+use Rattle.reuse_journal.specs.Numbered.{lists}
+use Rattle.reuse_journal.specs.Standing.{InDoubt, IsStanding}
+use Rattle.reuse_command.specs.declared.command.Command.TheVariants.{Revert}
+use Rattle.reuse_command.specs.declared.failure.Fault.TheVariants as stores
+use Rattle.reuse_command.specs.declared.failure.Failure.TheVariants.{Fault, Memory, Interrupted}
+use Rattle.reuse_command.specs.declared.reply.Refusal.{Refusal}
+use Rattle.reuse_command.specs.declared.reply.Refusal.TheVariants.{Broken, NoSuchStep, Failed}
+use Rattle.reuse_command.specs.declared.reply.Response.{Response}
+use Rattle.reuse_command.specs.declared.reply.Response.TheVariants as responses
+use Rattle.reuse_command.specs.declared.reply.Reverted.{Reverted}
+use Rattle.reuse_command.specs.declared.reply.Row.{Row}
+use Rattle.reuse_command.specs.declared.request.Call.{Call}
+use Rattle.reuse_command.specs.declared.request.Request.{Request}
+use Rattle.reuse_command.specs.declared.request.Request.TheVariants as requests
 use Rattle.reuse_session.specs.declared.session.Session.{Session}
 use Rattle.reuse_tree.specs.declared.cause.Cause.TheVariants as causes
-use Rattle.reuse_session.proofs.lemmas.journal.JournalLemmas.{same_entry}
+use Rattle.reuse_journal.proofs.JournalLemmas.{same_entry}
 use Rattle.reuse_session.proofs.lemmas.session.Peeking.{refused, same_refusal, read_only_call, read_only_unclashed, still_stands, unclashed_read}
 use Rattle.reuse_session.proofs.lemmas.journal.StepDoubt.{reads_are_safe}
 use Rattle.reuse_session.proofs.lemmas.session.StepsByNumber.{done_step, says_step}

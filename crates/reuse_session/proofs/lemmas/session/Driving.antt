@@ -4,7 +4,7 @@ use Rattle.std.specs.FinMap.{get}
 use Rattle.std.proofs.lemmas.Option.{none-some}
 use Rattle.reuse_tree.specs.Files.{Files}
 use Rattle.reuse_tree.specs.declared.direction.Direction.TheVariants as direction
-use Rattle.reuse_session.specs.declared.command.Command.{Command}
+use Rattle.reuse_command.specs.declared.command.Command.{Command}
 use Rattle.reuse_session.specs.declared.events.Driven.{Driven}
 use Rattle.reuse_session.specs.declared.events.Driven.TheVariants.{Open, Closed}
 use Rattle.reuse_session.specs.declared.events.Event.TheVariants as asked
@@ -13,29 +13,30 @@ use Rattle.reuse_tree.specs.declared.journal.head.Pending.{Pending}
 use Rattle.reuse_tree.specs.declared.journal.head.PendingDirection.{PendingDirection}
 use Rattle.reuse_tree.specs.declared.journal.head.PendingDirection.TheVariants as pending
 use Rattle.reuse_tree.specs.declared.cause.Cause.{Cause}
-use Rattle.reuse_session.specs.declared.reply.Response.{Response}
-use Rattle.reuse_session.specs.declared.reply.Response.TheVariants.{Opened}
-use Rattle.reuse_session.specs.declared.reply.Refusal.{Refusal}
-use Rattle.reuse_session.specs.declared.failure.Failure.TheVariants.{Memory, Fault, Interrupted}
-use Rattle.reuse_session.specs.declared.reply.Refusal.TheVariants.{Failed}
-use Rattle.reuse_session.specs.declared.request.Request.{Request}
+use Rattle.reuse_command.specs.declared.reply.Response.{Response}
+use Rattle.reuse_command.specs.declared.reply.Response.TheVariants.{Opened}
+use Rattle.reuse_command.specs.declared.reply.Refusal.{Refusal}
+use Rattle.reuse_command.specs.declared.failure.Failure.TheVariants.{Memory, Fault, Interrupted}
+use Rattle.reuse_command.specs.declared.reply.Refusal.TheVariants.{Failed}
+use Rattle.reuse_command.specs.declared.request.Request.{Request}
 use Rattle.reuse_session.specs.declared.session.Session.{Session}
-use Rattle.reuse_session.specs.session.Answer.{IsEarly, IsFailure, TellsNoFault}
+use Rattle.reuse_command.specs.Answer.{IsEarly, IsFailure, TellsNoFault}
 use Rattle.reuse_tree.specs.Entry.{LeadsBy}
-use Rattle.reuse_session.specs.journal.Journal.{Recorded, Journal, State}
-use Rattle.reuse_session.specs.journal.JournalFiles.{head_path, head_of, number_of}
-use Rattle.reuse_session.specs.journal.Losses.{IsNextBy}
+use Rattle.reuse_journal.specs.Journal.{Recorded, Journal, State}
+use Rattle.reuse_journal.specs.JournalFiles.{head_path, head_of, number_of}
+use Rattle.reuse_journal.specs.Losses.{IsNextBy}
 use Rattle.reuse_session.specs.session.Machine.{Kept, Snapshots, ran_by, undone, redone}
 use Rattle.reuse_session.specs.session.Model.{Gives}
-use Rattle.reuse_session.specs.journal.Opening.{OpensOn}
+use Rattle.reuse_journal.specs.Opening.{OpensOn}
 use Rattle.reuse_session.specs.session.Requests.{IfFailed, MayFail}
-use Rattle.reuse_session.specs.session.Session.{store_of, Remembers, LeadUpTo, LeadOn, HoldsSnapshots, StandsOn, StandsAt, IsKept, IsRun}
-use Rattle.reuse_session.specs.journal.Standing.{IsStanding, IsStep, IsUnderWay, InDoubt, Mutations}
+use Rattle.reuse_session.specs.session.Session.{store_of, LeadUpTo, LeadOn, HoldsSnapshots, StandsOn, StandsAt, IsKept, IsRun}
+use Rattle.reuse_journal.specs.Remembered.{Remembers}
+use Rattle.reuse_journal.specs.Standing.{IsStanding, IsStep, IsUnderWay, InDoubt, Mutations}
 use Rattle.reuse_session.specs.session.Driven.{IsAt, store_in}
 use Rattle.reuse_session.specs.session.Stops.{Point, open_at, closed, Reopens, Continues, AnswersEvent, AreLeft}
 use Rattle.reuse_tree.specs.Tree.{undo_folder_of}
 use Rattle.reuse_session.proofs.lemmas.session.Following.{back_from, on_from}
-use Rattle.reuse_session.proofs.lemmas.journal.OpeningLemmas.{same_head}
+use Rattle.reuse_journal.proofs.OpeningLemmas.{same_head}
 use Rattle.reuse_session.proofs.lemmas.session.RunFollowing.{step_follows}
 use Rattle.reuse_tree.proofs.Walk.{leads_once}
 

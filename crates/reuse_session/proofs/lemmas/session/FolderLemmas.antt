@@ -4,13 +4,13 @@ use Rattle.std.specs.FinMap.{get}
 use Rattle.reuse_tree.specs.Files.{Files}
 use Rattle.reuse_tree.specs.Path.{lies_under, journal_folder}
 use Rattle.reuse_tree.specs.Head.{head_text}
-use Rattle.reuse_session.specs.journal.JournalFiles.{head_path, entry_path}
-use Rattle.reuse_session.specs.session.Session.{HasEntryText, IsSameBut, IsSameButTwo}
+use Rattle.reuse_journal.specs.JournalFiles.{head_path, entry_path}
+use Rattle.reuse_journal.specs.Remembered.{HasEntryText, IsSameBut, IsSameButTwo}
 use Rattle.reuse_tree.specs.Tree.{undo_folder_of}
 use Rattle.reuse_tree.specs.declared.journal.entry.Entry.{Entry}
 use Rattle.reuse_tree.specs.declared.journal.head.Head.{Head}
-use Rattle.reuse_session.proofs.lemmas.journal.JournalLemmas.{entry_in_folder, entry_path_is_not_head}
-use Rattle.reuse_session.proofs.lemmas.journal.JournalReading.{file_in_folder}
+use Rattle.reuse_journal.proofs.JournalLemmas.{entry_in_folder, entry_path_is_not_head}
+use Rattle.reuse_journal.proofs.JournalReading.{file_in_folder}
 use Rattle.reuse_tree.proofs.OfTree.{get-folder}
 
 -- where the files stay, so does the folder

@@ -11,26 +11,28 @@ use Rattle.reuse_tree.specs.Tree.{undo_folder_of}
 use Rattle.reuse_tree.specs.declared.cause.Cause.{Cause}
 use Rattle.reuse_tree.specs.declared.cause.Cause.TheVariants as causes
 use Rattle.reuse_tree.specs.declared.store.Store.{Ghosts}
-use Rattle.reuse_session.specs.session.Answer.{IsFailure, TellsNoFault}
+use Rattle.reuse_command.specs.Answer.{IsFailure, TellsNoFault}
 use Rattle.reuse_session.specs.session.Calls.{files_of}
-use Rattle.reuse_session.specs.session.Forgetting.{AreInOrder, Forgets, IsWithoutOldest, LeavesForgetting, SurvivesForgetting, PutsAndRemoves, PutsAndRemovesSome, all_numbers, alone, entries_besides, first_absent, first_unlisted, is_one_of, journal_besides, memory_besides, state_besides}
-use Rattle.reuse_session.specs.journal.History.{Memory, head_listing}
-use Rattle.reuse_session.specs.journal.Journal.{State}
-use Rattle.reuse_session.specs.journal.JournalFiles.{head_path, entry_path, head_of, IsFree}
-use Rattle.reuse_session.specs.journal.Losses.{IsSafeOn, AreSafeOn, HaveTree}
+use Rattle.reuse_session.specs.session.Forgetting.{AreInOrder, Forgets, IsWithoutOldest, LeavesForgetting, SurvivesForgetting, PutsAndRemoves, PutsAndRemovesSome, alone, first_absent, journal_besides, state_besides}
+use Rattle.reuse_journal.specs.Numbered.{all_numbers, entries_besides, first_unlisted, is_one_of, memory_besides}
+use Rattle.reuse_journal.specs.History.{Memory, head_listing}
+use Rattle.reuse_journal.specs.Journal.{State}
+use Rattle.reuse_journal.specs.JournalFiles.{head_path, entry_path, head_of, IsFree}
+use Rattle.reuse_journal.specs.Losses.{IsSafeOn, AreSafeOn, HaveTree}
 use Rattle.reuse_session.specs.session.Machine.{Snapshots}
-use Rattle.reuse_session.specs.session.Session.{store_of, memory_of, listed_count, head_room, HoldsSnapshots, StandsAt, StandsOn}
-use Rattle.reuse_session.specs.journal.Standing.{IsStanding}
-use Rattle.reuse_session.specs.declared.journal.history.ListedEntry.{ListedEntry}
-use Rattle.reuse_session.specs.declared.reply.Refusal.{Refusal}
-use Rattle.reuse_session.specs.declared.failure.Failure.TheVariants.{Interrupted}
-use Rattle.reuse_session.specs.declared.reply.Refusal.TheVariants.{Failed}
+use Rattle.reuse_session.specs.session.Session.{store_of, memory_of, HoldsSnapshots, StandsAt, StandsOn}
+use Rattle.reuse_journal.specs.Remembered.{listed_count, head_room}
+use Rattle.reuse_journal.specs.Standing.{IsStanding}
+use Rattle.reuse_journal.specs.declared.history.ListedEntry.{ListedEntry}
+use Rattle.reuse_command.specs.declared.reply.Refusal.{Refusal}
+use Rattle.reuse_command.specs.declared.failure.Failure.TheVariants.{Interrupted}
+use Rattle.reuse_command.specs.declared.reply.Refusal.TheVariants.{Failed}
 use Rattle.reuse_session.specs.declared.session.Session.{Session}
 use Rattle.reuse_session.proofs.lemmas.session.ForgottenFiles.{AreEntriesOf, entries_of, entries_of_first, tree_then, text_then, folder_then, free_then, gone_then, gone_from_the_top, safe_then, standing_then, standing_then_some}
 use Rattle.reuse_session.proofs.lemmas.session.ForgottenSteps.{each_given_out, filter_whole, none_besides_all, remembers_besides, sound_besides, sound_listing}
 use Rattle.reuse_session.proofs.lemmas.session.ForgottenTrees.{holds_alone, holds_next, same_besides}
-use Rattle.reuse_session.proofs.lemmas.journal.JournalLemmas.{sound_head}
-use Rattle.reuse_session.proofs.lemmas.journal.MemoryLemmas.{listing_of}
+use Rattle.reuse_journal.proofs.JournalLemmas.{sound_head}
+use Rattle.reuse_journal.proofs.MemoryLemmas.{listing_of}
 use Rattle.reuse_session.proofs.lemmas.journal.Stepping.{stop_clash}
 
 -- where the tree of what is safe is that of the files

@@ -20,16 +20,17 @@ use Rattle.reuse_tree.proofs.FileMaps.{same_files, same_or_other}
 use Rattle.reuse_tree.proofs.OfTree.{get-folder}
 use Rattle.reuse_tree.proofs.TreeLemmas.{tree_file}
 use Rattle.reuse_tree.proofs.ApplyLemmas.{removal_sets}
-use Rattle.reuse_session.specs.session.Forgetting.{is_one_of, AreInOrder, steps_besides, journal_besides, state_besides, AreGone, AreGoneFromTheTop, IsSameButGone, Removes, RemovesSome, PutsAndRemoves, PutsAndRemovesSome}
-use Rattle.reuse_session.specs.journal.Journal.{Recorded, State}
-use Rattle.reuse_session.specs.journal.JournalFiles.{head_path, entry_path, entry_in, number_of, head_of, HeadSays, EntrySays, IsFree, IsKeptIn, KeepsJournal}
-use Rattle.reuse_session.specs.journal.Losses.{IsSafeOn}
-use Rattle.reuse_session.specs.journal.Standing.{IsTree, IsStanding}
+use Rattle.reuse_session.specs.session.Forgetting.{AreInOrder, steps_besides, journal_besides, state_besides, AreGone, AreGoneFromTheTop, IsSameButGone, Removes, RemovesSome, PutsAndRemoves, PutsAndRemovesSome}
+use Rattle.reuse_journal.specs.Numbered.{is_one_of}
+use Rattle.reuse_journal.specs.Journal.{Recorded, State}
+use Rattle.reuse_journal.specs.JournalFiles.{head_path, entry_path, entry_in, number_of, head_of, HeadSays, EntrySays, IsFree, IsKeptIn, KeepsJournal}
+use Rattle.reuse_journal.specs.Losses.{IsSafeOn}
+use Rattle.reuse_journal.specs.Standing.{IsTree, IsStanding}
 use Rattle.reuse_session.proofs.lemmas.session.ForgottenSteps.{one_of}
-use Rattle.reuse_session.proofs.lemmas.journal.HeadMutations.{each_listed}
-use Rattle.reuse_session.proofs.lemmas.journal.HeadPuts.{head_sets, head_keeps_tree}
-use Rattle.reuse_session.proofs.lemmas.journal.JournalLemmas.{entry_in_folder, entry_path_is_not_head, entry_path_once, free_stays, keeps_with_head}
-use Rattle.reuse_session.proofs.lemmas.journal.JournalReading.{file_in_folder}
+use Rattle.reuse_journal.proofs.HeadMutations.{each_listed}
+use Rattle.reuse_journal.proofs.HeadPuts.{head_sets, head_keeps_tree}
+use Rattle.reuse_journal.proofs.JournalLemmas.{entry_in_folder, entry_path_is_not_head, entry_path_once, free_stays, keeps_with_head}
+use Rattle.reuse_journal.proofs.JournalReading.{file_in_folder}
 use Rattle.reuse_session.proofs.lemmas.journal.StepDoubt.{safe_entries}
 use Rattle.reuse_session.proofs.lemmas.session.StepsByNumber.{in_map, to_map, in_reverse, to_reverse}
 

@@ -9,14 +9,15 @@ use Rattle.std.proofs.lemmas.List.Filters.{length-filter_both}
 use Rattle.std.proofs.lemmas.List.Folds.{list_any-append, list_any_at, Any-from_list_any}
 use Rattle.std.proofs.lemmas.List.Kept.{AllPairs-filter}
 use Rattle.reuse_tree.specs.Head.{IsSoundHead, listed}
-use Rattle.reuse_session.specs.session.Forgetting.{is_one_of, has_step, first_absent, steps_besides, journal_besides, is_listed, first_unlisted, entries_besides, memory_besides, all_numbers, numbers_in}
-use Rattle.reuse_session.specs.journal.History.{Memory, head_listing}
-use Rattle.reuse_session.specs.journal.Journal.{Recorded, Journal}
-use Rattle.reuse_session.specs.journal.JournalFiles.{number_of, head_of}
-use Rattle.reuse_session.specs.session.Session.{listed_as, Remembers}
-use Rattle.reuse_session.specs.session.Showing.{lists}
-use Rattle.reuse_session.specs.declared.journal.history.ListedEntry.{ListedEntry}
-use Rattle.reuse_session.proofs.lemmas.journal.MemoryLemmas.{listing_of}
+use Rattle.reuse_session.specs.session.Forgetting.{has_step, first_absent, steps_besides, journal_besides, numbers_in}
+use Rattle.reuse_journal.specs.Numbered.{is_one_of, is_listed, first_unlisted, entries_besides, memory_besides, all_numbers}
+use Rattle.reuse_journal.specs.History.{Memory, head_listing}
+use Rattle.reuse_journal.specs.Journal.{Recorded, Journal}
+use Rattle.reuse_journal.specs.JournalFiles.{number_of, head_of}
+use Rattle.reuse_journal.specs.Remembered.{listed_as, Remembers}
+use Rattle.reuse_journal.specs.Numbered.{lists}
+use Rattle.reuse_journal.specs.declared.history.ListedEntry.{ListedEntry}
+use Rattle.reuse_journal.proofs.MemoryLemmas.{listing_of}
 use Rattle.reuse_session.proofs.lemmas.session.StepsByNumber.{to_map}
 
 -- ---- numbers

@@ -6,13 +6,15 @@ use Rattle.std.proofs.lemmas.List.Elements.{Contains-append_left, Contains-appen
 use Rattle.std.proofs.Math.ListN.{get_or-append}
 use Rattle.reuse_tree.specs.Files.{Files}
 use Rattle.reuse_tree.specs.Head.{IsSoundHead}
-use Rattle.reuse_session.specs.session.Forgetting.{is_one_of, IsWithoutOldest, steps_besides, state_besides, all_numbers, alone}
-use Rattle.reuse_session.specs.journal.History.{Memory}
-use Rattle.reuse_session.specs.journal.Journal.{Recorded, State}
-use Rattle.reuse_session.specs.journal.JournalFiles.{number_of, head_of}
+use Rattle.reuse_session.specs.session.Forgetting.{IsWithoutOldest, steps_besides, state_besides, alone}
+use Rattle.reuse_journal.specs.Numbered.{is_one_of, all_numbers}
+use Rattle.reuse_journal.specs.History.{Memory}
+use Rattle.reuse_journal.specs.Journal.{Recorded, State}
+use Rattle.reuse_journal.specs.JournalFiles.{number_of, head_of}
 use Rattle.reuse_session.specs.session.Machine.{Kept, Snapshots}
-use Rattle.reuse_session.specs.session.Session.{LeadUpTo, LeadOn, HoldsSnapshots, Remembers, listed_as}
-use Rattle.reuse_session.specs.declared.journal.history.ListedEntry.{ListedEntry}
+use Rattle.reuse_session.specs.session.Session.{LeadUpTo, LeadOn, HoldsSnapshots}
+use Rattle.reuse_journal.specs.Remembered.{Remembers, listed_as}
+use Rattle.reuse_journal.specs.declared.history.ListedEntry.{ListedEntry}
 use Rattle.reuse_session.proofs.lemmas.session.ForgottenSteps.{one_of, is_in, filter_whole, filter_nothing}
 use Rattle.reuse_session.proofs.lemmas.session.StepsByNumber.{in_map, to_map, to_reverse}
 

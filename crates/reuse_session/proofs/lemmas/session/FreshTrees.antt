@@ -6,9 +6,9 @@ use Rattle.reuse_tree.specs.Path.{lies_under, journal_folder}
 use Rattle.reuse_tree.specs.Files.{Files, tree_of}
 use Rattle.reuse_tree.proofs.FileMaps.{same_files}
 use Rattle.reuse_session.specs.session.Fresh.{IsFresh, first_state}
-use Rattle.reuse_session.specs.journal.Journal.{Journal}
-use Rattle.reuse_session.specs.journal.JournalFiles.{head_path, IsFree, IsKeptIn, HeadSays, head_of}
-use Rattle.reuse_session.specs.journal.Standing.{IsStanding}
+use Rattle.reuse_journal.specs.Journal.{Journal}
+use Rattle.reuse_journal.specs.JournalFiles.{head_path, IsFree, IsKeptIn, HeadSays, head_of}
+use Rattle.reuse_journal.specs.Standing.{IsStanding}
 use Rattle.reuse_session.specs.session.Stops.{HoldState}
 use Rattle.reuse_tree.specs.Tree.{undo_folder_of}
 use Rattle.reuse_tree.proofs.ApplyLemmas.{none_is_some}

@@ -4,14 +4,14 @@ use Rattle.std.proofs.lemmas.List.Sorted.{All-permutation}
 use Rattle.reuse_tree.specs.Files.{Files}
 use Rattle.reuse_tree.specs.Change.{is_sealed}
 use Rattle.reuse_tree.specs.declared.change.Change.{Change}
-use Rattle.reuse_session.specs.plan.Edit.{Edit}
+use Rattle.reuse_plan.specs.Edit.{Edit}
 use Rattle.reuse_tree.specs.Entry.{AreAllSealed, IsEntry}
 use Rattle.reuse_tree.specs.EntryText.{is_any_sealed}
 use Rattle.reuse_tree.specs.Format.{knows}
-use Rattle.reuse_session.specs.plan.Plan.{Records}
+use Rattle.reuse_plan.specs.Plan.{Records}
 use Rattle.reuse_tree.specs.declared.command_name.CommandName.{CommandName}
-use Rattle.reuse_session.specs.declared.reply.Refusal.{Refusal}
-use Rattle.reuse_session.proofs.lemmas.plan.Planning.{sealed_each}
+use Rattle.reuse_command.specs.declared.reply.Refusal.{Refusal}
+use Rattle.reuse_plan.proofs.Planning.{sealed_each}
 
 any_sealed : (changes : List Change) → 0 < length changes → AreAllSealed true changes → is_any_sealed changes ≡ true
 any_sealed [] some are = absurd (omega arith)

@@ -21,16 +21,17 @@ use Rattle.reuse_tree.specs.Tree.{changed_paths}
 use Rattle.reuse_tree.specs.declared.change.Change.{Change}
 use Rattle.reuse_tree.specs.declared.journal.entry.Entry.{Entry}
 use Rattle.reuse_tree.proofs.Differ.{changed_by_entry}
-use Rattle.reuse_session.specs.journal.History.{Memory, numbers_after}
-use Rattle.reuse_session.specs.journal.Journal.{Recorded, Journal, State}
-use Rattle.reuse_session.specs.journal.JournalFiles.{entry_path, entry_in, number_of, EntrySays, IsKeptIn, KeepsJournal}
+use Rattle.reuse_journal.specs.History.{Memory, numbers_after}
+use Rattle.reuse_journal.specs.Journal.{Recorded, Journal, State}
+use Rattle.reuse_journal.specs.JournalFiles.{entry_path, entry_in, number_of, EntrySays, IsKeptIn, KeepsJournal}
 use Rattle.reuse_session.specs.session.Machine.{Kept, Snapshots}
 use Rattle.reuse_session.specs.session.RevertCalls.{done_after, touched_by, touched_later, differed_later, changed_later, left_of}
-use Rattle.reuse_session.specs.session.Session.{listed_as, Remembers, LeadUpTo, HoldsSnapshots}
-use Rattle.reuse_session.specs.declared.journal.history.ListedEntry.{ListedEntry}
-use Rattle.reuse_session.proofs.lemmas.journal.JournalLemmas.{same_entry}
-use Rattle.reuse_session.proofs.lemmas.journal.MemoryLemmas.{reverse_map}
-use Rattle.reuse_session.proofs.lemmas.plan.Planning.{touches_among}
+use Rattle.reuse_session.specs.session.Session.{LeadUpTo, HoldsSnapshots}
+use Rattle.reuse_journal.specs.Remembered.{listed_as, Remembers}
+use Rattle.reuse_journal.specs.declared.history.ListedEntry.{ListedEntry}
+use Rattle.reuse_journal.proofs.JournalLemmas.{same_entry}
+use Rattle.reuse_journal.proofs.MemoryLemmas.{reverse_map}
+use Rattle.reuse_plan.proofs.Planning.{touches_among}
 
 -- ---- filters
 

@@ -4,31 +4,32 @@ use Rattle.std.specs.List.{Contains}
 use Rattle.reuse_tree.specs.Files.{Files}
 use Rattle.reuse_tree.specs.Entry.{paths_of}
 use Rattle.reuse_tree.specs.declared.change.Change.{Change}
-use Rattle.reuse_session.specs.session.PathOutcomes.{path_outcomes_of}
-use Rattle.reuse_session.specs.journal.Journal.{State, Recorded}
-use Rattle.reuse_session.specs.journal.JournalFiles.{number_of}
-use Rattle.reuse_session.specs.session.Machine.{Kept, Snapshots, is_full, ran_by, undone, redone, run_path_outcomes}
+use Rattle.reuse_plan.specs.PathOutcomes.{path_outcomes_of}
+use Rattle.reuse_journal.specs.Journal.{State, Recorded}
+use Rattle.reuse_journal.specs.JournalFiles.{number_of}
+use Rattle.reuse_session.specs.session.Machine.{Kept, Snapshots, ran_by, undone, redone, run_path_outcomes}
+use Rattle.reuse_journal.specs.Labels.{is_full}
 use Rattle.reuse_session.specs.session.Model.{IsUnkept, ShowsBy, command_back, as_reverted, RevertsTo, PreviewsBack, MakesTo, PreviewsTo, Gives}
 use Rattle.reuse_session.specs.session.Previews.{run_path_outcomes_on}
 use Rattle.reuse_session.specs.session.Requests.{as_answer, PreviewsRevert, Previews, Makes, LeadsTo, IsAfterCall, IsAfter, IsStopped}
 use Rattle.reuse_session.specs.session.RevertCalls.{Reverts, TakesBack, IsAfterRevert, as_run, changed_or_none, left_of, touched_later}
 use Rattle.reuse_session.specs.session.Session.{HoldsSnapshots, IsRun, LeadOn, Runs}
 use Rattle.reuse_session.specs.session.Showing.{IsUnused, ShowsIn}
-use Rattle.reuse_session.specs.journal.Standing.{IsStanding}
+use Rattle.reuse_journal.specs.Standing.{IsStanding}
 use Rattle.reuse_session.specs.session.Stops.{AreLeft}
-use Rattle.reuse_session.specs.declared.command.Command.{Command}
-use Rattle.reuse_session.specs.declared.command.Command.TheVariants.{Revert}
-use Rattle.reuse_session.specs.declared.path_outcome.PathOutcome.{PathOutcome}
-use Rattle.reuse_session.specs.declared.reply.Response.{Response}
-use Rattle.reuse_session.specs.declared.reply.Response.TheVariants as responses
-use Rattle.reuse_session.specs.declared.reply.Reverted.{Reverted}
-use Rattle.reuse_session.specs.declared.reply.Shown.{Shown}
-use Rattle.reuse_session.specs.declared.reply.Refusal.{Refusal}
-use Rattle.reuse_session.specs.declared.reply.Refusal.TheVariants.{JournalFull, NoSuchStep}
-use Rattle.reuse_session.specs.declared.request.Call.{Call}
-use Rattle.reuse_session.specs.declared.request.Call.TheVariants as calls
-use Rattle.reuse_session.specs.declared.request.Request.{Request}
-use Rattle.reuse_session.specs.declared.request.Request.TheVariants as requests
+use Rattle.reuse_command.specs.declared.command.Command.{Command}
+use Rattle.reuse_command.specs.declared.command.Command.TheVariants.{Revert}
+use Rattle.reuse_command.specs.declared.path_outcome.PathOutcome.{PathOutcome}
+use Rattle.reuse_command.specs.declared.reply.Response.{Response}
+use Rattle.reuse_command.specs.declared.reply.Response.TheVariants as responses
+use Rattle.reuse_command.specs.declared.reply.Reverted.{Reverted}
+use Rattle.reuse_command.specs.declared.reply.Shown.{Shown}
+use Rattle.reuse_command.specs.declared.reply.Refusal.{Refusal}
+use Rattle.reuse_command.specs.declared.reply.Refusal.TheVariants.{JournalFull, NoSuchStep}
+use Rattle.reuse_command.specs.declared.request.Call.{Call}
+use Rattle.reuse_command.specs.declared.request.Call.TheVariants as calls
+use Rattle.reuse_command.specs.declared.request.Request.{Request}
+use Rattle.reuse_command.specs.declared.request.Request.TheVariants as requests
 use Rattle.reuse_session.proofs.lemmas.session.Driving.{ran_on, undo_next, redo_next}
 use Rattle.reuse_session.proofs.lemmas.session.Following.{undo_follows, redo_follows, log_follows, is_full_alike}
 use Rattle.reuse_session.proofs.lemmas.session.LaterSteps.{later_as_machine}

@@ -5,40 +5,41 @@ use Rattle.std.specs.List.{All}
 use Rattle.std.proofs.lemmas.List.{length-append}
 use Rattle.reuse_tree.specs.Files.{Files, Clashes, tree_of}
 use Rattle.reuse_tree.specs.declared.change.Change.{Change}
-use Rattle.reuse_session.specs.declared.failure.Fault.TheVariants as faults
+use Rattle.reuse_command.specs.declared.failure.Fault.TheVariants as faults
 use Rattle.reuse_tree.specs.declared.store.Store.{Ghosts}
-use Rattle.reuse_session.specs.session.Answer.{IsEarly, IsStop, HasClash, IsEarlyFailure}
+use Rattle.reuse_command.specs.Answer.{IsEarly, IsStop, HasClash, IsEarlyFailure}
 use Rattle.reuse_session.specs.session.Calls.{files_of, folder_of, next_path, LeavesRun}
-use Rattle.reuse_session.specs.session.Command.{name_of}
+use Rattle.reuse_command.specs.Command.{name_of}
 use Rattle.reuse_tree.specs.Entry.{paths_of, entry_size, IsEntry, LeadsAll, CanBeMade, CanGo}
 use Rattle.reuse_tree.specs.EntryText.{entry_text, is_any_sealed}
 use Rattle.reuse_tree.specs.Format.{knows}
 use Rattle.reuse_tree.specs.Head.{IsSoundHead}
-use Rattle.reuse_session.specs.journal.History.{Memory, head_listing, remember_run}
-use Rattle.reuse_session.specs.journal.Journal.{State}
-use Rattle.reuse_session.specs.journal.JournalFiles.{head_path, entry_path, entry_in, EntrySays, IsFree}
-use Rattle.reuse_session.specs.session.Machine.{is_full}
-use Rattle.reuse_session.specs.plan.Outcome.{edits_of, edit_count, recorded_size}
-use Rattle.reuse_session.specs.session.Session.{store_of, memory_of, listed_as, listed_count, head_room, HasEntryText, HasHeadText, IsPlanned, IsRecordOf, IsRun, IsSameBut, IsSameButTwo, IsStepOf, Remembers, Runs, StandsOn}
-use Rattle.reuse_session.specs.journal.Standing.{InDoubt}
+use Rattle.reuse_journal.specs.History.{Memory, head_listing, remember_run}
+use Rattle.reuse_journal.specs.Journal.{State}
+use Rattle.reuse_journal.specs.JournalFiles.{head_path, entry_path, entry_in, EntrySays, IsFree}
+use Rattle.reuse_journal.specs.Labels.{is_full}
+use Rattle.reuse_plan.specs.Outcome.{edits_of, edit_count, recorded_size}
+use Rattle.reuse_session.specs.session.Session.{store_of, memory_of, IsPlanned, IsRecordOf, IsRun, IsStepOf, Runs, StandsOn}
+use Rattle.reuse_journal.specs.Remembered.{listed_as, listed_count, head_room, HasEntryText, HasHeadText, IsSameBut, IsSameButTwo, Remembers}
+use Rattle.reuse_journal.specs.Standing.{InDoubt}
 use Rattle.reuse_tree.specs.Tree.{undo_folder_of}
-use Rattle.reuse_session.specs.declared.command.Command.{Command}
+use Rattle.reuse_command.specs.declared.command.Command.{Command}
 use Rattle.reuse_tree.specs.declared.direction.Direction.TheVariants as direction
-use Rattle.reuse_session.specs.declared.journal.history.ListedEntry.{ListedEntry}
+use Rattle.reuse_journal.specs.declared.history.ListedEntry.{ListedEntry}
 use Rattle.reuse_tree.specs.declared.journal.entry.Entry.{Entry}
 use Rattle.reuse_tree.specs.declared.journal.head.Pending.{Pending}
 use Rattle.reuse_tree.specs.declared.journal.head.PendingDirection.TheVariants as directions
-use Rattle.reuse_session.specs.declared.reply.Response.{Response}
-use Rattle.reuse_session.specs.declared.reply.Response.TheVariants.{Changed}
-use Rattle.reuse_session.specs.declared.reply.Refusal.{Refusal}
-use Rattle.reuse_session.specs.declared.failure.Failure.TheVariants.{Fault, Interrupted}
-use Rattle.reuse_session.specs.declared.reply.Refusal.TheVariants.{Failed}
+use Rattle.reuse_command.specs.declared.reply.Response.{Response}
+use Rattle.reuse_command.specs.declared.reply.Response.TheVariants.{Changed}
+use Rattle.reuse_command.specs.declared.reply.Refusal.{Refusal}
+use Rattle.reuse_command.specs.declared.failure.Failure.TheVariants.{Fault, Interrupted}
+use Rattle.reuse_command.specs.declared.reply.Refusal.TheVariants.{Failed}
 use Rattle.reuse_session.specs.declared.session.Session.{Session}
 use Rattle.reuse_session.proofs.lemmas.session.FolderLemmas.{folder_put, folder_stepped, entry_text_stays}
-use Rattle.reuse_session.proofs.lemmas.journal.HeadMutations.{below}
-use Rattle.reuse_session.proofs.lemmas.journal.JournalLemmas.{free_stays, free_beside, tree_beside}
+use Rattle.reuse_journal.proofs.HeadMutations.{below}
+use Rattle.reuse_journal.proofs.JournalLemmas.{free_stays, free_beside, tree_beside}
 use Rattle.reuse_tree.specs.Asked.{OnlyReads}
-use Rattle.reuse_session.proofs.lemmas.session.OnlyReading.{early_is_no_stop}
+use Rattle.reuse_command.proofs.OnlyReading.{early_is_no_stop}
 use Rattle.reuse_session.proofs.lemmas.session.RunFollowing.{runs_step}
 use Rattle.reuse_session.proofs.lemmas.session.Running.{full_alike, count_recorded, size_recorded}
 use Rattle.reuse_session.proofs.lemmas.session.KnownCommands.{recorded_known}

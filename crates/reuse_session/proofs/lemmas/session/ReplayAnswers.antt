@@ -6,24 +6,26 @@ use Rattle.reuse_tree.specs.declared.direction.Direction.{Direction}
 use Rattle.reuse_tree.specs.declared.direction.Direction.TheVariants as direction
 use Rattle.reuse_tree.specs.declared.journal.head.PendingDirection.{PendingDirection}
 use Rattle.reuse_tree.specs.declared.store.Store.{Ghosts}
-use Rattle.reuse_session.specs.journal.Journal.{Recorded, State, Replays, ahead}
-use Rattle.reuse_session.specs.journal.JournalFiles.{head_path}
-use Rattle.reuse_session.specs.journal.Losses.{IsNextBy, Survives, SurvivesCall}
-use Rattle.reuse_session.specs.journal.Standing.{InDoubt}
-use Rattle.reuse_session.specs.session.Answer.{HasClash, IsStop, TellsNoFault}
+use Rattle.reuse_journal.specs.Journal.{Recorded, State, Replays, ahead}
+use Rattle.reuse_journal.specs.JournalFiles.{head_path}
+use Rattle.reuse_journal.specs.Losses.{IsNextBy, Survives}
+use Rattle.reuse_session.specs.session.SafeCalls.{SurvivesCall}
+use Rattle.reuse_journal.specs.Standing.{InDoubt}
+use Rattle.reuse_command.specs.Answer.{HasClash, IsStop, TellsNoFault}
 use Rattle.reuse_session.specs.session.Calls.{files_of, folder_of, IsCall, LeavesReplay}
 use Rattle.reuse_session.specs.session.Requests.{IsReading, MayFail, IfFailed, LeadsTo, IsStopped, HasCallClash, KeepsFolder, SurvivesRequest, as_step, IsAnswered}
-use Rattle.reuse_session.specs.session.Session.{store_of, is_broken, IsSameBut, StandsOn, StopsAfter}
-use Rattle.reuse_session.specs.declared.reply.Refusal.{Refusal}
-use Rattle.reuse_session.specs.declared.reply.Refusal.TheVariants.{Broken}
-use Rattle.reuse_session.specs.declared.reply.Response.{Response}
-use Rattle.reuse_session.specs.declared.reply.Response.TheVariants as responses
-use Rattle.reuse_session.specs.declared.reply.Reverted.{Reverted}
-use Rattle.reuse_session.specs.declared.request.Request.{Request}
+use Rattle.reuse_session.specs.session.Session.{store_of, is_broken, StandsOn, StopsAfter}
+use Rattle.reuse_journal.specs.Remembered.{IsSameBut}
+use Rattle.reuse_command.specs.declared.reply.Refusal.{Refusal}
+use Rattle.reuse_command.specs.declared.reply.Refusal.TheVariants.{Broken}
+use Rattle.reuse_command.specs.declared.reply.Response.{Response}
+use Rattle.reuse_command.specs.declared.reply.Response.TheVariants as responses
+use Rattle.reuse_command.specs.declared.reply.Reverted.{Reverted}
+use Rattle.reuse_command.specs.declared.request.Request.{Request}
 use Rattle.reuse_session.specs.declared.session.Session.{Session}
 use Rattle.reuse_session.proofs.lemmas.journal.StepAnswers.{back_no_clash}
 use Rattle.reuse_session.proofs.lemmas.session.Driving.{stands_early}
-use Rattle.reuse_session.proofs.lemmas.session.OnlyReading.{early_files}
+use Rattle.reuse_command.proofs.OnlyReading.{early_files}
 
 -- its answer is no revert's
 no_revert : (go : Direction) (steps : List Recorded) (held left : State) (reverted : Reverted) → Replays go steps held (Ok (responses.Reverted reverted)) left → ⊥

@@ -10,15 +10,15 @@ use Rattle.reuse_tree.specs.declared.change.Change.{Change}
 use Rattle.reuse_tree.specs.declared.journal.entry.Entry.{Entry}
 use Rattle.reuse_tree.specs.declared.store.Store.{Ghosts}
 use Rattle.reuse_session.specs.session.Calls.{files_of}
-use Rattle.reuse_session.specs.journal.Journal.{Recorded, State}
-use Rattle.reuse_session.specs.journal.JournalFiles.{entry_path, EntrySays, IsKeptIn}
-use Rattle.reuse_session.specs.journal.Losses.{AreSafeOn, HaveTree}
-use Rattle.reuse_session.specs.session.Machine.{is_full}
+use Rattle.reuse_journal.specs.Journal.{Recorded, State}
+use Rattle.reuse_journal.specs.JournalFiles.{entry_path, EntrySays, IsKeptIn}
+use Rattle.reuse_journal.specs.Losses.{AreSafeOn, HaveTree}
+use Rattle.reuse_journal.specs.Labels.{is_full}
 use Rattle.reuse_session.specs.session.Session.{store_of, StandsOn}
-use Rattle.reuse_session.specs.journal.Standing.{IsStanding}
-use Rattle.reuse_session.specs.declared.command.Command.{Command}
+use Rattle.reuse_journal.specs.Standing.{IsStanding}
+use Rattle.reuse_command.specs.declared.command.Command.{Command}
 use Rattle.reuse_session.specs.declared.session.Session.{Session}
-use Rattle.reuse_session.proofs.lemmas.journal.HeadMutations.{below}
+use Rattle.reuse_journal.proofs.HeadMutations.{below}
 use Rattle.reuse_session.proofs.lemmas.session.Recording.{EntryPut, known}
 use Rattle.reuse_session.proofs.lemmas.session.Running.{full_alike}
 use Rattle.reuse_session.proofs.lemmas.journal.StepDoubt.{safe_with_entry}

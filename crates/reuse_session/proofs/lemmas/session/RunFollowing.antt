@@ -4,20 +4,21 @@ use Rattle.std.proofs.lemmas.List.Elements.{All-nil}
 use Rattle.std.proofs.lemmas.List.{nil_from_length}
 use Rattle.reuse_tree.specs.Files.{Files, AreFiles}
 use Rattle.reuse_tree.specs.declared.change.Change.{Change}
-use Rattle.reuse_session.specs.session.Answer.{TellsNoFault, IsOfPlan}
-use Rattle.reuse_session.specs.session.Command.{name_of}
+use Rattle.reuse_command.specs.Answer.{TellsNoFault, IsOfPlan}
+use Rattle.reuse_command.specs.Command.{name_of}
 use Rattle.reuse_tree.specs.Entry.{paths_of, IsEntry, LeadsAll}
-use Rattle.reuse_session.specs.journal.Journal.{Journal, State}
-use Rattle.reuse_session.specs.session.Machine.{Snapshots, Step, is_full, ran_by}
-use Rattle.reuse_session.specs.plan.Outcome.{outcome_of}
-use Rattle.reuse_session.specs.plan.Plan.{IsRefusalOf}
+use Rattle.reuse_journal.specs.Journal.{Journal, State}
+use Rattle.reuse_session.specs.session.Machine.{Snapshots, Step, ran_by}
+use Rattle.reuse_journal.specs.Labels.{is_full}
+use Rattle.reuse_plan.specs.Outcome.{outcome_of}
+use Rattle.reuse_plan.specs.Plan.{IsRefusalOf}
 use Rattle.reuse_session.specs.session.Session.{HoldsSnapshots, StandsOn, StandsAt, Follows, IsRun, Runs}
-use Rattle.reuse_session.specs.declared.command.Command.{Command}
+use Rattle.reuse_command.specs.declared.command.Command.{Command}
 use Rattle.reuse_tree.specs.declared.direction.Direction.TheVariants as direction
-use Rattle.reuse_session.specs.declared.reply.Response.{Response}
-use Rattle.reuse_session.specs.declared.reply.Response.TheVariants.{Changed, NothingChanged}
-use Rattle.reuse_session.specs.declared.reply.Refusal.{Refusal}
-use Rattle.reuse_session.specs.declared.reply.Refusal.TheVariants.{JournalFull, Failed}
+use Rattle.reuse_command.specs.declared.reply.Response.{Response}
+use Rattle.reuse_command.specs.declared.reply.Response.TheVariants.{Changed, NothingChanged}
+use Rattle.reuse_command.specs.declared.reply.Refusal.{Refusal}
+use Rattle.reuse_command.specs.declared.reply.Refusal.TheVariants.{JournalFull, Failed}
 use Rattle.reuse_session.specs.declared.session.Session.{Session}
 use Rattle.reuse_tree.proofs.Differ.{changed_by_entry}
 use Rattle.reuse_session.proofs.lemmas.session.Following.{journal_full, run_refused, run_nothing, run_follows}

@@ -4,15 +4,15 @@ use Rattle.std.proofs.lemmas.List.Sorted.{length_permutation, sum_by-IsPermutati
 use Rattle.reuse_tree.specs.Files.{Files}
 use Rattle.reuse_tree.specs.declared.change.Change.{Change}
 use Rattle.reuse_tree.specs.Entry.{change_size, entry_size}
-use Rattle.reuse_session.specs.journal.Journal.{State}
-use Rattle.reuse_session.specs.session.Machine.{is_full}
-use Rattle.reuse_session.specs.plan.Outcome.{Edit, edit_count, recorded_size}
-use Rattle.reuse_session.specs.plan.Plan.{Records}
+use Rattle.reuse_journal.specs.Journal.{State}
+use Rattle.reuse_journal.specs.Labels.{is_full}
+use Rattle.reuse_plan.specs.Outcome.{Edit, edit_count, recorded_size}
+use Rattle.reuse_plan.specs.Plan.{Records}
 use Rattle.reuse_session.specs.session.Session.{StandsOn, memory_of}
-use Rattle.reuse_session.specs.declared.reply.Refusal.{Refusal}
+use Rattle.reuse_command.specs.declared.reply.Refusal.{Refusal}
 use Rattle.reuse_session.specs.declared.session.Session.{Session}
-use Rattle.reuse_session.proofs.lemmas.journal.MemoryLemmas.{count_done}
-use Rattle.reuse_session.proofs.lemmas.plan.Planning.{same_count, same_sizes}
+use Rattle.reuse_journal.proofs.MemoryLemmas.{count_done}
+use Rattle.reuse_plan.proofs.Planning.{same_count, same_sizes}
 
 -- what a session remembers tells whether the journal is full
 pub full_alike : {S : Type 0} (files : S → Files) (session : Session S) (held : State) → StandsOn files session held

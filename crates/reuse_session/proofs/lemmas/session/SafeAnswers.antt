@@ -4,34 +4,34 @@ use Rattle.reuse_tree.specs.declared.cause.Cause.{Cause}
 use Rattle.reuse_tree.specs.declared.store.Store.{Ghosts}
 use Rattle.reuse_tree.specs.declared.direction.Direction.{Direction}
 use Rattle.reuse_tree.specs.declared.direction.Direction.TheVariants as direction
-use Rattle.reuse_session.specs.session.Answer.{IsEarly, IsNoStep, TellsNoFault}
+use Rattle.reuse_command.specs.Answer.{IsEarly, IsNoStep, TellsNoFault}
 use Rattle.reuse_session.specs.session.Calls.{files_of}
 use Rattle.reuse_session.specs.session.Driven.{StandsSafely, GoesSafely}
-use Rattle.reuse_session.specs.journal.Journal.{Recorded, State, Replays}
-use Rattle.reuse_session.specs.journal.Losses.{AreSafeOn, AreInDoubt, Survives}
+use Rattle.reuse_journal.specs.Journal.{Recorded, State, Replays}
+use Rattle.reuse_journal.specs.Losses.{AreSafeOn, AreInDoubt, Survives}
 use Rattle.reuse_session.specs.session.Machine.{Snapshots}
 use Rattle.reuse_session.specs.session.Model.{Gives}
 use Rattle.reuse_session.specs.session.Requests.{MayFail, IfFailed, Makes, LeadsTo, IsAfterCall, IsAfter, SurvivesRequest, as_step, IsAnswered}
 use Rattle.reuse_session.specs.session.RevertCalls.{Reverts, TakesBack, as_run}
 use Rattle.reuse_session.specs.session.Session.{store_of, Runs, StandsOn, StandsAt}
 use Rattle.reuse_session.specs.session.Showing.{IsUnused}
-use Rattle.reuse_session.specs.journal.Standing.{IsStanding}
+use Rattle.reuse_journal.specs.Standing.{IsStanding}
 use Rattle.reuse_session.specs.session.Stops.{AreLeft}
-use Rattle.reuse_session.specs.declared.command.Command.{Command}
-use Rattle.reuse_session.specs.declared.failure.Failure.TheVariants.{Fault, Memory, Interrupted}
-use Rattle.reuse_session.specs.declared.reply.Refusal.{Refusal}
-use Rattle.reuse_session.specs.declared.reply.Refusal.TheVariants.{JournalFull, NoSuchStep, Failed}
-use Rattle.reuse_session.specs.declared.reply.Response.{Response}
-use Rattle.reuse_session.specs.declared.reply.Response.TheVariants as responses
-use Rattle.reuse_session.specs.declared.reply.Reverted.{Reverted}
-use Rattle.reuse_session.specs.declared.request.Call.{Call}
-use Rattle.reuse_session.specs.declared.request.Call.TheVariants as calls
-use Rattle.reuse_session.specs.declared.request.Request.{Request}
-use Rattle.reuse_session.specs.declared.request.Request.TheVariants as requests
+use Rattle.reuse_command.specs.declared.command.Command.{Command}
+use Rattle.reuse_command.specs.declared.failure.Failure.TheVariants.{Fault, Memory, Interrupted}
+use Rattle.reuse_command.specs.declared.reply.Refusal.{Refusal}
+use Rattle.reuse_command.specs.declared.reply.Refusal.TheVariants.{JournalFull, NoSuchStep, Failed}
+use Rattle.reuse_command.specs.declared.reply.Response.{Response}
+use Rattle.reuse_command.specs.declared.reply.Response.TheVariants as responses
+use Rattle.reuse_command.specs.declared.reply.Reverted.{Reverted}
+use Rattle.reuse_command.specs.declared.request.Call.{Call}
+use Rattle.reuse_command.specs.declared.request.Call.TheVariants as calls
+use Rattle.reuse_command.specs.declared.request.Request.{Request}
+use Rattle.reuse_command.specs.declared.request.Request.TheVariants as requests
 use Rattle.reuse_session.specs.declared.session.Session.{Session}
 use Rattle.reuse_session.proofs.lemmas.session.Answering.{revert_is_step}
 use Rattle.reuse_session.proofs.lemmas.session.Modelling.{after_as_model, gives_to, reverts_one, stopped_near}
-use Rattle.reuse_session.proofs.lemmas.session.OnlyReading.{at_stop}
+use Rattle.reuse_command.proofs.OnlyReading.{at_stop}
 use Rattle.reuse_session.proofs.lemmas.journal.StepDoubt.{synced_is_safe}
 
 -- ---- where no step is made, the state stays

@@ -3,23 +3,23 @@ use Rattle.std.proofs.Common.{◌≡◌, ◌⊎◌, inl, inr, ⊎_elim, false, O
 use Rattle.reuse_tree.specs.Asked.{IsSynced}
 use Rattle.reuse_tree.specs.declared.cause.Cause.{Cause}
 use Rattle.reuse_tree.specs.declared.store.Store.{Ghosts}
-use Rattle.reuse_session.specs.session.Answer.{IsFailure}
+use Rattle.reuse_command.specs.Answer.{IsFailure}
 use Rattle.reuse_session.specs.session.Driven.{StandsSafely, IsSafelyAt, GoesSafely, store_in}
-use Rattle.reuse_session.specs.journal.Journal.{State}
-use Rattle.reuse_session.specs.journal.Losses.{AreSafeOn, AreInDoubt}
+use Rattle.reuse_journal.specs.Journal.{State}
+use Rattle.reuse_journal.specs.Losses.{AreSafeOn, AreInDoubt}
 use Rattle.reuse_session.specs.session.Machine.{Snapshots}
 use Rattle.reuse_session.specs.session.Session.{store_of, StandsOn}
-use Rattle.reuse_session.specs.journal.Standing.{InDoubt}
+use Rattle.reuse_journal.specs.Standing.{InDoubt}
 use Rattle.reuse_session.specs.session.Requests.{IfFailed, MayFail}
 use Rattle.reuse_session.specs.session.Stops.{Point, open_at, closed, Reopens, Continues, AreLeft, MayBeFound}
 use Rattle.reuse_session.specs.declared.events.Driven.{Driven}
 use Rattle.reuse_session.specs.declared.events.Driven.TheVariants.{Open, Closed}
-use Rattle.reuse_session.specs.declared.request.Request.{Request}
-use Rattle.reuse_session.specs.declared.reply.Response.{Response}
-use Rattle.reuse_session.specs.declared.reply.Response.TheVariants.{Opened}
-use Rattle.reuse_session.specs.declared.reply.Refusal.{Refusal}
-use Rattle.reuse_session.specs.declared.failure.Failure.TheVariants.{Memory, Fault, Interrupted}
-use Rattle.reuse_session.specs.declared.reply.Refusal.TheVariants.{Failed}
+use Rattle.reuse_command.specs.declared.request.Request.{Request}
+use Rattle.reuse_command.specs.declared.reply.Response.{Response}
+use Rattle.reuse_command.specs.declared.reply.Response.TheVariants.{Opened}
+use Rattle.reuse_command.specs.declared.reply.Refusal.{Refusal}
+use Rattle.reuse_command.specs.declared.failure.Failure.TheVariants.{Memory, Fault, Interrupted}
+use Rattle.reuse_command.specs.declared.reply.Refusal.TheVariants.{Failed}
 use Rattle.reuse_session.specs.declared.session.Session.{Session}
 use Rattle.reuse_session.proofs.lemmas.session.Driving.{left_out, no_step, some_doubt}
 use Rattle.reuse_session.proofs.lemmas.journal.StepDoubt.{synced_is_safe}

@@ -8,24 +8,28 @@ use Rattle.std.proofs.lemmas.List.{reverse-append, reverse-reverse}
 use Rattle.std.proofs.lemmas.List.Elements.{Contains-append_left, Contains-append_right, Contains-get_or, Contains-push_cases}
 use Rattle.std.proofs.lemmas.List.Folds.{list_any_at, Any-from_list_any}
 use Rattle.reuse_tree.specs.Files.{Files}
-use Rattle.reuse_session.specs.session.Answer.{IsReadRefusal}
+use Rattle.reuse_command.specs.Answer.{IsReadRefusal}
 use Rattle.reuse_tree.specs.Entry.{IsEntry, LeadsAll}
-use Rattle.reuse_session.specs.journal.History.{Memory, row_listing}
-use Rattle.reuse_session.specs.journal.Journal.{Recorded, Journal, State, rows_in}
-use Rattle.reuse_session.specs.journal.JournalFiles.{entry_path, entry_in, number_of, EntrySays, IsKeptIn, KeepsJournal}
-use Rattle.reuse_session.specs.session.Machine.{Kept, Snapshots, row_of}
-use Rattle.reuse_session.specs.session.Session.{store_of, memory_of, listed_as, Remembers, StandsOn, HoldsSnapshots, Connects, LeadUpTo, LeadOn}
-use Rattle.reuse_session.specs.session.Showing.{entry_of, row_among, row_in, lists, steps_in, IsUnused, Shows, ShowsAt, LedTo, LedOn}
+use Rattle.reuse_journal.specs.History.{Memory, row_listing}
+use Rattle.reuse_journal.specs.Journal.{Recorded, Journal, State, rows_in}
+use Rattle.reuse_journal.specs.JournalFiles.{entry_path, entry_in, number_of, EntrySays, IsKeptIn, KeepsJournal}
+use Rattle.reuse_session.specs.session.Machine.{Kept, Snapshots}
+use Rattle.reuse_journal.specs.Labels.{row_of}
+use Rattle.reuse_session.specs.session.Session.{store_of, memory_of, StandsOn, HoldsSnapshots, Connects, LeadUpTo, LeadOn}
+use Rattle.reuse_journal.specs.Remembered.{listed_as, Remembers}
+use Rattle.reuse_session.specs.session.Showing.{steps_in, IsUnused, Shows, ShowsAt, LedTo, LedOn}
+use Rattle.reuse_journal.specs.Numbered.{entry_of, row_among, row_in}
+use Rattle.reuse_journal.specs.Numbered.{lists}
 use Rattle.reuse_tree.specs.Tree.{undo_folder_of}
-use Rattle.reuse_session.specs.declared.journal.history.ListedEntry.{ListedEntry}
+use Rattle.reuse_journal.specs.declared.history.ListedEntry.{ListedEntry}
 use Rattle.reuse_tree.specs.declared.journal.entry.Entry.{Entry}
-use Rattle.reuse_session.specs.declared.reply.Refusal.{Refusal}
-use Rattle.reuse_session.specs.declared.reply.Refusal.TheVariants.{NoSuchStep}
-use Rattle.reuse_session.specs.declared.reply.Row.{Row}
-use Rattle.reuse_session.specs.declared.reply.Shown.{Shown}
+use Rattle.reuse_command.specs.declared.reply.Refusal.{Refusal}
+use Rattle.reuse_command.specs.declared.reply.Refusal.TheVariants.{NoSuchStep}
+use Rattle.reuse_command.specs.declared.reply.Row.{Row}
+use Rattle.reuse_command.specs.declared.reply.Shown.{Shown}
 use Rattle.reuse_session.specs.declared.session.Session.{Session}
 use Rattle.reuse_session.proofs.lemmas.session.Following.{log_follows}
-use Rattle.reuse_session.proofs.lemmas.journal.JournalLemmas.{same_entry}
+use Rattle.reuse_journal.proofs.JournalLemmas.{same_entry}
 
 -- ---- lists
 

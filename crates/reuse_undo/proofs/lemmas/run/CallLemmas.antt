@@ -4,22 +4,23 @@ use Rattle.reuse_tree.specs.Files.{Files, Clashes}
 use Rattle.reuse_tree.specs.Tree.{undo_folder_of}
 use Rattle.reuse_tree.specs.declared.cause.Cause.TheVariants as causes
 use Rattle.reuse_tree.specs.declared.store.Store.{Ghosts}
-use Rattle.reuse_session.specs.session.Answer.{IsEarly, IsStop, IsNoClash, HasClash, TellsNoFault}
+use Rattle.reuse_command.specs.Answer.{IsEarly, IsStop, IsNoClash, HasClash, TellsNoFault}
 use Rattle.reuse_session.specs.session.Calls.{files_of}
-use Rattle.reuse_session.specs.journal.Journal.{State}
-use Rattle.reuse_session.specs.journal.JournalFiles.{head_path, entry_path}
-use Rattle.reuse_session.specs.journal.Opening.{OpensOn}
+use Rattle.reuse_journal.specs.Journal.{State}
+use Rattle.reuse_journal.specs.JournalFiles.{head_path, entry_path}
+use Rattle.reuse_journal.specs.Opening.{OpensOn}
 use Rattle.reuse_session.specs.session.Requests.{HasCallClash, IfFailed, IsAnswered, IsStopped, KeepsFolder, LeadsTo, MayFail, Meets}
-use Rattle.reuse_session.specs.session.Session.{store_of, StandsOn, IsSameBut}
-use Rattle.reuse_session.specs.journal.Standing.{IsStanding, InDoubt}
-use Rattle.reuse_session.specs.declared.failure.Fault.TheVariants as stores
-use Rattle.reuse_session.specs.declared.failure.Failure.TheVariants.{Fault as StoreFailed, Memory, Interrupted}
-use Rattle.reuse_session.specs.declared.reply.Refusal.{Refusal}
-use Rattle.reuse_session.specs.declared.reply.Refusal.TheVariants.{Failed}
-use Rattle.reuse_session.specs.declared.reply.Response.{Response}
-use Rattle.reuse_session.specs.declared.request.Call.TheVariants as calls
-use Rattle.reuse_session.specs.declared.request.Request.{Request}
-use Rattle.reuse_session.specs.declared.request.Request.TheVariants as requests
+use Rattle.reuse_session.specs.session.Session.{store_of, StandsOn}
+use Rattle.reuse_journal.specs.Remembered.{IsSameBut}
+use Rattle.reuse_journal.specs.Standing.{IsStanding, InDoubt}
+use Rattle.reuse_command.specs.declared.failure.Fault.TheVariants as stores
+use Rattle.reuse_command.specs.declared.failure.Failure.TheVariants.{Fault as StoreFailed, Memory, Interrupted}
+use Rattle.reuse_command.specs.declared.reply.Refusal.{Refusal}
+use Rattle.reuse_command.specs.declared.reply.Refusal.TheVariants.{Failed}
+use Rattle.reuse_command.specs.declared.reply.Response.{Response}
+use Rattle.reuse_command.specs.declared.request.Call.TheVariants as calls
+use Rattle.reuse_command.specs.declared.request.Request.{Request}
+use Rattle.reuse_command.specs.declared.request.Request.TheVariants as requests
 use Rattle.reuse_session.specs.declared.session.Session.{Session}
 use Rattle.reuse_session.proofs.lemmas.session.Driving.{stays_open}
 use Rattle.reuse_undo.specs.run.RunLine.{RequestLeaves}

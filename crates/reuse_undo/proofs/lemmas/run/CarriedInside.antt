@@ -3,18 +3,18 @@ use Rattle.std.proofs.Common.{◌≡◌, ◌∙◌, ◌<◌, ℕ, Bool, List, Re
 use Rattle.reuse_tree.specs.Asked.{OnlyReads}
 use Rattle.reuse_tree.specs.Files.{Files}
 use Rattle.reuse_tree.specs.declared.store.Store.{Ghosts}
-use Rattle.reuse_session.specs.session.Answer.{HasCause}
-use Rattle.reuse_session.specs.journal.Standing.{IsStanding}
+use Rattle.reuse_command.specs.Answer.{HasCause}
+use Rattle.reuse_journal.specs.Standing.{IsStanding}
 use Rattle.reuse_session.specs.session.Stops.{HoldState, AreLeft}
-use Rattle.reuse_session.specs.declared.reply.Refusal.{Refusal}
+use Rattle.reuse_command.specs.declared.reply.Refusal.{Refusal}
 use Rattle.reuse_undo.specs.run.CarriedOut.{CarriesOut}
 use Rattle.reuse_session.specs.session.Requests.{HasCallClash}
 use Rattle.reuse_undo.specs.run.RunLine.{RequestLeaves, FollowsModel, ReportsAnswer, IfRefused, IfNoDiff}
 use Rattle.reuse_undo.specs.print.WriterFaults.{IsUndrawn}
-use Rattle.reuse_undo.specs.declared.run.fault.Fault.{Fault}
-use Rattle.reuse_undo.specs.declared.run.fault.Fault.TheVariants as faults
-use Rattle.reuse_undo.specs.declared.cli.line.PrintOptions.{PrintOptions}
-use Rattle.reuse_session.specs.declared.request.Request.{Request}
+use Rattle.reuse_print.specs.declared.fault.Fault.{Fault}
+use Rattle.reuse_print.specs.declared.fault.Fault.TheVariants as faults
+use Rattle.reuse_arguments.specs.declared.line.PrintOptions.{PrintOptions}
+use Rattle.reuse_command.specs.declared.request.Request.{Request}
 use Rattle.reuse_undo.proofs.lemmas.run.SafeCalls.{found_alike}
 
 -- the one holds what the other holds, a loss of power leaves the same, and they count and are honest alike

@@ -3,15 +3,15 @@ use Rattle.std.proofs.Common.{◌≡◌, ◌≤◌, inl, inr, ℕ, List, [], Boo
 use Rattle.std.proofs.lemmas.Bool.{false≢true}
 use Rattle.std.specs.declared.vec.Vec.{Vec}
 use Rattle.reuse_tree.specs.declared.store.Store.{Ghosts}
-use Rattle.reuse_session.specs.declared.reply.Refusal.{Refusal}
-use Rattle.reuse_session.specs.declared.reply.Response.TheVariants as responses
-use Rattle.reuse_undo.specs.declared.run.fault.Fault.{Fault}
-use Rattle.reuse_undo.specs.declared.run.fault.Fault.TheVariants as faults
-use Rattle.reuse_undo.specs.declared.cli.line.OutputFormat.TheVariants.{Diff}
-use Rattle.reuse_undo.specs.declared.cli.line.PrintOptions.{PrintOptions}
-use Rattle.reuse_session.specs.declared.reply.Response.{Response}
+use Rattle.reuse_command.specs.declared.reply.Refusal.{Refusal}
+use Rattle.reuse_command.specs.declared.reply.Response.TheVariants as responses
+use Rattle.reuse_print.specs.declared.fault.Fault.{Fault}
+use Rattle.reuse_print.specs.declared.fault.Fault.TheVariants as faults
+use Rattle.reuse_arguments.specs.declared.line.OutputFormat.TheVariants.{Diff}
+use Rattle.reuse_arguments.specs.declared.line.PrintOptions.{PrintOptions}
+use Rattle.reuse_command.specs.declared.reply.Response.{Response}
 use Rattle.reuse_undo.specs.print.Responses.{Finishes, IsAccepted, IsBehind, IsDiffBehind, IsDiffOf, IsDrawnPreview, IsNoDiff, IsNoRecord, IsPrintedText, IsWanted}
-use Rattle.reuse_undo.specs.print.Outputs.{AddsFront}
+use Rattle.reuse_print.specs.Outputs.{AddsFront}
 use Rattle.reuse_undo.specs.run.RunLine.{IfNoDiff}
 use Rattle.reuse_undo.specs.print.WriterFaults.{IsOfDiff, IsUndrawn}
 

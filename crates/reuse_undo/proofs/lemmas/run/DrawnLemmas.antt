@@ -20,10 +20,10 @@ use Rattle.reuse_tree.proofs.ReadingLemmas.{absent_is, found_is, long_is}
 use Rattle.reuse_tree.proofs.Sealed.{splices}
 use Rattle.reuse_tree.proofs.TreeLemmas.{read_there}
 use Rattle.reuse_tree.proofs.Applying.{applies_back_by_range, applies_once_by_range}
-use Rattle.reuse_undo.specs.print.DiffText.{part_before, part_after, IsDiff}
+use Rattle.reuse_diff.specs.DiffText.{part_before, part_after, IsDiff}
 use Rattle.reuse_undo.specs.run.Drawn.{gone, AreDiffs, AreSmallSteps, IsPathDiff, IsRangeWithin}
-use Rattle.reuse_undo.specs.print.RowLines.{AppendsSome}
-use Rattle.reuse_undo.proofs.lemmas.print.RowLemmas.{AppendsSome-row}
+use Rattle.reuse_shown.specs.JoinedTexts.{AppendsSome}
+use Rattle.reuse_shown.proofs.JoinedLemmas.{AppendsSome-row}
 
 -- ---- one change
 

@@ -2,21 +2,21 @@
 use Rattle.std.proofs.Common.{◌≡◌, inl, inr, ℕ, List, Result, Ok, Err, IfOk, IsOkAnd, subst}
 use Rattle.std.specs.declared.vec.Vec.{Vec}
 use Rattle.reuse_tree.specs.Files.{Files}
-use Rattle.reuse_session.specs.journal.Journal.{State}
+use Rattle.reuse_journal.specs.Journal.{State}
 use Rattle.reuse_session.specs.session.Requests.{IsReading, Meets, as_answer}
-use Rattle.reuse_session.specs.declared.path_outcome.PathOutcome.{PathOutcome}
-use Rattle.reuse_session.specs.declared.reply.Refusal.{Refusal}
-use Rattle.reuse_session.specs.declared.reply.Response.TheVariants as responses
+use Rattle.reuse_command.specs.declared.path_outcome.PathOutcome.{PathOutcome}
+use Rattle.reuse_command.specs.declared.reply.Refusal.{Refusal}
+use Rattle.reuse_command.specs.declared.reply.Response.TheVariants as responses
 use Rattle.reuse_undo.specs.run.Drawn.{IsDiffOfCall, IsDrawnText, IsTreeDiff, WouldLeave}
-use Rattle.reuse_undo.specs.print.Outputs.{AddsSome}
+use Rattle.reuse_print.specs.Outputs.{AddsSome}
 use Rattle.reuse_undo.specs.run.RunLine.{RequestLeaves}
 use Rattle.reuse_undo.specs.print.Responses.{Finishes, HasBehind, IsDrawnPreview, IsWanted, WouldBeMade}
-use Rattle.reuse_undo.specs.declared.run.fault.Fault.{Fault}
-use Rattle.reuse_undo.specs.declared.cli.line.OutputFormat.TheVariants.{Diff}
-use Rattle.reuse_undo.specs.declared.cli.line.PrintOptions.{PrintOptions}
-use Rattle.reuse_session.specs.declared.request.Request.{Request}
-use Rattle.reuse_session.specs.declared.request.Request.TheVariants as requests
-use Rattle.reuse_session.specs.declared.reply.Response.{Response}
+use Rattle.reuse_print.specs.declared.fault.Fault.{Fault}
+use Rattle.reuse_arguments.specs.declared.line.OutputFormat.TheVariants.{Diff}
+use Rattle.reuse_arguments.specs.declared.line.PrintOptions.{PrintOptions}
+use Rattle.reuse_command.specs.declared.request.Request.{Request}
+use Rattle.reuse_command.specs.declared.request.Request.TheVariants as requests
+use Rattle.reuse_command.specs.declared.reply.Response.{Response}
 
 -- ---- where a diff is wanted
 

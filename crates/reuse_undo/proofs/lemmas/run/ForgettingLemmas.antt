@@ -2,18 +2,18 @@
 use Rattle.std.proofs.Common.{◌≡◌, ◌⊎◌, inr, ℕ, List, Result, Ok, Err, IfErr, refl, ap}
 use Rattle.std.specs.Prelude.{IfOk}
 use Rattle.reuse_tree.specs.Files.{Files}
-use Rattle.reuse_session.specs.session.Answer.{IsEarly, IsStop, TellsNoFault}
+use Rattle.reuse_command.specs.Answer.{IsEarly, IsStop, TellsNoFault}
 use Rattle.reuse_session.specs.session.Forgetting.{Forgets, IsForgetRefusal, state_besides}
-use Rattle.reuse_session.specs.journal.Journal.{State}
-use Rattle.reuse_session.specs.journal.Opening.{OpensOn}
+use Rattle.reuse_journal.specs.Journal.{State}
+use Rattle.reuse_journal.specs.Opening.{OpensOn}
 use Rattle.reuse_session.specs.session.Session.{store_of, StandsOn}
-use Rattle.reuse_session.specs.journal.Standing.{IsStanding}
-use Rattle.reuse_session.specs.declared.reply.Refusal.{Refusal}
-use Rattle.reuse_session.specs.declared.failure.Failure.TheVariants.{Memory, Interrupted}
-use Rattle.reuse_session.specs.declared.reply.Refusal.TheVariants.{Broken, NoSuchStep, Failed}
+use Rattle.reuse_journal.specs.Standing.{IsStanding}
+use Rattle.reuse_command.specs.declared.reply.Refusal.{Refusal}
+use Rattle.reuse_command.specs.declared.failure.Failure.TheVariants.{Memory, Interrupted}
+use Rattle.reuse_command.specs.declared.reply.Refusal.TheVariants.{Broken, NoSuchStep, Failed}
 use Rattle.reuse_session.specs.declared.session.Session.{Session}
 use Rattle.reuse_undo.specs.run.Forgotten.{asked_numbers, HasForgotten, RefusesFrom, RefusesToForget}
-use Rattle.reuse_undo.specs.declared.cli.line.Steps.{Steps}
+use Rattle.reuse_arguments.specs.declared.line.Steps.{Steps}
 
 -- what is answered exactly
 pub forgets_exactly : {S : Type 0} (files : S → Files) (new : Session S) (numbers : List ℕ) (held : State) (result : Result (List ℕ) Refusal)

@@ -1,24 +1,24 @@
 -- What comes of a session's one call from a state of the model, and what is reported of it.
 use Rattle.std.proofs.Common.{◌≡◌, inl, inr, ⊎_elim, ℕ, List, Result, Ok, Err, sym, subst}
 use Rattle.reuse_tree.specs.Files.{Files}
-use Rattle.reuse_session.specs.session.Answer.{IsFailure}
-use Rattle.reuse_session.specs.journal.Journal.{State}
+use Rattle.reuse_command.specs.Answer.{IsFailure}
+use Rattle.reuse_journal.specs.Journal.{State}
 use Rattle.reuse_session.specs.session.Machine.{Snapshots}
 use Rattle.reuse_session.specs.session.Requests.{Meets}
 use Rattle.reuse_session.specs.session.Session.{HoldsSnapshots}
-use Rattle.reuse_session.specs.journal.Standing.{IsStanding}
+use Rattle.reuse_journal.specs.Standing.{IsStanding}
 use Rattle.reuse_session.specs.session.Stops.{Point, open_at, closed, Reopens, HoldState, AreLeft}
-use Rattle.reuse_session.specs.declared.reply.Response.{Response}
-use Rattle.reuse_session.specs.declared.reply.Refusal.{Refusal}
-use Rattle.reuse_session.specs.declared.failure.Failure.TheVariants.{Fault as StoreFailed, Memory, Interrupted}
-use Rattle.reuse_session.specs.declared.reply.Refusal.TheVariants.{Failed}
-use Rattle.reuse_session.specs.declared.request.Request.{Request}
+use Rattle.reuse_command.specs.declared.reply.Response.{Response}
+use Rattle.reuse_command.specs.declared.reply.Refusal.{Refusal}
+use Rattle.reuse_command.specs.declared.failure.Failure.TheVariants.{Fault as StoreFailed, Memory, Interrupted}
+use Rattle.reuse_command.specs.declared.reply.Refusal.TheVariants.{Failed}
+use Rattle.reuse_command.specs.declared.request.Request.{Request}
 use Rattle.reuse_session.proofs.lemmas.session.Driving.{stays_closed}
 use Rattle.reuse_session.proofs.lemmas.session.Modelling.{gives_to, stopped_near}
-use Rattle.reuse_undo.specs.declared.run.fault.Fault.{Fault}
-use Rattle.reuse_undo.specs.declared.run.fault.Fault.TheVariants as faults
-use Rattle.reuse_undo.specs.declared.cli.line.PrintOptions.{PrintOptions}
-use Rattle.reuse_undo.specs.print.Outputs.{AddsSome}
+use Rattle.reuse_print.specs.declared.fault.Fault.{Fault}
+use Rattle.reuse_print.specs.declared.fault.Fault.TheVariants as faults
+use Rattle.reuse_arguments.specs.declared.line.PrintOptions.{PrintOptions}
+use Rattle.reuse_print.specs.Outputs.{AddsSome}
 use Rattle.reuse_undo.specs.run.RunLine.{AnswersOn, IsUnopened, IsMade, RequestLeaves, FollowsModel, ReportsAnswer, IfRefused}
 use Rattle.reuse_undo.specs.print.Responses.{IsPrintedText, Finishes}
 

@@ -6,22 +6,22 @@ use Rattle.reuse_tree.specs.Files.{Files}
 use Rattle.reuse_tree.specs.declared.store.Store.{Ghosts}
 use Rattle.reuse_tree.specs.declared.direction.Direction.{Direction}
 use Rattle.reuse_tree.specs.declared.direction.Direction.TheVariants as go
-use Rattle.reuse_session.specs.session.Answer.{TellsNoFault}
-use Rattle.reuse_session.specs.session.PathOutcomes.{first_refusal}
-use Rattle.reuse_session.specs.journal.Journal.{State, ahead, changes_ahead, Replays}
-use Rattle.reuse_session.specs.plan.Outcome.{outcome_of}
-use Rattle.reuse_session.specs.plan.Plan.{IsPlan}
+use Rattle.reuse_command.specs.Answer.{TellsNoFault}
+use Rattle.reuse_plan.specs.PathOutcomes.{first_refusal}
+use Rattle.reuse_journal.specs.Journal.{State, ahead, changes_ahead, Replays}
+use Rattle.reuse_plan.specs.Outcome.{outcome_of}
+use Rattle.reuse_plan.specs.Plan.{IsPlan}
 use Rattle.reuse_session.specs.session.Previews.{path_outcomes_alone}
 use Rattle.reuse_session.specs.session.Session.{store_of, is_broken, StandsOn}
-use Rattle.reuse_session.specs.declared.command.Command.{Command}
-use Rattle.reuse_session.specs.declared.request.Call.{Call}
-use Rattle.reuse_session.specs.declared.path_outcome.PathOutcome.{PathOutcome}
-use Rattle.reuse_session.specs.declared.path_outcome.PathOutcome.TheVariants as path_outcome
-use Rattle.reuse_session.specs.declared.path_outcome.Previewed.{Previewed}
-use Rattle.reuse_session.specs.declared.reply.Refusal.{Refusal}
-use Rattle.reuse_session.specs.declared.reply.Refusal.TheVariants.{Broken}
-use Rattle.reuse_session.specs.declared.reply.Response.{Response}
-use Rattle.reuse_session.specs.declared.reply.Response.TheVariants as responses
+use Rattle.reuse_command.specs.declared.command.Command.{Command}
+use Rattle.reuse_command.specs.declared.request.Call.{Call}
+use Rattle.reuse_command.specs.declared.path_outcome.PathOutcome.{PathOutcome}
+use Rattle.reuse_command.specs.declared.path_outcome.PathOutcome.TheVariants as path_outcome
+use Rattle.reuse_command.specs.declared.path_outcome.Previewed.{Previewed}
+use Rattle.reuse_command.specs.declared.reply.Refusal.{Refusal}
+use Rattle.reuse_command.specs.declared.reply.Refusal.TheVariants.{Broken}
+use Rattle.reuse_command.specs.declared.reply.Response.{Response}
+use Rattle.reuse_command.specs.declared.reply.Response.TheVariants as responses
 use Rattle.reuse_session.specs.declared.session.Session.{Session}
 use Rattle.reuse_session.proofs.lemmas.session.Answering.{answered_look, fails_early, preview_fails}
 use Rattle.reuse_session.proofs.lemmas.session.Peeking.{refused, same_refusal, reads_with_cause_err, reads_with_cause_ok}
@@ -29,8 +29,8 @@ use Rattle.reuse_session.proofs.lemmas.session.Previewing.{alone_where, told_alo
 use Rattle.reuse_undo.specs.run.Drawn.{planned_in, planned_unless, LeadsAsPreviewed, IsAnsweredWith, WouldLeave}
 use Rattle.reuse_session.specs.session.Requests.{IsAnswered, ReadsOnlyWithCause, Previews, as_answer}
 use Rattle.reuse_undo.specs.print.Responses.{is_refused, IsAccepted}
-use Rattle.reuse_session.specs.declared.request.Request.{Request}
-use Rattle.reuse_session.specs.declared.request.Request.TheVariants as requests
+use Rattle.reuse_command.specs.declared.request.Request.{Request}
+use Rattle.reuse_command.specs.declared.request.Request.TheVariants as requests
 use Rattle.reuse_undo.specs.declared.run.line.planned.PlannedChanges.{PlannedChanges}
 use Rattle.reuse_undo.proofs.lemmas.run.TreeDiffLemmas.{going, plan_previews, replay_previews}
 

@@ -18,26 +18,26 @@ use Rattle.reuse_tree.specs.declared.direction.Direction.TheVariants as go
 use Rattle.reuse_tree.proofs.Differ.{changed_by_entry, changed_by_none, only_keys}
 use Rattle.reuse_tree.proofs.DifferingPaths.{among_changed, changed_ascend}
 use Rattle.reuse_tree.proofs.TreeLemmas.{among_keys}
-use Rattle.reuse_session.specs.journal.Journal.{Recorded, State, changes_ahead, Replays}
-use Rattle.reuse_session.specs.journal.JournalFiles.{entry_in, entry_path}
-use Rattle.reuse_session.specs.plan.Outcome.{outcome_of}
-use Rattle.reuse_session.specs.plan.Plan.{IsPlan}
+use Rattle.reuse_journal.specs.Journal.{Recorded, State, changes_ahead, Replays}
+use Rattle.reuse_journal.specs.JournalFiles.{entry_in, entry_path}
+use Rattle.reuse_plan.specs.Outcome.{outcome_of}
+use Rattle.reuse_plan.specs.Plan.{IsPlan}
 use Rattle.reuse_session.specs.session.RevertCalls.{touched_later, GivesRevert, Reverts}
 use Rattle.reuse_session.specs.session.Requests.{Makes, as_answer}
 use Rattle.reuse_session.specs.session.Session.{store_of, Runs, StandsOn}
-use Rattle.reuse_session.specs.declared.request.Call.TheVariants as calls
-use Rattle.reuse_session.specs.declared.command.Command.{Command}
-use Rattle.reuse_session.specs.declared.command.Command.TheVariants.{Revert}
-use Rattle.reuse_session.specs.declared.reply.Refusal.{Refusal}
-use Rattle.reuse_session.specs.declared.reply.Response.{Response}
-use Rattle.reuse_session.specs.declared.reply.Response.TheVariants as responses
-use Rattle.reuse_session.specs.declared.reply.Response.TheVariants.{Changed, NothingChanged}
-use Rattle.reuse_session.specs.declared.reply.Reverted.{Reverted}
+use Rattle.reuse_command.specs.declared.request.Call.TheVariants as calls
+use Rattle.reuse_command.specs.declared.command.Command.{Command}
+use Rattle.reuse_command.specs.declared.command.Command.TheVariants.{Revert}
+use Rattle.reuse_command.specs.declared.reply.Refusal.{Refusal}
+use Rattle.reuse_command.specs.declared.reply.Response.{Response}
+use Rattle.reuse_command.specs.declared.reply.Response.TheVariants as responses
+use Rattle.reuse_command.specs.declared.reply.Response.TheVariants.{Changed, NothingChanged}
+use Rattle.reuse_command.specs.declared.reply.Reverted.{Reverted}
 use Rattle.reuse_session.specs.declared.session.Session.{Session}
-use Rattle.reuse_session.proofs.lemmas.journal.JournalLemmas.{same_entry}
+use Rattle.reuse_journal.proofs.JournalLemmas.{same_entry}
 use Rattle.reuse_session.proofs.lemmas.session.StepsByNumber.{says_step}
 use Rattle.reuse_undo.specs.run.Drawn.{AreDiffs, LeadsAsPreviewed, IsPathDiff, IsTreeDiff}
-use Rattle.reuse_undo.specs.print.RowLines.{AreJoined}
+use Rattle.reuse_shown.specs.JoinedTexts.{AreJoined}
 use Rattle.reuse_undo.specs.declared.run.line.planned.PlannedChanges.{PlannedChanges}
 
 -- ---- the paths at which two trees differ, either way

@@ -1,20 +1,20 @@
 //! What is printed of a response.
 ghost use Rattle.std.specs.Prelude.{◌≡◌, Err, IfOk, IfErr, IsOkAnd, OnOk};
-ghost use Rattle.reuse_undo.specs.print.DiffText.{AreRecords};
-ghost use Rattle.reuse_undo.specs.print.Outputs.{AddsSome};
-ghost use Rattle.reuse_undo.specs.print.RowLines.{AppendsSome};
+ghost use Rattle.reuse_diff.specs.DiffText.{AreRecords};
+ghost use Rattle.reuse_print.specs.Outputs.{AddsSome};
+ghost use Rattle.reuse_shown.specs.JoinedTexts.{AppendsSome};
 ghost use Rattle.reuse_undo.specs.run.RunLine.{IfNoDiff};
 ghost use Rattle.reuse_undo.specs.print.Responses.{Accepts, Finishes, HasBehind, is_refusal, is_refused, IsBehind, IsDiffBehind, IsDiffOf, IsDrawnPreview, IsTextIn, IsPrintedText, ReportsFailure};
-ghost use Rattle.reuse_undo.specs.declared.run.fault.Fault.TheVariants as faults;
+ghost use Rattle.reuse_print.specs.declared.fault.Fault.TheVariants as faults;
 
-use crate::cli::line::{OutputFormat, PrintOptions};
-use crate::print::diff::print_record;
-use crate::print::lines::{path_count, print_response};
-use crate::print::objects::{print_path_outcome_objects, print_row_objects, print_shown_object};
-use crate::print::output::{Sink, write_text};
-use crate::print::shown_name::Names;
-use crate::run::fault::{Fault, in_memory};
+use reuse_arguments::line::{OutputFormat, PrintOptions};
+use reuse_diff::print_record;
+use reuse_print::fault::{Fault, in_memory};
+use reuse_print::lines::{path_count, print_response};
+use reuse_print::objects::{print_path_outcome_objects, print_row_objects, print_shown_object};
+use reuse_print::output::{Sink, write_text};
 use reuse_session::{PathOutcome, PathOutcomes, Response};
+use reuse_shown::shown_name::Names;
 use reuse_tree::Change;
 use std::alloc::Global;
 use std::io::{self, Write};

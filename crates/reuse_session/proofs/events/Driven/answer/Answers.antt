@@ -1,7 +1,7 @@
 use Rattle.std.proofs.Common.{◌<◌, IfErr, arith, ap, sym, subst}
 use Rattle.reuse_tree.specs.Files.{Files}
-use Rattle.reuse_session.specs.session.Answer.{HasCause}
-use Rattle.reuse_session.specs.journal.JournalFiles.{IsFree}
+use Rattle.reuse_command.specs.Answer.{HasCause}
+use Rattle.reuse_journal.specs.JournalFiles.{IsFree}
 use Rattle.reuse_session.specs.session.Driven.{store_in}
 use Rattle.reuse_session.specs.session.Stops.{AnswersEvent, AreLeft, MayBeFound}
 use Rattle.reuse_tree.specs.Tree.{undo_folder_of}

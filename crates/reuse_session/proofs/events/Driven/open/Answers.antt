@@ -1,8 +1,8 @@
 use Rattle.std.proofs.Common.{inl, refl}
-use Rattle.reuse_session.specs.journal.JournalFiles.{head_path}
+use Rattle.reuse_journal.specs.JournalFiles.{head_path}
 use Rattle.reuse_session.proofs.lemmas.session.Driving.{opens, stays_closed}
 use Rattle.reuse_session.proofs.lemmas.session.SafeDriving.{opens_safely, closed_safely}
-use Rattle.reuse_session.proofs.lemmas.journal.JournalLemmas.{free_stays}
+use Rattle.reuse_journal.proofs.JournalLemmas.{free_stays}
 use Rattle.reuse_session.proofs.events.Driven.«open».Goals as goal
 
 pub returns-in-Ok-clause-reopens : goal.returns-in-Ok-clause-reopens

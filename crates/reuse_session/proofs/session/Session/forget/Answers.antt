@@ -1,10 +1,10 @@
 use Rattle.std.proofs.Common.{◌≡◌, ◌∙◌, [], None, true, length, eqb-true, refl, sym}
 use Rattle.std.proofs.lemmas.List.{nil_from_length}
-use Rattle.reuse_session.specs.session.Forgetting.{first_unlisted, memory_besides}
+use Rattle.reuse_journal.specs.Numbered.{first_unlisted, memory_besides}
 use Rattle.reuse_session.specs.session.Session.{memory_of}
 use Rattle.reuse_session.proofs.lemmas.session.Forgetting.{forgets_listed, forgets_nothing, leaves_nothing, memory_nothing, only_order, order_nothing, stands_next, stands_still}
 use Rattle.reuse_session.proofs.lemmas.session.ForgottenSteps.{first_is}
-use Rattle.reuse_session.proofs.lemmas.Results.{none_unless_some}
+use Rattle.reuse_plan.proofs.Results.{none_unless_some}
 use Rattle.reuse_session.proofs.session.Session.forget.Given.{Over}
 use Rattle.reuse_session.proofs.session.Session.forget.Goals.{After-is_empty}
 use Rattle.reuse_session.proofs.session.Session.forget.Goals as goal

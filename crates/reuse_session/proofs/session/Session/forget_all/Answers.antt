@@ -1,9 +1,10 @@
 use Rattle.std.proofs.Common.{◌≡◌, ◌∙◌, sym, ap, subst}
 use Rattle.std.specs.Prelude.{IfOk}
 use Rattle.std.proofs.lemmas.Option.{none-some}
-use Rattle.reuse_session.specs.session.Answer.{TellsNoFault}
-use Rattle.reuse_session.specs.session.Forgetting.{AreInOrder, Forgets, all_numbers, first_unlisted, memory_besides}
-use Rattle.reuse_session.specs.journal.Journal.{State}
+use Rattle.reuse_command.specs.Answer.{TellsNoFault}
+use Rattle.reuse_session.specs.session.Forgetting.{AreInOrder, Forgets}
+use Rattle.reuse_journal.specs.Numbered.{all_numbers, first_unlisted, memory_besides}
+use Rattle.reuse_journal.specs.Journal.{State}
 use Rattle.reuse_session.specs.session.Session.{store_of, memory_of, StandsOn}
 use Rattle.reuse_session.proofs.lemmas.session.Forgetting.{forgotten_all, stands_alone}
 use Rattle.reuse_session.proofs.lemmas.session.ForgottenSteps.{all_listed, numbers_of_all}

@@ -1,8 +1,10 @@
 use Rattle.std.proofs.Common.{ℕ, ◌≤◌, List, Err, None, length, sym, ap, subst, ◌∙◌}
 use Rattle.reuse_tree.specs.Head.{IsGoodHead}
-use Rattle.reuse_session.specs.session.Forgetting.{AreInOrder, memory_besides, state_besides}
-use Rattle.reuse_session.specs.journal.History.{Memory, head_listing}
-use Rattle.reuse_session.specs.session.Session.{store_of, memory_of, listed_count, head_room, Remembers}
+use Rattle.reuse_session.specs.session.Forgetting.{AreInOrder, state_besides}
+use Rattle.reuse_journal.specs.Numbered.{memory_besides}
+use Rattle.reuse_journal.specs.History.{Memory, head_listing}
+use Rattle.reuse_session.specs.session.Session.{store_of, memory_of}
+use Rattle.reuse_journal.specs.Remembered.{listed_count, head_room, Remembers}
 use Rattle.reuse_session.proofs.lemmas.session.Forgetting.{IsToForget, sure, survives_some, done_standing, left_standing, left_safe, leaves_done, leaves_stop}
 use Rattle.reuse_session.proofs.lemmas.session.ForgottenSteps.{remembers_besides}
 use Rattle.reuse_session.proofs.session.Session.forget_listed.Given.{Over}

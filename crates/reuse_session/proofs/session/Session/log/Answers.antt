@@ -1,7 +1,7 @@
 use Rattle.std.proofs.Common.{◌∙◌}
 use Rattle.reuse_session.specs.session.Session.{memory_of}
 use Rattle.reuse_session.proofs.lemmas.session.Following.{log_follows}
-use Rattle.reuse_session.proofs.lemmas.journal.MemoryLemmas.{rows_of_memory}
+use Rattle.reuse_journal.proofs.MemoryLemmas.{rows_of_memory}
 use Rattle.reuse_session.proofs.session.Session.log.Goals as goal
 
 pub returns-clause-exact : goal.returns-clause-exact

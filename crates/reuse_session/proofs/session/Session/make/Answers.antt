@@ -2,19 +2,20 @@ use Rattle.std.proofs.Common.{◌+◌, length, Result, IfErr, refl, sym, subst}
 use Rattle.reuse_tree.specs.Files.{Clashes}
 use Rattle.reuse_tree.specs.Tree.{undo_folder_of}
 use Rattle.reuse_tree.specs.declared.direction.Direction.TheVariants as direction
-use Rattle.reuse_session.specs.session.Answer.{HasClash, IsNoClash}
+use Rattle.reuse_command.specs.Answer.{HasClash, IsNoClash}
 use Rattle.reuse_session.specs.session.Calls.{files_of}
-use Rattle.reuse_session.specs.journal.JournalFiles.{head_path, entry_path}
-use Rattle.reuse_session.specs.journal.Losses.{Survives}
+use Rattle.reuse_journal.specs.JournalFiles.{head_path, entry_path}
+use Rattle.reuse_journal.specs.Losses.{Survives}
 use Rattle.reuse_session.specs.session.Requests.{as_answer, IsAnswered}
 use Rattle.reuse_session.specs.session.RevertCalls.{IsAfterRevert}
-use Rattle.reuse_session.specs.session.Session.{store_of, memory_of, IsRun, IsSameButTwo}
-use Rattle.reuse_session.specs.declared.reply.Refusal.{Refusal}
-use Rattle.reuse_session.specs.declared.reply.Response.{Response}
-use Rattle.reuse_session.specs.declared.reply.Response.TheVariants as responses
-use Rattle.reuse_session.specs.declared.request.Call.{Call}
-use Rattle.reuse_session.specs.declared.request.Call.TheVariants as calls
-use Rattle.reuse_session.specs.declared.request.Request.TheVariants as requests
+use Rattle.reuse_session.specs.session.Session.{store_of, memory_of, IsRun}
+use Rattle.reuse_journal.specs.Remembered.{IsSameButTwo}
+use Rattle.reuse_command.specs.declared.reply.Refusal.{Refusal}
+use Rattle.reuse_command.specs.declared.reply.Response.{Response}
+use Rattle.reuse_command.specs.declared.reply.Response.TheVariants as responses
+use Rattle.reuse_command.specs.declared.request.Call.{Call}
+use Rattle.reuse_command.specs.declared.request.Call.TheVariants as calls
+use Rattle.reuse_command.specs.declared.request.Request.TheVariants as requests
 use Rattle.reuse_session.proofs.lemmas.session.Answering.{broken_as_answer, call_as_answer, err_as_answer, told_as_answer, make_fails, run_is_step, revert_is_step, revert_stands, revert_doubt, revert_clash, revert_folder, revert_free}
 use Rattle.reuse_session.proofs.lemmas.session.ReplayAnswers.{replay_answers}
 use Rattle.reuse_session.proofs.lemmas.journal.StepAnswers.{run_no_clash}

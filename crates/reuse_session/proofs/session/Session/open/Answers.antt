@@ -1,9 +1,9 @@
 use Rattle.std.proofs.Common.{inl, inr, ⊎_elim, Err, refl, ap}
-use Rattle.reuse_session.specs.journal.Losses.{AreSafeOn}
-use Rattle.reuse_session.specs.session.Session.{Remembers}
-use Rattle.reuse_session.specs.journal.Standing.{IsStanding}
-use Rattle.reuse_session.proofs.lemmas.journal.FilesInDoubt.{opened_standing}
-use Rattle.reuse_session.proofs.lemmas.journal.OneOpening.{can_open, opens_session, opens_refused}
+use Rattle.reuse_journal.specs.Losses.{AreSafeOn}
+use Rattle.reuse_journal.specs.Remembered.{Remembers}
+use Rattle.reuse_journal.specs.Standing.{IsStanding}
+use Rattle.reuse_journal.proofs.FilesInDoubt.{opened_standing}
+use Rattle.reuse_journal.proofs.OneOpening.{can_open, opens_session, opens_refused}
 use Rattle.reuse_session.proofs.session.Session.open.Goals as goal
 
 pub returns-in-Ok-clause-opened : goal.returns-in-Ok-clause-opened

@@ -1,7 +1,8 @@
 use Rattle.std.proofs.Common.{◌≡◌, ◌∙◌, OnOk, sym, subst}
-use Rattle.reuse_session.specs.plan.Counted.{counts_of, IsCounted}
-use Rattle.reuse_session.specs.session.PathOutcomes.{path_outcomes_of}
-use Rattle.reuse_session.proofs.lemmas.plan.Counting.{on_path_outcomes}
+use Rattle.reuse_plan.specs.Counted.{IsCounted}
+use Rattle.reuse_session.specs.session.Session.{counts_of}
+use Rattle.reuse_plan.specs.PathOutcomes.{path_outcomes_of}
+use Rattle.reuse_session.proofs.lemmas.session.CountedCalls.{on_path_outcomes}
 use Rattle.reuse_session.proofs.lemmas.session.Previewing.{alone_err, alone_looks, alone_ok, alone_where, told_alone}
 use Rattle.reuse_session.proofs.session.Session.preview.Goals as goal
 

@@ -1,6 +1,6 @@
 use Rattle.std.proofs.Common.{sym, subst}
 use Rattle.reuse_session.specs.session.Requests.{Previews}
-use Rattle.reuse_session.specs.declared.request.Call.{Call}
+use Rattle.reuse_command.specs.declared.request.Call.{Call}
 use Rattle.reuse_session.proofs.lemmas.session.Peeking.{preview_reads_with_cause}
 use Rattle.reuse_session.proofs.session.Session.preview_call.Goals as goal
 

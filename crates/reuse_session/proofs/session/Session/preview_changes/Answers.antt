@@ -1,10 +1,10 @@
 use Rattle.std.proofs.Common.{◌≡◌, ◌∙◌, true, false, None, Err, IfOk, OnOk, refl, sym, subst}
-use Rattle.reuse_session.specs.plan.Counted.{IsCounted}
-use Rattle.reuse_session.specs.session.PathOutcomes.{path_outcomes_of, first_refusal}
-use Rattle.reuse_session.specs.plan.Outcome.{edits_of, outcome_of}
-use Rattle.reuse_session.specs.plan.Plan.{IsPlan, Records}
-use Rattle.reuse_session.specs.declared.path_outcome.Previewed.{Previewed}
-use Rattle.reuse_session.specs.declared.reply.Refusal.TheVariants.{JournalFull}
+use Rattle.reuse_plan.specs.Counted.{IsCounted}
+use Rattle.reuse_plan.specs.PathOutcomes.{path_outcomes_of, first_refusal}
+use Rattle.reuse_plan.specs.Outcome.{edits_of, outcome_of}
+use Rattle.reuse_plan.specs.Plan.{IsPlan, Records}
+use Rattle.reuse_command.specs.declared.path_outcome.Previewed.{Previewed}
+use Rattle.reuse_command.specs.declared.reply.Refusal.TheVariants.{JournalFull}
 use Rattle.reuse_session.proofs.lemmas.session.Following.{is_full_alike}
 use Rattle.reuse_session.proofs.lemmas.session.Previewing.{alone_path_outcomes, alone_refusal, alone_told, run_as_previewed, run_as_previewed_on}
 use Rattle.reuse_session.proofs.lemmas.session.Running.{full_alike}

@@ -1,16 +1,16 @@
 use Rattle.std.proofs.Common.{◌≡◌, ◌∙◌, List, Some, Ok, Err, ap, refl, sym, subst}
 use Rattle.reuse_tree.specs.Files.{tree_of}
 use Rattle.reuse_tree.specs.declared.change.Change.{Change}
-use Rattle.reuse_session.specs.session.Answer.{TellsNoFault}
+use Rattle.reuse_command.specs.Answer.{TellsNoFault}
 use Rattle.reuse_tree.specs.Entry.{IsEntry}
-use Rattle.reuse_session.specs.journal.History.{remember_moved}
-use Rattle.reuse_session.specs.journal.Journal.{Recorded, changes_ahead}
-use Rattle.reuse_session.specs.journal.JournalFiles.{entry_in}
+use Rattle.reuse_journal.specs.History.{remember_moved}
+use Rattle.reuse_journal.specs.Journal.{Recorded, changes_ahead}
+use Rattle.reuse_journal.specs.JournalFiles.{entry_in}
 use Rattle.reuse_session.specs.session.Previews.{PreviewsReplay}
 use Rattle.reuse_session.specs.session.Session.{memory_of}
-use Rattle.reuse_session.specs.declared.path_outcome.Previewed.{Previewed}
-use Rattle.reuse_session.specs.declared.reply.Response.{Response}
-use Rattle.reuse_session.proofs.lemmas.session.OnlyReading.{is_refused}
+use Rattle.reuse_command.specs.declared.path_outcome.Previewed.{Previewed}
+use Rattle.reuse_command.specs.declared.reply.Response.{Response}
+use Rattle.reuse_command.proofs.OnlyReading.{is_refused}
 use Rattle.reuse_session.proofs.lemmas.session.Previewing.{any_told, replay_as_previewed}
 use Rattle.reuse_session.proofs.lemmas.journal.StepAnswers.{read_told}
 use Rattle.reuse_session.proofs.lemmas.session.Replaying.{next_of, next_says, next_changes}

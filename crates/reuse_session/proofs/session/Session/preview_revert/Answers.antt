@@ -1,10 +1,10 @@
 use Rattle.std.proofs.Common.{Err, List, inl, inr, ap, sym, subst, ◌∙◌}
-use Rattle.reuse_session.specs.session.Answer.{TellsNoFault}
+use Rattle.reuse_command.specs.Answer.{TellsNoFault}
 use Rattle.reuse_session.specs.session.Previews.{run_path_outcomes_on}
 use Rattle.reuse_session.specs.session.Requests.{ReadsOnlyWithCause}
 use Rattle.reuse_session.specs.session.RevertCalls.{GivesRevert}
-use Rattle.reuse_session.specs.declared.command.Command.{Command}
-use Rattle.reuse_session.specs.declared.path_outcome.PathOutcome.{PathOutcome}
+use Rattle.reuse_command.specs.declared.command.Command.{Command}
+use Rattle.reuse_command.specs.declared.path_outcome.PathOutcome.{PathOutcome}
 use Rattle.reuse_session.proofs.lemmas.session.Peeking.{reads_with_cause_on, reads_with_cause_err, preview_reads_with_cause, show_reads_with_cause, still_stands, told_again}
 use Rattle.reuse_session.proofs.session.Session.preview_revert.Goals as goal
 

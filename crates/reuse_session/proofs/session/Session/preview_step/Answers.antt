@@ -1,9 +1,9 @@
 use Rattle.std.proofs.Common.{Err, ap, sym, subst}
 use Rattle.reuse_session.specs.session.Previews.{path_outcomes_alone, PreviewsReplay}
 use Rattle.reuse_session.specs.session.Session.{memory_of}
-use Rattle.reuse_session.proofs.lemmas.journal.MemoryLemmas.{none_ahead}
+use Rattle.reuse_journal.proofs.MemoryLemmas.{none_ahead}
 use Rattle.reuse_session.proofs.lemmas.session.Previewing.{step_as_previewed}
-use Rattle.reuse_session.proofs.lemmas.Results.{none_unless_some}
+use Rattle.reuse_plan.proofs.Results.{none_unless_some}
 use Rattle.reuse_session.proofs.session.Session.preview_step.Goals as goal
 
 pub returns-in_default-clause-exact : goal.returns-in_default-clause-exact

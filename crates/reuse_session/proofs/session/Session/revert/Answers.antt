@@ -1,13 +1,13 @@
 use Rattle.std.proofs.Common.{◌≡◌, Err, IfErr, refl, sym, ap, ap₂, subst, ◌∙◌}
-use Rattle.reuse_session.specs.session.Answer.{IsNoClash, TellsNoFault}
+use Rattle.reuse_command.specs.Answer.{IsNoClash, TellsNoFault}
 use Rattle.reuse_tree.specs.Entry.{paths_of}
 use Rattle.reuse_session.specs.session.RevertCalls.{IsAfterRevert, Reverts, RevertFollows, as_run}
-use Rattle.reuse_session.specs.journal.Losses.{Survives}
+use Rattle.reuse_journal.specs.Losses.{Survives}
 use Rattle.reuse_session.specs.session.Session.{store_of, IsRun}
-use Rattle.reuse_session.specs.declared.command.Command.{Command}
-use Rattle.reuse_session.specs.declared.command.Command.TheVariants.{Revert}
-use Rattle.reuse_session.specs.declared.reply.Refusal.TheVariants.{JournalFull}
-use Rattle.reuse_session.proofs.lemmas.session.OnlyReading.{is_refused}
+use Rattle.reuse_command.specs.declared.command.Command.{Command}
+use Rattle.reuse_command.specs.declared.command.Command.TheVariants.{Revert}
+use Rattle.reuse_command.specs.declared.reply.Refusal.TheVariants.{JournalFull}
+use Rattle.reuse_command.proofs.OnlyReading.{is_refused}
 use Rattle.reuse_session.proofs.lemmas.session.Recording.{after_reading}
 use Rattle.reuse_session.proofs.lemmas.session.RevertAnswers.{told_run, reverts_step, revert_follows, absent_step, absent_follows, no_step_back, run_leaves, full_revert, unclashed_back}
 use Rattle.reuse_session.proofs.lemmas.journal.StepDoubt.{reads_are_safe, survives_weaker}

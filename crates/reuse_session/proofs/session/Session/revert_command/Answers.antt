@@ -1,9 +1,9 @@
 use Rattle.std.proofs.Common.{Err, sym, ap, ap₂, subst, ◌∙◌}
-use Rattle.reuse_session.specs.session.Answer.{TellsNoFault}
+use Rattle.reuse_command.specs.Answer.{TellsNoFault}
 use Rattle.reuse_session.specs.session.RevertCalls.{GivesRevert, GivesRevertAt}
-use Rattle.reuse_session.specs.declared.command.Command.TheVariants.{Revert}
+use Rattle.reuse_command.specs.declared.command.Command.TheVariants.{Revert}
 use Rattle.reuse_session.proofs.lemmas.session.LaterSteps.{later_as_machine}
-use Rattle.reuse_session.proofs.lemmas.session.OnlyReading.{is_refused}
+use Rattle.reuse_command.proofs.OnlyReading.{is_refused}
 use Rattle.reuse_session.proofs.lemmas.session.RevertAnswers.{absent_step, no_step_back}
 use Rattle.reuse_session.proofs.lemmas.session.StepsByNumber.{led_to_tree, unkept}
 use Rattle.reuse_session.proofs.session.Session.revert_command.Goals as goal

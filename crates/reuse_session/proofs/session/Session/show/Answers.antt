@@ -1,12 +1,12 @@
 use Rattle.std.proofs.Common.{◌≡◌, ◌∙◌, Some, None, Err, refl, sym, ap, subst}
 use Rattle.std.proofs.lemmas.Bool.{false≢true}
-use Rattle.reuse_session.specs.session.Answer.{TellsNoFault}
+use Rattle.reuse_command.specs.Answer.{TellsNoFault}
 use Rattle.reuse_session.specs.session.Session.{memory_of}
-use Rattle.reuse_session.specs.session.Showing.{row_in}
-use Rattle.reuse_session.proofs.lemmas.session.OnlyReading.{is_refused}
+use Rattle.reuse_journal.specs.Numbered.{row_in}
+use Rattle.reuse_command.proofs.OnlyReading.{is_refused}
 use Rattle.reuse_session.proofs.lemmas.journal.StepAnswers.{read_told}
 use Rattle.reuse_session.proofs.lemmas.session.StepsByNumber.{none_listed, some_listed, unused_both, row_says, shows, shows_at, read_is_no_absence}
-use Rattle.reuse_session.proofs.lemmas.Results.{none_unless_some}
+use Rattle.reuse_plan.proofs.Results.{none_unless_some}
 use Rattle.reuse_session.proofs.session.Session.show.Goals as goal
 
 -- no step has the number

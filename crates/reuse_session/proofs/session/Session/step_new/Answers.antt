@@ -3,13 +3,13 @@ use Rattle.reuse_tree.specs.Asked.{Leaves, IsSynced}
 use Rattle.reuse_tree.specs.Tree.{undo_folder_of}
 use Rattle.reuse_tree.specs.declared.journal.head.PendingDirection.TheVariants as directions
 use Rattle.reuse_session.specs.session.Calls.{LeavesRun}
-use Rattle.reuse_session.specs.journal.Journal.{State}
-use Rattle.reuse_session.specs.journal.JournalFiles.{IsKeptIn}
-use Rattle.reuse_session.specs.journal.Losses.{AreSafeOn, Survives}
+use Rattle.reuse_journal.specs.Journal.{State}
+use Rattle.reuse_journal.specs.JournalFiles.{IsKeptIn}
+use Rattle.reuse_journal.specs.Losses.{AreSafeOn, Survives}
 use Rattle.reuse_tree.specs.Entry.{paths_of}
 use Rattle.reuse_session.specs.session.Session.{store_of, IsRun, Runs, StandsOn}
-use Rattle.reuse_session.specs.declared.reply.Response.TheVariants.{Changed}
-use Rattle.reuse_session.proofs.lemmas.session.OnlyReading.{is_refused}
+use Rattle.reuse_command.specs.declared.reply.Response.TheVariants.{Changed}
+use Rattle.reuse_command.proofs.OnlyReading.{is_refused}
 use Rattle.reuse_session.proofs.lemmas.session.Recording.{EntryPut, EntryListed, Recording, put_early, can_go, unput_leaves, recording, record_leaves, halt_leaves}
 use Rattle.reuse_session.proofs.lemmas.session.RunDoubt.{sure_tree, has_entry, put_is_safe}
 use Rattle.reuse_session.proofs.lemmas.journal.StepDoubt.{survives_early, survives_stop, synced_is_safe}

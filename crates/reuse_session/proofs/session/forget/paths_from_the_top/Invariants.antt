@@ -1,5 +1,5 @@
 use Rattle.std.proofs.Common.{◌≡◌, ℕ, Bor, map}
-use Rattle.reuse_session.specs.journal.JournalFiles.{entry_path}
+use Rattle.reuse_journal.specs.JournalFiles.{entry_path}
 use Rattle.reuse_session.proofs.session.forget.paths_from_the_top.Given as goal
 
 abbrev pub invariant-loop-number : goal.invariant-loop-number

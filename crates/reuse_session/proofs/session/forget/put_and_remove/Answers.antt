@@ -4,8 +4,8 @@ use Rattle.reuse_tree.specs.Asked.{Leaves}
 use Rattle.reuse_tree.specs.Files.{tree_of}
 use Rattle.reuse_tree.specs.Tree.{Sets}
 use Rattle.reuse_session.specs.session.Forgetting.{PutsAndRemoves, PutsAndRemovesSome, RemovesSome}
-use Rattle.reuse_session.specs.journal.JournalFiles.{head_path}
-use Rattle.reuse_session.specs.journal.Losses.{HaveTree}
+use Rattle.reuse_journal.specs.JournalFiles.{head_path}
+use Rattle.reuse_journal.specs.Losses.{HaveTree}
 use Rattle.reuse_session.proofs.lemmas.session.ForgottenFiles.{put_or_not, left_with_head}
 use Rattle.reuse_session.proofs.session.forget.put_and_remove.Given.{Over}
 use Rattle.reuse_session.proofs.session.forget.put_and_remove.Goals.{After-remove_each}

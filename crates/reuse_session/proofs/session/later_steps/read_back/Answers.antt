@@ -6,12 +6,12 @@ use Rattle.reuse_tree.specs.Files.{Files}
 use Rattle.reuse_tree.specs.Tree.{undo_folder_of}
 use Rattle.reuse_tree.specs.declared.change.Change.{Change}
 use Rattle.reuse_tree.specs.declared.journal.entry.Entry.{Entry}
-use Rattle.reuse_session.specs.journal.JournalFiles.{entry_in, IsKeptIn}
+use Rattle.reuse_journal.specs.JournalFiles.{entry_in, IsKeptIn}
 use Rattle.reuse_session.specs.session.RevertCalls.{done_after, touched_by}
-use Rattle.reuse_session.specs.session.Showing.{lists}
-use Rattle.reuse_session.proofs.lemmas.journal.JournalLemmas.{same_entry}
+use Rattle.reuse_journal.specs.Numbered.{lists}
+use Rattle.reuse_journal.proofs.JournalLemmas.{same_entry}
 use Rattle.reuse_session.proofs.lemmas.session.LaterSteps.{numbers_are, later_kept}
-use Rattle.reuse_session.proofs.lemmas.session.OnlyReading.{passed_on}
+use Rattle.reuse_command.proofs.OnlyReading.{passed_on}
 use Rattle.reuse_session.proofs.lemmas.session.StepsByNumber.{done_step, says_step}
 use Rattle.reuse_session.proofs.session.later_steps.read_back.Goals as goal
 

@@ -8,11 +8,11 @@ use Rattle.reuse_tree.specs.Listing.{ArePaths}
 use Rattle.reuse_tree.specs.Tree.{undo_folder_of}
 use Rattle.reuse_tree.specs.declared.journal.entry.Entry.{Entry}
 use Rattle.reuse_tree.proofs.AskedLemmas.{reads_more}
-use Rattle.reuse_session.specs.journal.Journal.{Recorded}
-use Rattle.reuse_session.specs.journal.JournalFiles.{entry_path, entry_in, number_of, EntrySays, IsKeptIn}
+use Rattle.reuse_journal.specs.Journal.{Recorded}
+use Rattle.reuse_journal.specs.JournalFiles.{entry_path, entry_in, number_of, EntrySays, IsKeptIn}
 use Rattle.reuse_session.specs.session.RevertCalls.{left_of}
 use Rattle.reuse_session.proofs.lemmas.session.LaterSteps.{left_by, left_ascend, touched_are, step_at, says_at, IsStepAt}
-use Rattle.reuse_session.proofs.lemmas.session.OnlyReading.{passed_on}
+use Rattle.reuse_command.proofs.OnlyReading.{passed_on}
 use Rattle.reuse_tree.specs.Files.{Files}
 use Rattle.std.specs.Prelude.{ℕ}
 use Rattle.reuse_session.proofs.session.later_steps.touched_paths.Goals as goal

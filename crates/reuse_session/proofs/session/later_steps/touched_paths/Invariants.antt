@@ -3,8 +3,8 @@ use Rattle.std.specs.List.{All}
 use Rattle.reuse_tree.specs.Asked.{OnlyReads}
 use Rattle.reuse_tree.specs.Entry.{paths_of}
 use Rattle.reuse_tree.specs.Tree.{undo_folder_of}
-use Rattle.reuse_session.specs.journal.Journal.{Recorded}
-use Rattle.reuse_session.specs.journal.JournalFiles.{number_of, IsKeptIn}
+use Rattle.reuse_journal.specs.Journal.{Recorded}
+use Rattle.reuse_journal.specs.JournalFiles.{number_of, IsKeptIn}
 use Rattle.reuse_session.proofs.lemmas.session.LaterSteps.{left_by}
 use Rattle.reuse_session.proofs.session.later_steps.touched_paths.Given as goal
 

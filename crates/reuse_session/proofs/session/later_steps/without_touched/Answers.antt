@@ -1,4 +1,4 @@
-use Rattle.reuse_session.proofs.lemmas.session.OnlyReading.{passed_on}
+use Rattle.reuse_command.proofs.OnlyReading.{passed_on}
 use Rattle.reuse_session.proofs.session.later_steps.without_touched.Goals as goal
 
 pub returns-in_err-entry-clause-bad : goal.returns-in_err-entry-clause-bad

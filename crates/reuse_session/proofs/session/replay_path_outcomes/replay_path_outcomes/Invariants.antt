@@ -1,7 +1,7 @@
 use Rattle.std.proofs.Common.{take}
 use Rattle.reuse_tree.specs.Files.{tree_of}
 use Rattle.reuse_tree.specs.Entry.{IsEntry}
-use Rattle.reuse_session.specs.session.PathOutcomes.{ArePathOutcomesOf}
+use Rattle.reuse_plan.specs.PathOutcomes.{ArePathOutcomesOf}
 use Rattle.reuse_tree.specs.Asked.{OnlyReads}
 use Rattle.reuse_session.proofs.session.replay_path_outcomes.replay_path_outcomes.Given as goal
 

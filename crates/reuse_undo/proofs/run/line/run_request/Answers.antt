@@ -1,6 +1,6 @@
 use Rattle.std.proofs.Common.{◌≡◌, ◌<◌, Result, Ok, Err, IfOk, IfErr, refl, subst}
 use Rattle.std.proofs.lemmas.Result.{IfOk-at_ok}
-use Rattle.reuse_session.specs.session.Answer.{HasCause}
+use Rattle.reuse_command.specs.Answer.{HasCause}
 use Rattle.reuse_session.specs.session.Stops.{Point, AreLeft, MayBeFound}
 use Rattle.reuse_undo.specs.run.AfterStops.{AnswersAfterStop}
 use Rattle.reuse_undo.specs.run.Drawn.{IsDiffOfCall}
@@ -8,8 +8,8 @@ use Rattle.reuse_session.specs.session.Requests.{HasCallClash}
 use Rattle.reuse_undo.specs.run.RunLine.{RequestLeaves, FollowsModel}
 use Rattle.reuse_undo.specs.print.Responses.{IsDrawnPreview}
 use Rattle.reuse_undo.specs.print.WriterFaults.{IsUndrawn}
-use Rattle.reuse_session.specs.declared.reply.Refusal.{Refusal}
-use Rattle.reuse_session.specs.declared.reply.Response.{Response}
+use Rattle.reuse_command.specs.declared.reply.Refusal.{Refusal}
+use Rattle.reuse_command.specs.declared.reply.Response.{Response}
 use Rattle.reuse_undo.proofs.lemmas.run.AfterStopLemmas.{answers_after_stop, reports_end}
 use Rattle.reuse_undo.proofs.lemmas.run.DiffLemmas.{undrawn_told}
 use Rattle.reuse_undo.proofs.lemmas.run.DrawnLines.{drawn_in_lines, previews_tell, told_diff}

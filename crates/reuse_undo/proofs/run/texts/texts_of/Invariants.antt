@@ -1,5 +1,5 @@
 use Rattle.std.proofs.Common.{◌≡◌, map, take}
-use Rattle.reuse_session.specs.declared.plan.licence.LicenceText.{LicenceText}
+use Rattle.reuse_command.specs.declared.licence.LicenceText.{LicenceText}
 use Rattle.reuse_undo.specs.run.Texts.{licences_among}
 use Rattle.reuse_undo.proofs.run.texts.texts_of.Given as goal
 

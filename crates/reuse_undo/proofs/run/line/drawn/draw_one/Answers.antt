@@ -1,7 +1,7 @@
 use Rattle.std.proofs.Common.{◌∙◌, ℕ, List, OnOk, Some, ap}
 use Rattle.std.specs.FinMap.{get}
 use Rattle.std.specs.Option.{option_copied}
-use Rattle.reuse_undo.specs.print.RowLines.{AppendsSome}
+use Rattle.reuse_shown.specs.JoinedTexts.{AppendsSome}
 use Rattle.reuse_undo.proofs.lemmas.run.DrawnLemmas.{drawn_range}
 use Rattle.reuse_undo.proofs.run.line.drawn.draw_one.Goals as goal
 

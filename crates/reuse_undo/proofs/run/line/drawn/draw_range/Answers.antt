@@ -2,9 +2,9 @@ use Rattle.std.proofs.Common.{◌∙◌, ℕ, List, [], length, OnOk, Some, sym,
 use Rattle.std.specs.Option.{option_copied}
 use Rattle.std.specs.Prelude.{unwrap_or}
 use Rattle.reuse_text.specs.Text.{spliced}
-use Rattle.reuse_undo.specs.print.DiffText.{IsDiff}
+use Rattle.reuse_diff.specs.DiffText.{IsDiff}
 use Rattle.reuse_undo.specs.run.Drawn.{IsRangeWithin}
-use Rattle.reuse_undo.specs.print.RowLines.{AppendsSome}
+use Rattle.reuse_shown.specs.JoinedTexts.{AppendsSome}
 use Rattle.reuse_undo.proofs.lemmas.run.DrawnLemmas.{absent_drawn, found_drawn, long_drawn}
 use Rattle.reuse_undo.proofs.run.line.drawn.draw_range.Goals as goal
 

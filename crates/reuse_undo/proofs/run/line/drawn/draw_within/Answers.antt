@@ -1,5 +1,5 @@
 use Rattle.std.proofs.Common.{List, ℕ, OnOk, Some, refl, rules}
-use Rattle.reuse_undo.specs.print.RowLines.{AppendsSome}
+use Rattle.reuse_shown.specs.JoinedTexts.{AppendsSome}
 use Rattle.reuse_undo.proofs.lemmas.run.DrawnLemmas.{within_drawn}
 use Rattle.reuse_undo.proofs.run.line.drawn.draw_within.Goals as goal
 

@@ -1,10 +1,10 @@
 use Rattle.std.proofs.Common.{◌∙◌, Ok, ap, sym, subst}
 use Rattle.reuse_tree.specs.Files.{Files}
 use Rattle.reuse_tree.specs.declared.direction.Direction.TheVariants as go
-use Rattle.reuse_session.specs.declared.request.Call.{Call}
-use Rattle.reuse_session.specs.declared.request.Call.TheVariants as calls
+use Rattle.reuse_command.specs.declared.request.Call.{Call}
+use Rattle.reuse_command.specs.declared.request.Call.TheVariants as calls
 use Rattle.reuse_undo.specs.run.Drawn.{IsAnsweredWith}
-use Rattle.reuse_session.specs.declared.request.Request.TheVariants as requests
+use Rattle.reuse_command.specs.declared.request.Request.TheVariants as requests
 use Rattle.reuse_undo.proofs.lemmas.run.PreviewedLemmas.{answered_with, call_answered, run_previews, step_previews}
 use Rattle.reuse_session.proofs.lemmas.session.Peeking.{preview_reads_with_cause}
 use Rattle.reuse_undo.proofs.lemmas.run.TreeDiffLemmas.{ran_to}

@@ -2,11 +2,11 @@ use Rattle.std.proofs.Common.{◌∙◌, Ok, Err, inl, inr, ap, refl, subst}
 use Rattle.reuse_tree.specs.Files.{Files}
 use Rattle.reuse_tree.specs.declared.direction.Direction.TheVariants as go
 use Rattle.reuse_session.specs.session.Previews.{run_path_outcomes_on}
-use Rattle.reuse_session.specs.declared.command.Command.{Command}
-use Rattle.reuse_session.specs.declared.path_outcome.Previewed.{Previewed}
+use Rattle.reuse_command.specs.declared.command.Command.{Command}
+use Rattle.reuse_command.specs.declared.path_outcome.Previewed.{Previewed}
 use Rattle.reuse_session.specs.session.Requests.{ReadsOnlyWithCause}
-use Rattle.reuse_session.specs.declared.request.Call.TheVariants as calls
-use Rattle.reuse_session.specs.declared.request.Request.TheVariants as requests
+use Rattle.reuse_command.specs.declared.request.Call.TheVariants as calls
+use Rattle.reuse_command.specs.declared.request.Request.TheVariants as requests
 use Rattle.reuse_undo.proofs.lemmas.run.PreviewedLemmas.{answered_with, broken_again, broken_same, call_answered, run_previews}
 use Rattle.reuse_session.proofs.lemmas.session.Peeking.{reads_with_cause_err, reads_with_cause_on, preview_reads_with_cause, show_reads_with_cause, still_stands, told_again}
 use Rattle.reuse_undo.proofs.lemmas.run.TreeDiffLemmas.{reverts_to}

@@ -1,12 +1,12 @@
 use Rattle.std.proofs.Common.{◌≡◌, ℕ, Bool, List, Result, Ok, Err, IfOk}
-use Rattle.reuse_session.specs.declared.reply.Refusal.{Refusal}
-use Rattle.reuse_undo.specs.print.Outputs.{AddsSome}
+use Rattle.reuse_command.specs.declared.reply.Refusal.{Refusal}
+use Rattle.reuse_print.specs.Outputs.{AddsSome}
 use Rattle.reuse_undo.specs.run.RunLine.{IfNoDiff}
 use Rattle.reuse_undo.specs.print.Responses.{Accepts, Finishes, IsPrintedText, ReportsFailure}
-use Rattle.reuse_undo.specs.declared.run.fault.Fault.{Fault}
-use Rattle.reuse_undo.specs.declared.run.fault.Fault.TheVariants.{WouldRefuse}
-use Rattle.reuse_undo.specs.declared.cli.line.PrintOptions.{PrintOptions}
-use Rattle.reuse_session.specs.declared.reply.Response.{Response}
+use Rattle.reuse_print.specs.declared.fault.Fault.{Fault}
+use Rattle.reuse_print.specs.declared.fault.Fault.TheVariants.{WouldRefuse}
+use Rattle.reuse_arguments.specs.declared.line.PrintOptions.{PrintOptions}
+use Rattle.reuse_command.specs.declared.reply.Response.{Response}
 use Rattle.reuse_undo.proofs.run.line.printed.finish.Goals as goal
 
 -- what is accepted, or would be refused, is reported, and no diff is lacking

@@ -1,9 +1,9 @@
 use Rattle.std.proofs.Common.{OnOk, sym, subst}
 use Rattle.std.proofs.lemmas.Result.{on_ok_weaker}
 use Rattle.std.specs.Io.KnownBytes.{Appends}
-use Rattle.reuse_undo.specs.print.RowLines.{AppendsSome}
+use Rattle.reuse_shown.specs.JoinedTexts.{AppendsSome}
 use Rattle.reuse_undo.specs.print.Responses.{IsTextIn}
-use Rattle.reuse_undo.proofs.lemmas.print.RowLemmas.{AppendsSome-behind, AppendsSome-diff}
+use Rattle.reuse_undo.proofs.lemmas.print.ResponseLemmas.{AppendsSome-behind, AppendsSome-diff}
 use Rattle.reuse_undo.proofs.run.line.printed.print_in_format.Goals as goal
 
 pub returns-in_ok-print_response-in-Diff-clause-text : goal.returns-in_ok-print_response-in-Diff-clause-text

@@ -1,7 +1,7 @@
 use Rattle.std.proofs.Common.{[], Some, Result, Ok, Err, OnOk, refl, arith}
 use Rattle.std.specs.Result.{IsOk}
-use Rattle.reuse_undo.specs.print.DiffText.{IsRecord}
-use Rattle.reuse_undo.proofs.lemmas.print.RowLemmas.{AppendsSome-row}
+use Rattle.reuse_diff.specs.DiffText.{IsRecord}
+use Rattle.reuse_shown.proofs.JoinedLemmas.{AppendsSome-row}
 use Rattle.reuse_undo.proofs.run.line.printed.records_of.Goals as goal
 
 -- what holds of a success holds where it is one

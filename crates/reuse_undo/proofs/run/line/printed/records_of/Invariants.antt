@@ -1,6 +1,6 @@
 use Rattle.std.proofs.Common.{[], Some, take}
-use Rattle.reuse_undo.specs.print.DiffText.{AreRecords}
-use Rattle.reuse_undo.specs.print.RowLines.{AppendsSome}
+use Rattle.reuse_diff.specs.DiffText.{AreRecords}
+use Rattle.reuse_shown.specs.JoinedTexts.{AppendsSome}
 use Rattle.reuse_undo.proofs.run.line.printed.records_of.Given as goal
 
 -- the records of the changes so far

@@ -1,0 +1,10 @@
+use Rattle.std.specs.Prelude.{Ok, ◌∷◌, []}
+use Rattle.reuse_arguments.specs.FileWords.{number_read}
+use Rattle.reuse_arguments.specs.LineFaults.{then_read}
+use Rattle.reuse_arguments.proofs.WordListLemmas.{HasRead}
+use Rattle.reuse_arguments.proofs.words.file_words.numbers_in.Given as goal
+
+-- the words so far were read
+abbrev pub invariant-loop-word : goal.invariant-loop-word
+invariant-loop-word l = HasRead (λ word. then_read (number_read word)
+    (λ a. Ok (a ∷ []))) l.words l.word-index l.numbers.items

@@ -1,0 +1,111 @@
+-- From what clap found on a command line to what is asked for (docs/REFERENCE.md).
+use Rattle.std.specs.Prelude.{◌≡◌, ◌⊎◌, ℕ, false, List, [], Option, None, Some, Result, Ok, Err, codes, option_map, string_bytes, if◌then◌else◌}
+use Rattle.std.specs.Str.{bytes_eq}
+use Rattle.clap.specs.Simple.{app_of, HasMatchesOf, subcommand_rows_of}
+use Rattle.clap.specs.Values.{kind_of}
+use Rattle.clap.specs.declared.builder.command.Command.{Command}
+use Rattle.clap.specs.declared.error.Error.{Error}
+use Rattle.clap.specs.declared.parser.matches.ArgMatches.{ArgMatches}
+use Rattle.reuse_command.specs.declared.command.Command.{Command as SessionCommand}
+use Rattle.reuse_command.specs.declared.command.Command.TheVariants.{ConvertDep5, Download}
+use Rattle.reuse_command.specs.declared.request.Call.{Call}
+use Rattle.reuse_command.specs.declared.request.Call.TheVariants as calls
+use Rattle.reuse_command.specs.declared.request.Request.{Request as SessionRequest}
+use Rattle.reuse_command.specs.declared.request.Request.TheVariants as requests
+use Rattle.reuse_arguments.specs.Asking.{Request, call, forget, recover, request_in}
+use Rattle.reuse_arguments.specs.Choices.{change_status_of, format_of, is_dry_run, settings_of, usual_settings}
+use Rattle.reuse_arguments.specs.CommandWords.{amend_read, annotate_read}
+use Rattle.reuse_shown.specs.Dates.{IsYearOf}
+use Rattle.reuse_arguments.specs.FileWords.{files_from_of, ids_of, root_of, step_read, steps_read, texts_folder_read}
+use Rattle.reuse_arguments.specs.Found.{Rows, flag, found_in}
+use Rattle.reuse_arguments.specs.LineFaults.{IsDueAs, IsToldAs, Mistake, then_read, unread}
+use Rattle.reuse_arguments.specs.Requests.{made_or_seen}
+use Rattle.reuse_arguments.specs.declared.line.LineFault.{LineFault}
+use Rattle.reuse_arguments.specs.declared.line.LineFault.TheVariants as faults
+use Rattle.reuse_arguments.specs.declared.words.Said.{Said}
+
+-- a download of these licences; the texts are found later
+abbrev pub download_of : Rows → SessionCommand
+download_of found = Download (ids_of found) []
+
+-- what changes the tree, by the name of the subcommand
+unfoldable pub call_read : List ℕ → Rows → ℕ → Result Call Mistake
+call_read name found year =
+    if bytes_eq name (codes "annotate") then then_read (annotate_read found year) (λ command. Ok (calls.Run command))
+    else if bytes_eq name (codes "amend") then then_read (amend_read found) (λ command. Ok (calls.Run command))
+    else if bytes_eq name (codes "convert-dep5") then Ok (calls.Run ConvertDep5)
+    else if bytes_eq name (codes "download") then Ok (calls.Run (download_of found))
+    else if bytes_eq name (codes "undo") then Ok calls.Undo
+    else if bytes_eq name (codes "redo") then Ok calls.Redo
+    else if bytes_eq name (codes "revert")
+    then then_read (step_read found) (λ number. Ok (calls.Revert number (flag found (codes "skip-moved"))))
+    else Err (unread (codes "a subcommand that nothing reads"))
+
+-- the history is looked at; else the call is made at this moment, or in a dry run it is previewed
+unfoldable pub session_read : List ℕ → Rows → ℕ → ℕ → Result SessionRequest Mistake
+session_read name found moment year =
+    if bytes_eq name (codes "log") then Ok requests.Log
+    else if bytes_eq name (codes "show") then then_read (step_read found) (λ number. Ok (requests.Show number))
+    else then_read (call_read name found year) (λ asked. Ok (made_or_seen asked moment (is_dry_run found)))
+
+-- the licences of a download are copied from this folder
+unfoldable pub texts_read : List ℕ → Rows → Result (Option (List ℕ)) Mistake
+texts_read name found =
+    if bytes_eq name (codes "download") then then_read (texts_folder_read found) (λ folder. Ok (Some folder))
+    else Ok None
+
+-- a line that a session answers, in the tree under the folder
+unfoldable pub line_read : List ℕ → List ℕ → Rows → ℕ → ℕ → Result Request Mistake
+line_read root name found moment year =
+    then_read (session_read name found moment year) (λ request.
+    then_read (texts_read name found) (λ texts. Ok (call (record {
+      root = root;
+      request = request;
+      texts = texts;
+      format = format_of found;
+      change_status = change_status_of found;
+    }))))
+
+-- what the subcommand of this name asks for in the tree under the folder, at this moment of this year
+unfoldable pub requested : List ℕ → List ℕ → Rows → ℕ → ℕ → Result Request Mistake
+requested root name found moment year =
+    if bytes_eq name (codes "recover") then Ok (recover root (flag found (codes "skip-moved")))
+    else if bytes_eq name (codes "forget") then then_read (steps_read found) (λ steps. Ok (forget root steps))
+    else line_read root name found moment year
+
+-- what the whole line asks for: the root stands before the subcommand
+unfoldable pub request_read : Rows → Option (List ℕ × Rows) → ℕ → ℕ → Result Request Mistake
+request_read above None moment year = Err (unread (codes "no subcommand"))
+request_read above (Some sub) moment year = requested (root_of above) sub.0 sub.1 moment year
+
+-- what the words say, of which clap found this
+pub record IsSaid (above : Rows) (sub : Option (List ℕ × Rows)) (moment year : ℕ) (said : Said) : Type 0 where
+  pub verbose : said.verbose ≡ flag above (codes "verbose")
+  pub settings : said.settings ≡ settings_of above
+  pub files_from : option_map string_bytes said.files_from ≡ files_from_of sub
+  pub asked : IsDueAs request_in (request_read above sub moment year) said.asked
+
+-- words that are no line; nothing else is read of them
+abbrev pub no_line : LineFault → Said
+no_line fault = record { verbose = false; settings = usual_settings; files_from = None; asked = Err fault }
+
+-- what the words say in the year of the moment; an allocation failure may take its place
+abbrev pub Says : ArgMatches → ℕ → Said → Type 0
+Says matches moment said =
+    (said ≡ no_line faults.Memory)
+    ⊎ ((year : ℕ) × IsYearOf moment year × IsSaid (found_in matches) (subcommand_rows_of matches) moment year said)
+
+-- clap found this in the words, by the options of some command; of one that has groups or global options,
+-- as this program's has, clap's clause says nothing
+abbrev pub IsFoundIn : List (List ℕ) → ArgMatches → Type 0
+IsFoundIn words matches = (command : Command) × HasMatchesOf (app_of command) words matches
+
+-- the words are no line: help or a mistake by the kind of clap's error; an allocation failure may take its place
+abbrev pub IsRefused : Error → Said → Type 0
+IsRefused error said =
+    (said ≡ no_line faults.Memory) ⊎ ((fault : LineFault) × IsToldAs (kind_of error) fault × (said ≡ no_line fault))
+
+-- what the words say, to which clap answered this
+abbrev pub IsReadAs : Result ArgMatches Error → ℕ → Said → Type 0
+IsReadAs (Ok matches) moment said = Says matches moment said
+IsReadAs (Err error) moment said = IsRefused error said

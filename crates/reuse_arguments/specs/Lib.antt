@@ -1,0 +1,17 @@
+pub mod AmendSteps
+pub mod AmendWords
+pub mod Asking
+pub mod ChangeStatuses
+pub mod Choices
+pub mod CommandLine
+pub mod CommandWords
+pub mod FileLists
+pub mod FileWords
+pub mod Found
+pub mod Globs
+pub mod LineFaults
+pub mod ListedCommands
+pub mod Places
+pub mod PrefixNames
+pub mod RefusalTexts
+pub mod Requests

@@ -1,0 +1,34 @@
+-- Which place a word of the command line names.
+use Rattle.std.specs.Prelude.{ℕ, ◌-◌, Bool, not, List, [], ◌∷◌, Option, None, Some, filter, length, nat_eq, ◌==◌, if◌then◌else◌, take, codes}
+use Rattle.std.specs.List.{ends_with, join_with_byte}
+use Rattle.std.specs.Str.{bytes_eq}
+use Rattle.reuse_tree.specs.Path.{is_path}
+use Rattle.reuse_system.specs.Names.{between_slashes}
+use Rattle.reuse_command.specs.declared.command.Place.{Place}
+use Rattle.reuse_command.specs.declared.command.Place.TheVariants.{Root, Path}
+
+-- the word without a slash at its end
+abbrev pub without_end_slash : List ℕ → List ℕ
+without_end_slash word = if ends_with nat_eq word (codes "/") then take (length word - 1) word else word
+
+-- a part that isn't `.`
+abbrev pub is_named : List ℕ → Bool
+is_named part = not (bytes_eq part (codes "."))
+
+-- the parts of a word that count
+abbrev pub parts_of : List ℕ → List (List ℕ)
+parts_of word = filter is_named (between_slashes (without_end_slash word))
+
+-- the path along these parts, or none where there is no part
+abbrev pub path_along : List (List ℕ) → Option (List ℕ)
+path_along [] = None
+path_along (part ∷ parts) = Some (join_with_byte 47 (part ∷ parts))
+
+-- the place at the path, if it is one; without a path it is the root
+abbrev pub place_at : Option (List ℕ) → Option Place
+place_at None = Some Root
+place_at (Some path) = if is_path path then Some (Path path) else None
+
+-- the place that the word names, or none where it names none
+abbrev pub place_of_word : List ℕ → Option Place
+place_of_word word = place_at (path_along (parts_of word))

@@ -1,0 +1,16 @@
+-- The texts that tell why words are no line (docs/RULES.md, "Refusals").
+use Rattle.std.specs.Prelude.{ℕ, List, ◌++◌, codes, string_bytes}
+use Rattle.reuse_notice.specs.RefusalTexts as notice
+use Rattle.reuse_arguments.specs.declared.line.LineFault.{LineFault}
+use Rattle.reuse_arguments.specs.declared.line.LineFault.TheVariants as lines
+
+-- why words are no line; the text of a mistake in the words and that of the help are clap's
+abbrev pub line_fault_text : LineFault → List ℕ
+line_fault_text (lines.Usage text) = string_bytes text
+line_fault_text (lines.Help text) = string_bytes text
+line_fault_text (lines.BadPath word) = codes "bad path: " ++ string_bytes word
+line_fault_text (lines.BadAdditions refusal) = notice.refusal_text refusal
+line_fault_text lines.NothingToAmend = codes "nothing to amend"
+line_fault_text (lines.BadGlob word) = codes "bad glob: " ++ string_bytes word
+line_fault_text (lines.Unreadable file) = string_bytes file ++ codes ": cannot be read"
+line_fault_text lines.Memory = codes "out of memory"

@@ -1,0 +1,46 @@
+-- The request of a line, made whole.
+use Rattle.std.specs.Prelude.{ℕ, Bool, List, Some, if◌then◌else◌}
+use Rattle.reuse_command.specs.declared.command.Command.{Command}
+use Rattle.reuse_command.specs.declared.command.Command.TheVariants.{Amend, Annotate, Download}
+use Rattle.reuse_command.specs.declared.licence.LicenceText.{LicenceText}
+use Rattle.reuse_command.specs.declared.request.Call.{Call}
+use Rattle.reuse_command.specs.declared.request.Call.TheVariants as calls
+use Rattle.reuse_command.specs.declared.request.Request.{Request}
+use Rattle.reuse_command.specs.declared.request.Request.TheVariants as requests
+
+-- to make the call at this moment, or in a dry run what it would do
+abbrev pub made_or_seen : Call → ℕ → Bool → Request
+made_or_seen call moment dry_run = if dry_run then requests.Preview call else requests.Make call moment
+
+-- ---- with the texts that were found for a download
+
+abbrev pub command_with_texts : List LicenceText → Command → Command
+command_with_texts texts (Download ids none) = Download ids texts
+command_with_texts texts command = command
+
+abbrev pub call_with_texts : List LicenceText → Call → Call
+call_with_texts texts (calls.Run command) = calls.Run (command_with_texts texts command)
+call_with_texts texts call = call
+
+abbrev pub with_texts : List LicenceText → Request → Request
+with_texts texts (requests.Make call when) = requests.Make (call_with_texts texts call) when
+with_texts texts (requests.Preview call) = requests.Preview (call_with_texts texts call)
+with_texts texts request = request
+
+-- ---- with a list of files
+
+-- a command that names files beneath folders: of these it goes through those of the list
+abbrev pub command_listed : List (List ℕ) → Command → Command
+command_listed paths (Annotate places additions how scope) =
+    Annotate places additions how (record scope { listed = Some paths })
+command_listed paths (Amend places amendments scope) = Amend places amendments (record scope { listed = Some paths })
+command_listed paths command = command
+
+abbrev pub call_listed : List (List ℕ) → Call → Call
+call_listed paths (calls.Run command) = calls.Run (command_listed paths command)
+call_listed paths call = call
+
+abbrev pub request_listed : List (List ℕ) → Request → Request
+request_listed paths (requests.Make call when) = requests.Make (call_listed paths call) when
+request_listed paths (requests.Preview call) = requests.Preview (call_listed paths call)
+request_listed paths request = request

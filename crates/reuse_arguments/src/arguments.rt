@@ -1,0 +1,153 @@
+//! The command line that clap reads, made from the tables of options and subcommands.
+use crate::help::{ABOUT, AFTER};
+use crate::options::{Argument, BEFORE, Choice, Rule, Subcommand, Takes};
+use crate::prefix_name::prefix_names;
+use crate::subcommands::{HEADERS, HISTORY, STEPS};
+use clap::builder::ValueParser;
+use clap::{Arg, ArgAction, ArgGroup, Command};
+use reuse_header::style_names;
+use std::alloc::{AllocError, Global};
+
+/// The largest number that a step may be asked for by.
+const MOST_NUMBER: u64 = 4_294_967_295;
+
+/// The version, the formats of the journal, and a line on the proof of this build. If all is
+/// proved, `install.sh` writes a line of the same length over the last one, which says so.
+const VERSION: &str = "\
+1.2.0
+journal formats: reads 1 and 2, writes 2
+this build says nothing about a proof";
+
+fn one_of<'a>(arg: Arg<'a>, names: &'static [&'static str]) -> Arg<'a> {
+    arg.value_name("NAME")
+        .action(ArgAction::Set)
+        .value_parser(ValueParser::Names(names))
+}
+
+/// What takes this: the option of this long name, or words without an option.
+fn taking<'a>(arg: Arg<'a>, id: &'static str, takes: Takes) -> Arg<'a> {
+    match takes {
+        Takes::Nothing => arg.long(id).action(ArgAction::SetTrue),
+        Takes::Value(name) => arg.long(id).value_name(name).action(ArgAction::Set),
+        Takes::Values(name) => arg.long(id).value_name(name).action(ArgAction::Append),
+        Takes::Pairs(names) => arg
+            .long(id)
+            .value_names(names)
+            .num_args(2)
+            .action(ArgAction::Append),
+        Takes::Style => one_of(arg.long(id), style_names()),
+        Takes::Prefix => one_of(arg.long(id), prefix_names()),
+        Takes::Words => arg.num_args(1..).action(ArgAction::Append),
+        Takes::Number => arg.value_parser(ValueParser::unsigned(0, MOST_NUMBER)),
+        Takes::Numbers => arg
+            .num_args(1..)
+            .action(ArgAction::Append)
+            .value_parser(ValueParser::unsigned(0, MOST_NUMBER)),
+    }
+}
+
+fn ruled<'a>(arg: Arg<'a>, rule: Rule) -> Result<Arg<'a>, AllocError> {
+    match rule {
+        Rule::Free => Ok(arg),
+        Rule::Required => Ok(arg.required(true)),
+        Rule::RequiredUnless(other) => arg.required_unless_present(other),
+        Rule::Requires(other) => arg.requires_arg(other),
+        Rule::Excludes(other) => arg.conflicts_with(other),
+        Rule::Alias(name) => arg.visible_alias(name),
+        Rule::Global(order) => Ok(arg.global(true).display_order(order)),
+    }
+}
+
+fn arg_of<'a>(alloc: Global, argument: Argument) -> Result<Arg<'a>, AllocError> {
+    let Argument(id, short, takes, rule, help) = argument;
+    let arg = taking(Arg::new(alloc, id).help(help), id, takes);
+    match short {
+        Some(letter) => ruled(arg.short(letter), rule),
+        None => ruled(arg, rule),
+    }
+}
+
+fn with_arguments<'a>(
+    alloc: Global,
+    command: Command<'a>,
+    arguments: &[Argument],
+) -> Result<Command<'a>, AllocError> {
+    let mut command = command;
+    for argument in arguments {
+        command = command.arg(arg_of(alloc, *argument)?)?;
+    }
+    Ok(command)
+}
+
+fn group_of<'a>(alloc: Global, choice: Choice) -> Result<ArgGroup<'a>, AllocError> {
+    let (name, one, other, both) = match choice {
+        Choice::OneOf(name, one, other) => (name, one, other, false),
+        Choice::AnyOf(name, one, other) => (name, one, other, true),
+    };
+    Ok(
+        ArgGroup::new(alloc, name)
+            .arg(one)?
+            .arg(other)?
+            .multiple(both),
+    )
+}
+
+fn with_choices<'a>(
+    alloc: Global,
+    command: Command<'a>,
+    choices: &[Choice],
+) -> Result<Command<'a>, AllocError> {
+    let mut command = command;
+    for choice in choices {
+        command = command.group(group_of(alloc, *choice)?)?;
+    }
+    Ok(command)
+}
+
+fn command_of<'a>(alloc: Global, subcommand: Subcommand) -> Result<Command<'a>, AllocError> {
+    let Subcommand(name, about, after, arguments, choices) = subcommand;
+    let command = Command::new(alloc, name).about(about).after_help(after);
+    with_choices(alloc, with_arguments(alloc, command, arguments)?, choices)
+}
+
+fn with_subcommands<'a>(
+    alloc: Global,
+    command: Command<'a>,
+    subcommands: &[Subcommand],
+) -> Result<Command<'a>, AllocError> {
+    let mut command = command;
+    for subcommand in subcommands {
+        command = command.subcommand(command_of(alloc, *subcommand)?)?;
+    }
+    Ok(command)
+}
+
+// The tables are large: each is added by a function of its own, so that no proof reads two.
+fn with_headers<'a>(alloc: Global, command: Command<'a>) -> Result<Command<'a>, AllocError> {
+    with_subcommands(alloc, command, HEADERS)
+}
+
+fn with_steps<'a>(alloc: Global, command: Command<'a>) -> Result<Command<'a>, AllocError> {
+    with_subcommands(alloc, command, STEPS)
+}
+
+fn with_history<'a>(alloc: Global, command: Command<'a>) -> Result<Command<'a>, AllocError> {
+    with_subcommands(alloc, command, HISTORY)
+}
+
+fn with_options<'a>(alloc: Global, command: Command<'a>) -> Result<Command<'a>, AllocError> {
+    with_arguments(alloc, command, BEFORE)
+}
+
+/// The whole command line.
+pub fn whole<'a>(alloc: Global) -> Result<Command<'a>, AllocError> {
+    let command = Command::new(alloc, "reuse-undo")
+        .bin_name("reuse-undo")?
+        .version(VERSION)
+        .about(ABOUT)
+        .after_help(AFTER)
+        .subcommand_required(true);
+    let command = with_options(alloc, command)?;
+    let command = with_headers(alloc, command)?;
+    with_history(alloc, with_steps(alloc, command)?)
+}

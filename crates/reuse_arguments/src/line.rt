@@ -1,0 +1,185 @@
+//! What a command line asks for.
+ghost use Rattle.std.specs.Prelude.{◌≡◌, Some, if◌then◌else◌};
+ghost use Rattle.reuse_arguments.specs.ChangeStatuses.{change_status_of};
+ghost use Rattle.reuse_arguments.specs.RefusalTexts.{line_fault_text};
+ghost use Rattle.reuse_arguments.specs.declared.line.ChangeStatus.TheVariants as statuses;
+
+use reuse_notice::NoticeRefusal;
+use reuse_session::{EntryNumbers, Request};
+use reuse_shown::shown_name::Names;
+use std::alloc::{AllocError, AllocFailed};
+use std::error::Error;
+use std::fmt;
+
+/// In which form an answer is printed.
+#[derive(Clone, Copy, PartialEq, Eq)]
+pub enum OutputFormat {
+    /// A line for each path or row.
+    Lines,
+    /// These lines, and what changes as a diff.
+    Diff,
+    /// A JSON object on each line.
+    Json,
+}
+
+/// How an answer is printed.
+#[derive(Clone, Copy)]
+pub struct PrintOptions {
+    pub format: OutputFormat,
+    /// How the names in lines are shown. JSON escapes their control bytes always, and a diff as git
+    /// does.
+    pub names: Names,
+}
+
+/// The status of a call that changed a path, or that would change one and was only looked at.
+#[derive(Clone, Copy, PartialEq, Eq)]
+pub enum ChangeStatus {
+    /// 0, as if nothing had changed.
+    Zero,
+    /// 1, as if the call had been refused.
+    One,
+}
+
+impl ChangeStatus {
+    /// 1 if that is asked for.
+    pub fn of(is_asked: bool) -> ChangeStatus
+        ensures { result ≡ (if is_asked then statuses.One else statuses.Zero) }
+    {
+        if is_asked {
+            ChangeStatus::One
+        } else {
+            ChangeStatus::Zero
+        }
+    }
+}
+
+/// A command line that was read.
+#[derive(Drop)]
+pub struct Line {
+    /// The folder of the tree, relative to the working folder.
+    pub root: String,
+    /// What a session is asked for. The texts of a download are found later.
+    pub request: Request,
+    /// The folder of the texts of a download, relative to the working folder.
+    pub texts: Option<String>,
+    pub format: OutputFormat,
+    pub change_status: ChangeStatus,
+}
+
+/// What words ask for.
+#[derive(Drop)]
+pub enum Asked {
+    /// What a session answers.
+    Line(Line),
+    /// To roll back what a stopped run left pending.
+    Recover(Recovery),
+    /// To take steps out of the history.
+    Forget(Forgetting),
+}
+
+impl Asked {
+    /// Whether a change is to end with status 1.
+    pub fn change_status(&self) -> ChangeStatus
+        ensures { result ≡ change_status_of self.now }
+    {
+        match self {
+            Asked::Line(line) => line.change_status,
+            Asked::Recover(_) | Asked::Forget(_) => ChangeStatus::Zero,
+        }
+    }
+}
+
+/// Where the pending step is to be rolled back, and how.
+#[derive(Drop)]
+pub struct Recovery {
+    /// The folder of the tree, relative to the working folder.
+    pub root: String,
+    /// Whether the paths that can't be rolled back are left as they are.
+    pub skip_moved: bool,
+}
+
+/// Where steps are to be taken out of the history, and which.
+#[derive(Drop)]
+pub struct Forgetting {
+    /// The folder of the tree, relative to the working folder.
+    pub root: String,
+    pub steps: Steps,
+}
+
+/// Steps of the history.
+#[derive(Drop)]
+pub enum Steps {
+    /// All.
+    All,
+    /// Those of these numbers.
+    Numbers(EntryNumbers),
+}
+
+/// Why words are no line.
+#[derive(Debug, Drop)]
+pub enum LineFault {
+    /// A mistake in the words, with the text for the user.
+    Usage(String),
+    /// Help or the version was asked for, with the text.
+    Help(String),
+    /// A word names no place of a tree.
+    BadPath(String),
+    /// The arguments of `annotate` or `amend` can't be written, or add nothing.
+    BadAdditions(NoticeRefusal),
+    /// Nothing that `amend` is to change is given.
+    NothingToAmend,
+    /// A word is no glob.
+    BadGlob(String),
+    /// The list of files can't be read.
+    Unreadable(String),
+    /// Memory ran out.
+    Memory,
+}
+
+impl fmt::Display for LineFault {
+    ghost output = { λ fault. Some (line_fault_text fault) };
+
+    fn fmt<W: fmt::Write>(&self, f: &mut fmt::Formatter<W>) -> fmt::Result {
+        match self {
+            LineFault::Usage(text) | LineFault::Help(text) => f.write_str(text.as_str()),
+            LineFault::BadPath(word) => write!(f, "bad path: {word}"),
+            LineFault::BadAdditions(refusal) => write!(f, "{refusal}"),
+            LineFault::NothingToAmend => f.write_str("nothing to amend"),
+            LineFault::BadGlob(word) => write!(f, "bad glob: {word}"),
+            LineFault::Unreadable(file) => write!(f, "{file}: cannot be read"),
+            LineFault::Memory => f.write_str("out of memory"),
+        }
+    }
+}
+
+impl Error for LineFault {}
+
+impl From<AllocError> for LineFault {
+    ghost use Rattle.reuse_arguments.specs.declared.line.LineFault.TheVariants as faults;
+
+    ghost from_gives = { λ _ fault. fault ≡ faults.Memory };
+
+    fn from(_: AllocError) -> LineFault {
+        LineFault::Memory
+    }
+}
+
+impl<T: Drop> From<AllocFailed<T>> for LineFault {
+    ghost use Rattle.reuse_arguments.specs.declared.line.LineFault.TheVariants as faults;
+
+    ghost from_gives = { λ _ fault. fault ≡ faults.Memory };
+
+    fn from(_: AllocFailed<T>) -> LineFault {
+        LineFault::Memory
+    }
+}
+
+impl From<NoticeRefusal> for LineFault {
+    ghost use Rattle.reuse_arguments.specs.declared.line.LineFault.TheVariants as faults;
+
+    ghost from_gives = { λ refusal fault. fault ≡ faults.BadAdditions refusal };
+
+    fn from(refusal: NoticeRefusal) -> LineFault {
+        LineFault::BadAdditions(refusal)
+    }
+}

@@ -1,0 +1,78 @@
+//! The place that a word of the command line names.
+ghost use Rattle.std.specs.Prelude.{◌≡◌, ◌++◌, ◌∷◌, IfOk, OnOk, map, string_bytes, if◌then◌else◌};
+ghost use Rattle.std.specs.Option.{option_map};
+ghost use Rattle.reuse_arguments.specs.Places.{without_end_slash, parts_of, path_along, is_named, place_at, place_of_word};
+ghost use Rattle.reuse_system.specs.Names.{between_slashes};
+
+use reuse_session::Place;
+use reuse_tree::{PathError, PathText};
+use std::alloc::{AllocError, Global};
+
+/// The place that the word names: parts `.` and a slash at the end are dropped, and `.` is the
+/// root. There is none where what is left is no path, as `/a` or `a/../b`.
+pub fn place_of_word(alloc: Global, word: &str) -> Result<Option<Place>, AllocError>
+    ensures { IfOk result (λ place. place ≡ place_of_word word.now) }
+{
+    match path_of_word(alloc, word)? {
+        Some(path) => place_at(alloc, path.as_str()),
+        None => Ok(Some(Place::Root)),
+    }
+}
+
+fn place_at(alloc: Global, path: &str) -> Result<Option<Place>, AllocError>
+    ensures { IfOk result (λ place. place ≡ place_at (Some path.now)) }
+{
+    match PathText::new(alloc, path) {
+        Ok(path) => Ok(Some(Place::Path(path))),
+        Err(PathError::BadPath) => Ok(None),
+        Err(PathError::Memory) => Err(AllocError),
+    }
+}
+
+// The path along the word's parts, or none where there is no part.
+fn path_of_word(alloc: Global, word: &str) -> Result<Option<String>, AllocError>
+    ensures { IfOk result (λ path. option_map string_bytes path ≡ path_along (parts_of word.now)) }
+{
+    let mut path = String::new(alloc);
+    let mut is_empty = true;
+    for part in split_at_slashes(alloc, without_end_slash(word))?.as_slice() {
+        if is_named(part) {
+            push_part(&mut path, is_empty, part)?;
+            is_empty = false;
+        }
+    }
+    Ok(if is_empty { None } else { Some(path) })
+}
+
+// The word without a slash at its end.
+fn without_end_slash(word: &str) -> &str
+    ensures { result.now ≡ without_end_slash word.now }
+{
+    match word.strip_suffix('/') {
+        Some(front) => front,
+        None => word,
+    }
+}
+
+// What stands between the slashes.
+fn split_at_slashes<'a>(alloc: Global, word: &'a str) -> Result<Vec<&'a str>, AllocError>
+    ensures { IfOk result (λ parts. map (λ part. part.now) parts.items ≡ between_slashes word.now) }
+{
+    word.split('/').collect(alloc)
+}
+
+fn is_named(part: &str) -> bool
+    ensures { result ≡ is_named part.now }
+{
+    part != "."
+}
+
+// Adds a part, after a slash unless it is the first.
+fn push_part(path: &mut String, is_first: bool, part: &str) -> Result<(), AllocError>
+    ensures { OnOk result (string_bytes path.new ≡ (if is_first then string_bytes path.old ++ part.now else string_bytes path.old ++ 47 ∷ part.now)) }
+{
+    if !is_first {
+        path.push('/')?;
+    }
+    path.push_str(part)
+}

@@ -1,0 +1,103 @@
+//! The request of a line, made whole: with the texts of a download, or a list of files.
+ghost use Rattle.std.specs.Prelude.{◌≡◌, if◌then◌else◌};
+ghost use Rattle.reuse_arguments.specs.Requests.{made_or_seen, with_texts, call_with_texts, command_with_texts, request_listed, call_listed, command_listed};
+
+use reuse_session::{Call, Command, Ids, LicenceTexts, Moment, PathList, Request};
+
+/// To make the call at this moment, or in a dry run what it would do.
+pub fn made_or_seen(call: Call, moment: Moment, dry_run: bool) -> Request
+    ensures { result ≡ made_or_seen call moment dry_run }
+{
+    if dry_run {
+        Request::Preview(call)
+    } else {
+        Request::Make(call, moment)
+    }
+}
+
+/// The call that is to be made or looked at, if it is one.
+pub fn call_of(request: &Request) -> Option<&Call> {
+    match request {
+        Request::Make(call, _) | Request::Preview(call) => Some(call),
+        Request::Log | Request::Show(_) => None,
+    }
+}
+
+/// The ids of the licences that are asked for by a download.
+pub fn ids_of(request: &Request) -> Option<&Ids> {
+    match call_of(request) {
+        Some(Call::Run(Command::Download { ids, texts: _ })) => Some(ids),
+        _ => None,
+    }
+}
+
+/// The request with the texts that were found for a download.
+pub fn with_texts(request: Request, texts: LicenceTexts) -> Request
+    ensures { result ≡ with_texts texts request }
+{
+    match request {
+        Request::Make(call, when) => Request::Make(call_with_texts(call, texts), when),
+        Request::Preview(call) => Request::Preview(call_with_texts(call, texts)),
+        request => {
+            drop(texts);
+            request
+        }
+    }
+}
+
+fn call_with_texts(call: Call, texts: LicenceTexts) -> Call
+    ensures { result ≡ call_with_texts texts call }
+{
+    match call {
+        Call::Run(command) => Call::Run(command_with_texts(command, texts)),
+        call => {
+            drop(texts);
+            call
+        }
+    }
+}
+
+fn command_with_texts(command: Command, texts: LicenceTexts) -> Command
+    ensures { result ≡ command_with_texts texts command }
+{
+    match command {
+        Command::Download { ids, texts: none } => {
+            drop(none);
+            Command::Download { ids, texts }
+        }
+        command => {
+            drop(texts);
+            command
+        }
+    }
+}
+
+/// Of the files beneath folders the command goes through those of the list alone.
+pub fn set_listed(request: &mut Request, listed: PathList)
+    ensures { request.new ≡ request_listed listed request.old }
+{
+    match request {
+        Request::Make(call, _) => set_call_listed(call, listed),
+        Request::Preview(call) => set_call_listed(call, listed),
+        Request::Log | Request::Show(_) => drop(listed),
+    }
+}
+
+fn set_call_listed(call: &mut Call, listed: PathList)
+    ensures { call.new ≡ call_listed listed call.old }
+{
+    match call {
+        Call::Run(command) => set_command_listed(command, listed),
+        _ => drop(listed),
+    }
+}
+
+fn set_command_listed(command: &mut Command, listed: PathList)
+    ensures { command.new ≡ command_listed listed command.old }
+{
+    match command {
+        Command::Annotate { scope, .. } => scope.listed = Some(listed),
+        Command::Amend { scope, .. } => scope.listed = Some(listed),
+        _ => drop(listed),
+    }
+}

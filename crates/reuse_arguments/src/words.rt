@@ -1,0 +1,240 @@
+//! From the words of a command line to what they ask for.
+ghost use Rattle.std.specs.Prelude.{◌≡◌, ◌≤◌, IfOk, Result, map, string_bytes};
+ghost use Rattle.clap.specs.Simple.{subcommand_rows_of};
+ghost use Rattle.clap.specs.Values.{kind_of};
+ghost use Rattle.clap.specs.declared.error.Error.{Error};
+ghost use Rattle.clap.specs.declared.parser.matches.ArgMatches.{ArgMatches};
+ghost use Rattle.std.specs.Option.{option_map};
+ghost use Rattle.reuse_arguments.specs.Asking.{request_in};
+ghost use Rattle.reuse_arguments.specs.CommandLine.{IsReadAs, IsRefused, Says, call_read, download_of, no_line, request_read, requested, session_read, texts_read};
+ghost use Rattle.reuse_arguments.specs.Found.{found_in};
+ghost use Rattle.reuse_arguments.specs.LineFaults.{IsDue, IsDueAs, IsToldAs};
+
+mod amend_words;
+mod choices;
+mod command_words;
+mod file_words;
+pub mod finder;
+mod found;
+mod unread_words;
+
+use crate::line::{Asked, Forgetting, Line, LineFault, Recovery};
+use crate::request::made_or_seen;
+use crate::settings::Settings;
+use choices::{is_dry_run, read_change_status, read_format, read_settings};
+use clap::error::ErrorKind;
+use clap::{ArgMatches, Error};
+use command_words::{read_amend, read_annotate};
+use file_words::{read_files_from, read_ids, read_root, read_step, read_steps, read_texts};
+use finder::Finder;
+use found::{flag, subcommand};
+use reuse_session::{Call, Command, LicenceTexts, Moment, Request};
+use reuse_shown::date::year_of;
+use std::alloc::{AllocError, Global};
+use unread_words::unread;
+
+/// What the words of a command line say.
+#[derive(Drop)]
+pub struct Said {
+    /// Whether notes are asked for.
+    pub verbose: bool,
+    /// What is asked for of all calls alike.
+    pub settings: Settings,
+    /// The file that lists the files to be annotated or amended, where one is named.
+    pub files_from: Option<String>,
+    pub asked: Result<Asked, LineFault>,
+}
+
+impl Said {
+    /// Words that are no line.
+    pub fn fault(fault: LineFault) -> Said
+        ensures { result ≡ no_line fault }
+    {
+        Said {
+            verbose: false,
+            settings: Settings::usual(),
+            files_from: None,
+            asked: Err(fault),
+        }
+    }
+}
+
+/// Reads the words, of which the first is the program's name. The current year is that of the
+/// moment.
+///
+/// Faults come in this order: those of the words themselves, the first word that names no place,
+/// those of what `annotate` is to add or `amend` to change, and the first glob that is none.
+pub fn words_to_command<F: Finder>(
+    finder: &F,
+    alloc: Global,
+    words: &[String],
+    moment: Moment,
+) -> Said
+    ensures { (found : Result ArgMatches Error) × F.answers finder.now (map string_bytes words.now) found × IsReadAs found moment result }
+{
+    match finder.find(alloc, words) {
+        Ok(matches) => said_in(alloc, &matches, moment),
+        Err(error) => refused(alloc, &error),
+    }
+}
+
+/// What the words say, of which clap found this.
+fn said_in(alloc: Global, matches: &ArgMatches<'_>, moment: Moment) -> Said
+    ensures { Says matches.now moment result }
+{
+    match read_files_from(alloc, matches) {
+        Ok(files_from) => Said {
+            verbose: flag(matches, "verbose"),
+            settings: read_settings(matches),
+            files_from,
+            asked: read_asked(alloc, matches, moment, year_of(moment)),
+        },
+        Err(error) => Said::fault(LineFault::from(error)),
+    }
+}
+
+/// Words that clap refuses with this error.
+fn refused(alloc: Global, error: &Error) -> Said
+    ensures { IsRefused error.now result }
+{
+    match fault_of(alloc, error) {
+        Ok(fault) => Said::fault(fault),
+        Err(error) => Said::fault(LineFault::from(error)),
+    }
+}
+
+fn fault_of(alloc: Global, error: &Error) -> Result<LineFault, AllocError>
+    ensures { IfOk result (IsToldAs (kind_of error.now)) }
+{
+    if error.kind() == ErrorKind::OutOfMemory {
+        return Ok(LineFault::Memory);
+    }
+    let text = error.to_string(alloc)?;
+    if error.use_stderr() {
+        Ok(LineFault::Usage(text))
+    } else {
+        Ok(LineFault::Help(text))
+    }
+}
+
+fn read_asked(
+    alloc: Global,
+    matches: &ArgMatches<'_>,
+    moment: Moment,
+    year: u16,
+) -> Result<Asked, LineFault>
+    requires { year ≤ 9999 }
+    ensures { IsDueAs request_in
+        (request_read (found_in matches.now) (subcommand_rows_of matches.now) moment year) result }
+{
+    let root = read_root(alloc, matches)?;
+    match subcommand(matches) {
+        Some((name, inner)) => read_request(alloc, root, name, inner, moment, year),
+        None => Err(unread(alloc, "no subcommand")?),
+    }
+}
+
+/// What the subcommand asks for in the tree under this folder.
+fn read_request(
+    alloc: Global,
+    root: String,
+    name: &str,
+    matches: &ArgMatches<'_>,
+    moment: Moment,
+    year: u16,
+) -> Result<Asked, LineFault>
+    requires { year ≤ 9999 }
+    ensures { IsDueAs request_in (requested (string_bytes root) name.now (found_in matches.now) moment year) result }
+{
+    match name {
+        "recover" => Ok(Asked::Recover(Recovery {
+            root,
+            skip_moved: flag(matches, "skip-moved"),
+        })),
+        "forget" => {
+            let steps = read_steps(alloc, matches)?;
+            Ok(Asked::Forget(Forgetting { root, steps }))
+        }
+        _ => {
+            let request = read_session_request(alloc, name, matches, moment, year)?;
+            Ok(Asked::Line(Line {
+                root,
+                request,
+                texts: read_texts_folder(alloc, name, matches)?,
+                format: read_format(matches),
+                change_status: read_change_status(matches),
+            }))
+        }
+    }
+}
+
+/// What a session is asked for.
+fn read_session_request(
+    alloc: Global,
+    name: &str,
+    matches: &ArgMatches<'_>,
+    moment: Moment,
+    year: u16,
+) -> Result<Request, LineFault>
+    requires { year ≤ 9999 }
+    ensures { IsDue (session_read name.now (found_in matches.now) moment year) result }
+{
+    match name {
+        "log" => Ok(Request::Log),
+        "show" => Ok(Request::Show(read_step(alloc, matches)?)),
+        _ => {
+            let call = read_call(alloc, name, matches, year)?;
+            Ok(made_or_seen(call, moment, is_dry_run(matches)))
+        }
+    }
+}
+
+fn read_call(
+    alloc: Global,
+    name: &str,
+    matches: &ArgMatches<'_>,
+    year: u16,
+) -> Result<Call, LineFault>
+    requires { year ≤ 9999 }
+    ensures { IsDue (call_read name.now (found_in matches.now) year) result }
+{
+    match name {
+        "annotate" => Ok(Call::Run(read_annotate(alloc, matches, year)?)),
+        "amend" => Ok(Call::Run(read_amend(alloc, matches)?)),
+        "convert-dep5" => Ok(Call::Run(Command::ConvertDep5)),
+        "download" => Ok(Call::Run(read_download(alloc, matches)?)),
+        "undo" => Ok(Call::Undo),
+        "redo" => Ok(Call::Redo),
+        "revert" => {
+            let number = read_step(alloc, matches)?;
+            Ok(Call::Revert {
+                number,
+                skip_moved: flag(matches, "skip-moved"),
+            })
+        }
+        _ => Err(unread(alloc, "a subcommand that nothing reads")?),
+    }
+}
+
+/// A download of these ids, without texts.
+fn read_download(alloc: Global, matches: &ArgMatches<'_>) -> Result<Command, AllocError>
+    ensures { IfOk result (λ command. command ≡ download_of (found_in matches.now)) }
+{
+    let ids = read_ids(alloc, matches)?;
+    let texts = LicenceTexts::new(Vec::new(alloc));
+    Ok(Command::Download { ids, texts })
+}
+
+/// The folder of the texts of a download.
+fn read_texts_folder(
+    alloc: Global,
+    name: &str,
+    matches: &ArgMatches<'_>,
+) -> Result<Option<String>, LineFault>
+    ensures { IsDueAs (option_map string_bytes) (texts_read name.now (found_in matches.now)) result }
+{
+    match name {
+        "download" => Ok(Some(read_texts(alloc, matches)?)),
+        _ => Ok(None),
+    }
+}

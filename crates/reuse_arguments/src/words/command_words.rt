@@ -1,0 +1,97 @@
+//! From the words of `annotate` and `amend` to the commands that they ask for.
+ghost use Rattle.std.specs.Prelude.{◌≡◌, ◌≤◌};
+ghost use Rattle.std.specs.Option.{option_map};
+ghost use Rattle.reuse_arguments.specs.CommandWords.{additions_read, amend_read, annotate_read, named_prefix, scope_read};
+ghost use Rattle.reuse_arguments.specs.Found.{found_in};
+ghost use Rattle.reuse_arguments.specs.LineFaults.{IsDue};
+
+use crate::line::LineFault;
+use crate::words::amend_words::{prefix_in, read_amendments};
+use crate::words::choices::{read_how, read_unknown};
+use crate::words::file_words::{read_globs, read_places, read_style};
+use crate::words::found::{flag, value, values};
+use clap::ArgMatches;
+use reuse_notice::{Additions, Prefix};
+use reuse_session::{Command, Scope};
+use std::alloc::Global;
+
+/// What `annotate` is asked for, in this year.
+pub fn read_annotate(
+    alloc: Global,
+    matches: &ArgMatches<'_>,
+    year: u16,
+) -> Result<Command, LineFault>
+    requires { year ≤ 9999 }
+    ensures { IsDue (annotate_read (found_in matches.now) year) result }
+{
+    let places = read_places(alloc, matches)?;
+    let additions = read_additions(alloc, matches, year)?;
+    let scope = read_scope(alloc, matches)?;
+    Ok(Command::Annotate {
+        places,
+        additions,
+        how: read_how(matches),
+        scope,
+    })
+}
+
+/// What `amend` is asked for.
+pub fn read_amend(alloc: Global, matches: &ArgMatches<'_>) -> Result<Command, LineFault>
+    ensures { IsDue (amend_read (found_in matches.now)) result }
+{
+    let places = read_places(alloc, matches)?;
+    let amendments = read_amendments(alloc, matches)?;
+    let scope = read_scope(alloc, matches)?;
+    Ok(Command::Amend {
+        places,
+        amendments,
+        scope,
+    })
+}
+
+fn read_additions(
+    alloc: Global,
+    matches: &ArgMatches<'_>,
+    year: u16,
+) -> Result<Additions, LineFault>
+    requires { year ≤ 9999 }
+    ensures { IsDue (additions_read (found_in matches.now) year) result }
+{
+    let prefix = prefix_named(alloc, value(matches, "copyright-prefix"))?;
+    Ok(Additions::new(
+        alloc,
+        values(matches, "copyright"),
+        values(matches, "license"),
+        values(matches, "contributor"),
+        values(matches, "year"),
+        flag(matches, "exclude-year"),
+        year,
+        prefix,
+    )?)
+}
+
+fn prefix_named(alloc: Global, name: Option<&str>) -> Result<Prefix, LineFault>
+    ensures { IsDue (named_prefix (option_map (λ text. text.now) name.entry)) result }
+{
+    match name {
+        Some(name) => prefix_in(alloc, name),
+        None => Ok(Prefix::Spdx),
+    }
+}
+
+/// Which files are taken. Options that a subcommand hasn't are as if they weren't given.
+fn read_scope(alloc: Global, matches: &ArgMatches<'_>) -> Result<Scope, LineFault>
+    ensures { IsDue (scope_read (found_in matches.now)) result }
+{
+    let style = read_style(alloc, matches)?;
+    let excluded = read_globs(alloc, matches)?;
+    Ok(Scope {
+        recursive: flag(matches, "recursive"),
+        style,
+        force_dot_license: flag(matches, "force-dot-license"),
+        unknown: read_unknown(matches),
+        skip_existing: flag(matches, "skip-existing"),
+        listed: None,
+        excluded,
+    })
+}

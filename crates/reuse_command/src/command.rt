@@ -1,0 +1,134 @@
+//! Commands: what a session can be asked to do.
+ghost use Rattle.std.specs.Prelude.{◌≡◌, IfOk};
+
+use crate::choice::{Globs, PathList};
+use crate::licence::{Ids, LicenceTexts};
+use reuse_header::{How, Style};
+use reuse_notice::{Additions, Amendments};
+use reuse_tree::{CommandName, EntryChanges, Items, PathText};
+use std::alloc::{AllocError, Global};
+
+/// A place of a tree that a command is given.
+#[derive(Debug, Drop)]
+pub enum Place {
+    /// The folder that holds all.
+    Root,
+    /// A file or a folder in it.
+    Path(PathText),
+}
+
+impl Place {
+    ghost use Rattle.reuse_command.specs.Command.{place_text};
+
+    /// Its text: the path, or `.` for the root.
+    pub fn text(&self) -> &str
+        ensures { result.now ≡ place_text self.now }
+    {
+        match self {
+            Place::Root => ".",
+            Place::Path(path) => path.text(),
+        }
+    }
+
+    /// A copy of it.
+    pub fn try_clone(&self, alloc: Global) -> Result<Place, AllocError>
+        ensures { IfOk result (λ copy. copy ≡ self.now) }
+    {
+        match self {
+            Place::Root => Ok(Place::Root),
+            Place::Path(path) => Ok(Place::Path(path.try_clone(alloc)?)),
+        }
+    }
+}
+
+/// Places, in any order.
+pub type Places = Items<Place>;
+
+/// What annotate does with a text file whose name has no style.
+#[derive(Clone, Copy, Debug, PartialEq, Eq)]
+pub enum Unknown {
+    /// It is refused.
+    Refuse,
+    /// Its neighbour is written.
+    Neighbour,
+    /// It is skipped.
+    Skip,
+}
+
+/// Which files annotate writes.
+#[derive(Debug, Drop)]
+pub struct Scope {
+    /// In place of a folder, the covered files beneath it that are asked for.
+    pub recursive: bool,
+    /// The style of all files, in place of that of their names.
+    pub style: Option<Style>,
+    /// Neighbours (`NAME.license`) alone.
+    pub force_dot_license: bool,
+    /// What is done where the name has no style.
+    pub unknown: Unknown,
+    /// Files with licensing information in the place that would be written are skipped.
+    pub skip_existing: bool,
+    /// Beneath folders, of the covered files those that are listed; all where there is no list.
+    pub listed: Option<PathList>,
+    /// Beneath folders, none that one of these globs matches.
+    pub excluded: Globs,
+}
+
+/// What a session can be asked to do.
+#[derive(Debug, Drop)]
+pub enum Command {
+    /// Adds licensing information to files.
+    Annotate {
+        /// The files.
+        places: Places,
+        /// What is added to each.
+        additions: Additions,
+        /// How a block is written.
+        how: How,
+        /// Which files are written, and where.
+        scope: Scope,
+    },
+    /// Amends the licensing information that files have, and gives none to files without it.
+    Amend {
+        /// The files.
+        places: Places,
+        /// What is amended in each.
+        amendments: Amendments,
+        /// Which files are gone through, and their style. Of the scope only `recursive`, `style`,
+        /// `listed` and `excluded` count.
+        scope: Scope,
+    },
+    /// Puts a `REUSE.toml` in the place of `.reuse/dep5`.
+    ConvertDep5,
+    /// Makes a file of the text of each licence. The texts are those that were found for the ids.
+    Download {
+        ids: Ids,
+        texts: LicenceTexts,
+    },
+    /// Takes the changes of a step back on whatever the tree is now.
+    Revert {
+        /// The changes.
+        changes: EntryChanges,
+        /// Paths that later steps touched: a change of one of them can't be taken back.
+        touched: PathList,
+        /// A change that can't be taken back is left out, and not refused.
+        skip_moved: bool,
+    },
+}
+
+impl Command {
+    ghost use Rattle.reuse_command.specs.Command.{name_of};
+
+    /// Its name.
+    pub fn name(&self) -> CommandName
+        ensures { result ≡ name_of self.now }
+    {
+        match self {
+            Command::Annotate { .. } => CommandName::Annotate,
+            Command::Amend { .. } => CommandName::Amend,
+            Command::ConvertDep5 => CommandName::ConvertDep5,
+            Command::Download { .. } => CommandName::Download,
+            Command::Revert { .. } => CommandName::Revert,
+        }
+    }
+}

@@ -1,0 +1,210 @@
+//! What a session answers.
+ghost use Rattle.std.specs.Prelude.{◌≡◌, Some};
+ghost use Rattle.reuse_command.specs.declared.failure.Failure.TheVariants.{Memory};
+ghost use Rattle.reuse_command.specs.RefusalTexts.{refusal_text};
+ghost use Rattle.reuse_command.specs.declared.reply.Refusal.TheVariants.{Failed};
+
+use crate::amend_fault::AmendFault;
+use crate::command::Place;
+use crate::failure::{Failure, Fault};
+use crate::header_fault::HeaderFault;
+use crate::path_outcome::PathOutcomes;
+use reuse_dep5::Dep5Refusal;
+use reuse_header::StylesRefusal;
+use reuse_text::Bytes;
+use reuse_tree::{CommandName, EntryChanges, Items, Moment, PathText, StoreFault};
+use std::alloc::{AllocError, AllocFailed};
+use std::error::Error;
+use std::fmt;
+
+/// Paths, in byte order.
+pub type Paths = Items<PathText>;
+
+/// A row of the log.
+#[derive(Clone, Copy, Debug)]
+pub struct Row {
+    /// The number of the entry.
+    pub number: u32,
+    /// When its command ran.
+    pub when: Moment,
+    /// Which command it was.
+    pub command: CommandName,
+    /// How many paths it changed.
+    pub count: usize,
+    /// Whether it is done, and not undone.
+    pub done: bool,
+}
+
+/// The rows of a log: the entries done, the oldest first, then those undone, the next to be redone
+/// first.
+pub type Rows = Items<Row>;
+
+/// A step that the journal lists, with what it changed.
+#[derive(Debug, Drop)]
+pub struct Shown {
+    /// Its row of the log.
+    pub row: Row,
+    /// What it changed.
+    pub changes: EntryChanges,
+}
+
+/// What a revert did.
+#[derive(Debug, Drop)]
+pub struct Reverted {
+    /// The paths at which the step was taken back.
+    pub changed: Paths,
+    /// The paths of the step that were left, since it can't be taken back there.
+    pub skipped: Paths,
+}
+
+/// What a recovery did.
+#[derive(Debug, Drop)]
+pub struct Recovered {
+    /// The number of the step that was pending. Where none was, nothing changed.
+    pub number: Option<u32>,
+    /// The paths that were rolled back.
+    pub changed: Paths,
+    /// The paths of the step that were left, since they can't be rolled back.
+    pub skipped: Paths,
+}
+
+/// What a call did.
+#[derive(Debug, Drop)]
+pub enum Response {
+    /// A session was opened.
+    Opened,
+    /// A command changed these paths.
+    Changed(Paths),
+    /// A command would have changed nothing.
+    NothingChanged,
+    /// These paths were taken back.
+    Undone(Paths),
+    /// These paths were changed again.
+    Redone(Paths),
+    /// The rows of the log.
+    Log(Rows),
+    /// The outcomes of the paths of a call that was looked at, and not made.
+    Preview(PathOutcomes),
+    /// A step of the journal.
+    Shown(Shown),
+    /// A step was taken back by a new one.
+    Reverted(Reverted),
+}
+
+/// Why a call was refused, or that it failed.
+#[derive(Debug, Drop)]
+pub enum Refusal {
+    /// An earlier call of this session was interrupted.
+    Broken,
+    /// No further entry fits the journal.
+    JournalFull,
+    /// Neither a file nor a folder of the tree.
+    NoSuchPath(PathText),
+    /// A folder.
+    IsFolder(Place),
+    /// A path that is not covered.
+    NotCovered(PathText),
+    /// A file that is too long.
+    TooLong(PathText),
+    /// A text file whose name has no style.
+    Unrecognised(PathText),
+    /// A file whose header can't be written.
+    Header(PathText, HeaderFault),
+    /// A file whose licensing information can't be amended.
+    Amend(PathText, AmendFault),
+    /// There is no `.reuse/dep5`.
+    NoDep5,
+    /// A file that would be made is there.
+    Exists(PathText),
+    /// The `.reuse/dep5` can't be read, or not be said as a `REUSE.toml`.
+    Dep5(Dep5Refusal),
+    /// Not the id of a licence.
+    BadId(Bytes),
+    /// No text was found for the id of a licence.
+    NoText(Bytes),
+    /// A path to be made that is a folder, or that has a file above it.
+    Clash(PathText),
+    /// More changes than an entry holds, or longer ones.
+    TooMany,
+    /// The `.reuse/styles.toml` can't be read.
+    BadStyles(StylesRefusal),
+    /// No entry is done.
+    NothingToUndo,
+    /// A file isn't in the state that the call needs, or a path to be made clashes.
+    Moved(PathText),
+    /// No entry is undone.
+    NothingToRedo,
+    /// No step of the journal has the number.
+    NoSuchStep(u32),
+    /// The folder of the journal is a file, or its head or an entry can't be read.
+    BadJournal(PathText),
+    /// No rule refused the call: the store or memory failed.
+    Failed(Failure),
+}
+
+impl fmt::Display for Refusal {
+    ghost output = { λ refusal. Some (refusal_text refusal) };
+
+    fn fmt<W: fmt::Write>(&self, f: &mut fmt::Formatter<W>) -> fmt::Result {
+        match self {
+            Refusal::Broken => f.write_str("broken"),
+            Refusal::JournalFull => f.write_str("journal full"),
+            Refusal::NoSuchPath(path) => write!(f, "{}: no such path", path.text()),
+            Refusal::IsFolder(place) => write!(f, "{}: is a folder", place.text()),
+            Refusal::NotCovered(path) => write!(f, "{}: not covered", path.text()),
+            Refusal::TooLong(path) => write!(f, "{}: too long", path.text()),
+            Refusal::Unrecognised(path) => write!(f, "{}: unrecognised", path.text()),
+            Refusal::Header(path, fault) => write!(f, "{}: {fault}", path.text()),
+            Refusal::Amend(path, fault) => write!(f, "{}: {fault}", path.text()),
+            Refusal::NoDep5 => f.write_str(".reuse/dep5: absent"),
+            Refusal::Exists(path) => write!(f, "{}: exists", path.text()),
+            Refusal::Dep5(refusal) => write!(f, "{refusal}"),
+            Refusal::BadId(id) => write!(f, "bad id: {id}"),
+            Refusal::NoText(id) => write!(f, "no text: {id}"),
+            Refusal::Clash(path) => write!(f, "{}: clash", path.text()),
+            Refusal::TooMany => f.write_str("too many changes"),
+            Refusal::BadStyles(_) => f.write_str(".reuse/styles.toml: bad styles"),
+            Refusal::NothingToUndo => f.write_str("nothing to undo"),
+            Refusal::Moved(path) => write!(f, "{}: moved", path.text()),
+            Refusal::NothingToRedo => f.write_str("nothing to redo"),
+            Refusal::NoSuchStep(number) => write!(f, "no such step: {number}"),
+            Refusal::BadJournal(path) => write!(f, "{}: bad journal", path.text()),
+            Refusal::Failed(failure) => write!(f, "{failure}"),
+        }
+    }
+}
+
+impl Error for Refusal {}
+
+/// A reply or a refusal.
+pub type Answer = Result<Response, Refusal>;
+
+impl From<AllocError> for Refusal {
+    ghost from_gives = { λ _ refusal. refusal ≡ Failed Memory };
+
+    fn from(_: AllocError) -> Self {
+        Refusal::Failed(Failure::Memory)
+    }
+}
+
+impl<T: Drop> From<AllocFailed<T>> for Refusal {
+    ghost from_gives = { λ _ refusal. refusal ≡ Failed Memory };
+
+    fn from(_: AllocFailed<T>) -> Self {
+        Refusal::Failed(Failure::Memory)
+    }
+}
+
+impl From<StoreFault> for Refusal {
+    ghost use Rattle.reuse_command.specs.Cause.{refusal_of};
+
+    ghost from_gives = { λ fault refusal. refusal ≡ refusal_of fault };
+
+    fn from(fault: StoreFault) -> Self {
+        Refusal::Failed(match fault {
+            StoreFault::Device => Failure::Fault(Fault::Device),
+            StoreFault::Clash => Failure::Fault(Fault::Clash),
+            StoreFault::Memory => Failure::Memory,
+        })
+    }
+}

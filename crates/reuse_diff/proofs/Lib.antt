@@ -1,0 +1,5 @@
+pub mod CommonLines
+pub mod DiffTextLemmas
+pub mod EndLemmas
+pub mod LineLists
+pub mod PieceLemmas

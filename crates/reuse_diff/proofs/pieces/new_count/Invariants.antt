@@ -1,0 +1,6 @@
+use Rattle.std.proofs.Common.{◌≡◌, ◌≤◌, take, length}
+use Rattle.reuse_diff.specs.Hunks.{new_lines}
+use Rattle.reuse_diff.proofs.pieces.new_count.Given as goal
+
+abbrev pub invariant-loop-piece : goal.invariant-loop-piece
+invariant-loop-piece l = (l.count ≤ l.piece-index) × (l.count ≡ length (new_lines (take l.piece-index l.pieces)))

@@ -1,0 +1,3 @@
+pub mod DiffText
+pub mod Hunks
+pub mod TextLines

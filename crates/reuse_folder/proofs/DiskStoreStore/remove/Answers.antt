@@ -1,0 +1,4 @@
+use Rattle.reuse_folder.proofs.DiskStoreStore.remove.Goals as goal
+
+pub returns-clause-place : goal.returns-clause-place
+returns-clause-place g c honest = rw c.note_removal.ensures.folder (c.remove-answer.ensures.place (rw c.note_removal.ensures.folder at honest))

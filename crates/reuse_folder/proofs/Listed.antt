@@ -1,0 +1,19 @@
+-- Lists of paths none of which is kept out.
+use Rattle.std.proofs.Common.{◌≡◌, All, ℕ, Bool, true, false, if◌then◌else◌, List, [], ◌∷◌, ◌++◌}
+use Rattle.std.specs.List.Sorted.{IsPermutation}
+use Rattle.std.proofs.lemmas.List.Elements.{All-push, All-same}
+use Rattle.std.proofs.lemmas.List.Sorted.{All-permutation}
+use Rattle.reuse_system.specs.KeptOut.{is_kept_out}
+
+abbrev pub IsInTree : List ℕ → Type 0
+IsInTree path = is_kept_out path ≡ false
+
+-- a list after a push that may have failed
+pub pushed : (done : Bool) (before after : List (List ℕ)) (path : List ℕ) →
+    All IsInTree before → IsInTree path → after ≡ (if done then before ++ path ∷ [] else before) → All IsInTree after
+pushed true before after path kept new same = All-same IsInTree after (before ++ path ∷ []) same (All-push IsInTree before path kept new)
+pushed false before after path kept new same = All-same IsInTree after before same kept
+
+-- a list in another order
+pub in_order : (before after : List (List ℕ)) → IsPermutation before after → All IsInTree before → All IsInTree after
+in_order before after = All-permutation IsInTree before after

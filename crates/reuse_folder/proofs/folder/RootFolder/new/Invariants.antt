@@ -1,0 +1,5 @@
+-- The files and the fates that the contract is asked for.
+use Rattle.reuse_folder.proofs.folder.RootFolder.new.Given as goal
+
+abbrev pub ghost-new : goal.ghost-new
+ghost-new g a = g.start

@@ -1,0 +1,21 @@
+use Rattle.std.proofs.Common.{rules}
+use Rattle.reuse_system.specs.Asides.{opened_at}
+use Rattle.reuse_system.specs.Names.{IsNameOf}
+use Rattle.reuse_system.specs.SystemCalls.{held_after}
+use Rattle.reuse_folder.specs.FolderReads.{current_of}
+use Rattle.reuse_folder.proofs.ReadLemmas.{read_in, read_opened}
+use Rattle.reuse_folder.proofs.folder.RootFolder.read_anew.Goals as goal
+
+pub returns-clause-read : goal.returns-clause-read
+returns-clause-read g c honest at =
+    let folder = c.in_ok-folder.folder.now.identity in
+    let name = c.folder_and_name.result.1.now in
+    let named : IsNameOf c.args.path.now name = search rules in
+    let first = c.args.self.now.system.noted in
+    let second = c.read.new.self.noted in
+    let old = held_after first.files first.fates first.calls in
+    let new = held_after second.files second.fates second.calls in
+    let was = c.in_ok-reading.ensures.read (rw c.remember.ensures.system at honest) in
+    let opened = rw c.in-Some.is at c.in_ok-file.ensures in
+    read_in (current_of c.args.self.now.trail) folder c.args.path.now name c.args.limit old c.args.status c.in_ok-reading.reading c.in_ok-folder.ensures named at
+    (read_opened folder name (opened_at c.in-Some.file) c.args.status.len c.args.limit old new c.in_ok-reading.reading opened c.in_ok-reading.ensures.kept was)

@@ -1,0 +1,138 @@
+use Rattle.std.proofs.Common.{rules, ◌≡◌, false, is_ok, refl, subst, sym}
+use Rattle.reuse_tree.specs.Parts.{joined}
+use Rattle.reuse_system.specs.Asides.{IsNewIn, IsNewPlace}
+use Rattle.reuse_system.specs.FileStates.{place_in}
+use Rattle.reuse_folder.specs.FolderReads.{current_of}
+use Rattle.reuse_system.specs.NameChanges.{OnlyChanges}
+use Rattle.reuse_system.specs.Names.{IsNameOf, IsSplit}
+use Rattle.reuse_system.specs.SystemCalls.{changes_of, folders_after, held_after}
+use Rattle.reuse_system.specs.SystemLaws.{IsAlikeUnless}
+use Rattle.reuse_folder.specs.Trails.{AreOpened}
+use Rattle.reuse_folder.specs.Written.{IsWritten, is_kept}
+use Rattle.reuse_folder.proofs.FolderLemmas.{nothing_put, cleared_alone, put_at}
+use Rattle.reuse_folder.proofs.PutLemmas.{nothing_put_in, not_put_in, put_in}
+use Rattle.reuse_folder.proofs.SeenLemmas.{loses_none, loses_only, loses_put}
+use Rattle.reuse_folder.proofs.folder.RootFolder.write.Goals as goal
+
+pub returns-in_err-note-clause-written : goal.returns-in_err-note-clause-written
+returns-in_err-note-clause-written g c = let failed : is_ok c.from_residual.result ≡ false = search rules in rw failed (nothing_put _ _ _ _)
+
+pub returns-in_err-new_file-clause-written : goal.returns-in_err-new_file-clause-written
+returns-in_err-new_file-clause-written g c =
+    let failed : is_ok c.from_residual-in_err-new_file.result ≡ false = search rules in
+    let name = c.folder_and_name.result.1.now in
+    let named : IsNameOf c.args.path.now name = search rules in
+    let cleared = c.take_new_file.ensures.cleared in
+    rw failed (cleared_alone c.args.path.now name cleared.folder _ _ _ _ named cleared.others)
+
+pub returns-clause-written : goal.returns-clause-written
+returns-clause-written g c =
+    let path = c.args.path.now in
+    let name = c.folder_and_name.result.1.now in
+    let named : IsNameOf path name = search rules in
+    let bytes = joined c.args.parts in
+    let is = is_kept c.args.self.now.unsynced.syncs in
+    let is_done = is_ok c.write-written.result in
+    let folder = c.in_ok-current.field-0.now.identity in
+    let new_files = c.in_ok-new_file.new_file.folder.identity in
+    let first = c.args.self.now.system.noted in
+    let between = c.take_new_file.new.self.system.noted in
+    let second = c.enter_seen.new.system.noted in
+    let third = c.write-written.new.system.noted in
+    let a = held_after first.files first.fates first.calls in
+    let b = held_after second.files second.fates second.calls in
+    let d = held_after third.files third.fates third.calls in
+    let cleared = c.in_ok-new_file.ensures.cleared in
+    let cleared_alike : IsAlikeUnless (IsNewIn new_files) a (held_after between.files between.fates between.calls) = rw cleared.is_folder cleared.others in
+    let alike : IsAlikeUnless (IsNewIn new_files) a b = rw c.enter_seen.ensures.kept cleared_alike in
+    let written : IsWritten (IsNewPlace new_files folder) (place_in folder name) bytes is b d is_done = search rules in
+    let put = put_at path name new_files folder bytes is a b d is_done named alike written in
+    search rules
+
+pub returns-clause-place : goal.returns-clause-place
+returns-clause-place g c honest =
+    let path = c.args.path.now in
+    let above = c.folder_and_name.result.0.now in
+    let name = c.folder_and_name.result.1.now in
+    let split : IsSplit path above name = search rules in
+    let bytes = joined c.args.parts in
+    let is = is_kept c.args.self.now.unsynced.syncs in
+    let is_done = is_ok c.write-written.result in
+    let folder = c.in_ok-current.field-0.now.identity in
+    let new_files = c.in_ok-new_file.new_file.folder.identity in
+    let first = c.args.self.now.system.noted in
+    let between = c.take_new_file.new.self.system.noted in
+    let second = c.enter_seen.new.system.noted in
+    let third = c.write-written.new.system.noted in
+    let a = held_after first.files first.fates first.calls in
+    let b = held_after second.files second.fates second.calls in
+    let d = held_after third.files third.fates third.calls in
+    let cleared = c.in_ok-new_file.ensures.cleared in
+    let cleared_alike : IsAlikeUnless (IsNewIn new_files) a (held_after between.files between.fates between.calls) = rw cleared.is_folder cleared.others in
+    let alike : IsAlikeUnless (IsNewIn new_files) a b = rw c.enter_seen.ensures.kept cleared_alike in
+    let written : IsWritten (IsNewPlace new_files folder) (place_in folder name) bytes is b d is_done = search rules in
+    let entered = c.in_ok-enter_seen.ensures.entered c.take_new_file.new.self.opened (c.write-written.ensures.earlier (rw c.note_written.ensures at honest)) in
+    rw c.note_written.ensures (put_in (folders_after third.folders third.fates third.calls) (folders_after second.folders second.fates second.calls) path above name (current_of c.enter_seen.new.self) new_files folder bytes is a b d is_done
+    c.write-written.ensures.still split entered c.in_ok-current.ensures alike written)
+
+pub returns-in_err-note-clause-place : goal.returns-in_err-note-clause-place
+returns-in_err-note-clause-place g c honest =
+    let noted = c.args.self.now.system.noted in
+    let failed : is_ok c.from_residual.result ≡ false = search rules in
+    nothing_put_in (folders_after noted.folders noted.fates noted.calls) c.args.path.now (joined c.args.parts) (is_kept c.args.self.now.unsynced.syncs) (held_after noted.files noted.fates noted.calls) (is_ok c.from_residual.result) failed
+
+pub returns-in_err-new_file-clause-place : goal.returns-in_err-new_file-clause-place
+returns-in_err-new_file-clause-place g c honest =
+    let first = c.args.self.now.system.noted in
+    let second = c.take_new_file.new.self.system.noted in
+    let result = c.from_residual-in_err-new_file.result in
+    let failed : is_ok result ≡ false = search rules in
+    let cleared = c.take_new_file.ensures.cleared in
+    not_put_in (folders_after second.folders second.fates second.calls) c.args.path.now (joined c.args.parts) (is_kept c.args.self.now.unsynced.syncs) (held_after first.files first.fates first.calls)
+    (held_after second.files second.fates second.calls) (is_ok result) cleared.folder failed cleared.others
+
+pub invariant_of-self-2 : goal.invariant_of-self-2
+invariant_of-self-2 g c =
+    let was = c.enter_seen.ensures.opened c.take_new_file.new.self.opened in
+    record {
+      opened = λ honest. subst (λ folders. AreOpened folders c.enter_seen.new.self) (sym c.write-written.ensures.still) (was (c.write-written.ensures.earlier honest));
+    }
+
+pub returns-in_err-note-clause-keeps_edits : goal.returns-in_err-note-clause-keeps_edits
+returns-in_err-note-clause-keeps_edits g c expected seen = loses_none c.args.path.now expected _ _ _ _ refl refl
+
+pub returns-in_err-new_file-clause-keeps_edits : goal.returns-in_err-new_file-clause-keeps_edits
+returns-in_err-new_file-clause-keeps_edits g c expected seen =
+    let cleared = c.take_new_file.ensures.cleared in
+    loses_only c.args.path.now expected cleared.folder _ _ _ _ cleared.changed cleared.others
+
+pub returns-in_err-enter_seen-clause-keeps_edits : goal.returns-in_err-enter_seen-clause-keeps_edits
+returns-in_err-enter_seen-clause-keeps_edits g c expected seen =
+    let cleared = c.take_new_file.ensures.cleared in
+    loses_only c.args.path.now expected cleared.folder _ _ _ _ (rw c.enter_seen.ensures.changes cleared.changed) (rw c.enter_seen.ensures.kept cleared.others)
+
+pub returns-in_err-current-clause-keeps_edits : goal.returns-in_err-current-clause-keeps_edits
+returns-in_err-current-clause-keeps_edits g c expected seen =
+    let cleared = c.take_new_file.ensures.cleared in
+    loses_only c.args.path.now expected cleared.folder _ _ _ _ (rw c.enter_seen.ensures.changes cleared.changed) (rw c.enter_seen.ensures.kept cleared.others)
+
+pub returns-clause-keeps_edits : goal.returns-clause-keeps_edits
+returns-clause-keeps_edits g c expected seen =
+    let path = c.args.path.now in
+    let name = c.folder_and_name.result.1.now in
+    let named : IsNameOf path name = search rules in
+    let folder = c.in_ok-current.field-0.now.identity in
+    let new_files = c.in_ok-new_file.new_file.folder.identity in
+    let first = c.args.self.now.system.noted in
+    let between = c.take_new_file.new.self.system.noted in
+    let second = c.enter_seen.new.system.noted in
+    let third = c.write-written.new.system.noted in
+    let a = held_after first.files first.fates first.calls in
+    let b = held_after second.files second.fates second.calls in
+    let d = held_after third.files third.fates third.calls in
+    let cleared = c.in_ok-new_file.ensures.cleared in
+    let cleared_alike : IsAlikeUnless (IsNewIn new_files) a (held_after between.files between.fates between.calls) = rw cleared.is_folder cleared.others in
+    let alike : IsAlikeUnless (IsNewIn new_files) a b = rw c.enter_seen.ensures.kept cleared_alike in
+    let cleared_only : OnlyChanges (IsNewIn new_files) (changes_of first.calls) (changes_of between.calls) = rw cleared.is_folder cleared.changed in
+    let only : OnlyChanges (IsNewIn new_files) (changes_of first.calls) (changes_of second.calls) = rw c.enter_seen.ensures.changes cleared_only in
+    rw c.note_written.ensures (loses_put path name expected c.args.found new_files folder (changes_of first.calls) (changes_of second.calls) (changes_of third.calls) a b d named seen only alike c.write-written.ensures.guarded)

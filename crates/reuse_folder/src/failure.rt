@@ -1,0 +1,78 @@
+//! What the last call of a store that failed was.
+use reuse_system::fault::{FolderFault, Obstacle};
+use reuse_tree::Asked;
+use std::alloc::Global;
+use std::fmt;
+
+/// A call that failed: what it asked for, at which path, and why it failed.
+#[derive(Drop)]
+pub struct Failure {
+    asked: Asked,
+    /// Empty for the root.
+    path: String,
+    fault: FolderFault,
+}
+
+impl Failure {
+    /// Whether it failed since another program had changed what stands there.
+    pub fn is_change(&self) -> bool {
+        matches!(self.fault, FolderFault::Device(Obstacle::Changing))
+    }
+
+    /// Whether it failed since something stands there that is neither a file nor a folder.
+    pub fn is_foreign(&self) -> bool {
+        matches!(self.fault, FolderFault::Device(Obstacle::Foreign))
+    }
+}
+
+impl fmt::Display for Failure {
+    fn fmt<W: fmt::Write>(&self, f: &mut fmt::Formatter<W>) -> fmt::Result {
+        let asked = match self.asked {
+            Asked::List => "list",
+            Asked::Read => "read",
+            Asked::Write => "write",
+            Asked::Remove => "remove",
+            Asked::Sync => "sync",
+        };
+        let path = self.path.as_str();
+        let place = if path.is_empty() { "." } else { path };
+        write!(f, "can't {asked} {place}: {}", self.fault)
+    }
+}
+
+/// The last call that failed, if one did.
+#[derive(Drop)]
+pub struct LastFailure {
+    failure: Option<Failure>,
+}
+
+impl LastFailure {
+    /// None has failed.
+    pub fn none() -> LastFailure {
+        LastFailure { failure: None }
+    }
+
+    /// Remembers the call if it failed. For an allocation failure that may be left out.
+    pub fn note<T>(
+        &mut self,
+        alloc: Global,
+        asked: Asked,
+        path: &str,
+        answer: &Result<T, FolderFault>,
+    ) {
+        if let Err(fault) = answer
+            && let Ok(path) = String::from_str(alloc, path)
+        {
+            self.failure = Some(Failure {
+                asked,
+                path,
+                fault: *fault,
+            });
+        }
+    }
+
+    /// The call that failed, which is forgotten here.
+    pub fn take(&mut self) -> Option<Failure> {
+        self.failure.take()
+    }
+}

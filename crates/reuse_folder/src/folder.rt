@@ -1,0 +1,276 @@
+//! A folder of the file system: its regular files by their paths.
+ghost use Rattle.std.specs.Prelude.{◌≡◌, All, false, IfOk, IsTrue, None};
+ghost use Rattle.std.specs.List.Sorted.{IsSorted};
+ghost use Rattle.std.specs.Ordering.{nat_cmp};
+ghost use Rattle.std.specs.Cmp.Lexicographic.{slice_cmp};
+ghost use Rattle.std.proofs.Props.{props};
+ghost use Rattle.reuse_system.specs.KeptOut.{is_kept_out};
+ghost use Rattle.reuse_system.specs.SystemCalls.{SystemStart};
+ghost use Rattle.reuse_folder.specs.RootFolders.{AreOpenedNow};
+
+mod batch;
+mod reading;
+mod seen;
+mod writing;
+
+use crate::journal_owner::{JournalOwners, journal_owners};
+use crate::keeping::Keeping;
+use crate::listing::Listing;
+use crate::new_file::NewFile;
+use crate::remembered::Remembered;
+use crate::syncs::Unsynced;
+use crate::trail::Trail;
+pub use batch::Stop;
+use reuse_system::fault::FolderFault;
+use reuse_system::kept_out::is_kept_out;
+use reuse_system::place::{FileStatus, Found, Place, folder_and_name};
+use reuse_system::syncs::Syncs;
+use reuse_system::system::{HostSystem, System};
+use reuse_tree::{Change, PathText, Pruning};
+use seen::ReadPath;
+use std::alloc::Global;
+use std::fs::File;
+use std::rt::{Env, Files};
+use std::time::Duration;
+
+/// The folder that a tree of files lies in. Nothing outside of it is read or written: no link below
+/// it is followed, and each call goes through the open handle of the folder that its path lies in.
+#[derive(Drop)]
+pub struct RootFolder<R: Files<File = File> + AllocGlobal + Clone + Drop> {
+    /// All calls that change regular files go through it.
+    system: HostSystem<R>,
+    /// The folders that are open.
+    trail: Trail,
+    /// The paths that were read since the last write, in order and up to a bound: a write expects
+    /// there what was read.
+    reads: Vec<ReadPath>,
+    /// Short files that were read, so that they need no second reading.
+    remembered: Remembered,
+    /// The place of new files, where its folder was looked at since the last listing or fault.
+    new_file: Option<NewFile>,
+    /// The folder that the last listing looked at last.
+    listed: String,
+    /// The folders that listings found and passed over.
+    passed_over: Vec<String>,
+    unsynced: Unsynced,
+    keeping: Keeping,
+    ghost opened: { AreOpenedNow system.noted trail } by { Prim.hlevel props },
+}
+
+impl<R: Files<File = File> + AllocGlobal + Clone + Drop> RootFolder<R> {
+    ghost use Rattle.reuse_folder.specs.FolderReads.{IsPlaceAt, LiesIn, current_of};
+    ghost use Rattle.reuse_system.specs.FolderPlaces.{IsNoFile};
+    /// The folder at this path, in which what is written is made lasting or not.
+    pub fn new(rt: R, root: String, syncs: Syncs, keeping: Keeping) -> RootFolder<R>
+        ghost start: { SystemStart }
+        ensures { result.unsynced.syncs ≡ syncs }
+    {
+        let trail = Trail::new(rt.alloc(), root, keeping.process());
+        let listed = String::new(rt.alloc());
+        let unsynced = Unsynced::new(rt.alloc(), syncs);
+        let reads = Vec::new(rt.alloc());
+        let remembered = Remembered::nothing(rt.alloc());
+        let passed_over = Vec::new(rt.alloc());
+        RootFolder {
+            system: HostSystem::new(rt),
+            trail,
+            reads,
+            remembered,
+            new_file: None,
+            listed,
+            passed_over,
+            unsynced,
+            keeping,
+        }
+    }
+
+    /// How files keep their owners here.
+    pub fn keeping(&mut self) -> &mut Keeping {
+        &mut self.keeping
+    }
+
+    /// Short files that are read from now on are remembered, for a call that began at this time
+    /// since 1970.
+    pub fn remember_files(&mut self, since: Option<Duration>) {
+        self.remembered.begin(since);
+    }
+
+    /// Goes to where the system shows the handles of the process, so that paths are short, until
+    /// `come_back`.
+    pub fn go_to_handles(&mut self, env: &impl Env, alloc: Global) {
+        self.new_file = None;
+        self.trail.go_to_handles(&mut self.system, env, alloc);
+    }
+
+    /// Comes back to the folder that the process was called in.
+    pub fn come_back(&mut self, env: &impl Env, alloc: Global) {
+        self.new_file = None;
+        self.trail.come_back(env, alloc);
+    }
+
+    /// The folder that the last listing looked at last, which is empty for the root: where one that
+    /// fails has failed.
+    pub fn listed(&self) -> &str {
+        self.listed.as_str()
+    }
+
+    /// The folders that listings found and passed over.
+    pub fn passed_over(&self) -> &[String] {
+        &self.passed_over
+    }
+
+    /// The folder or the file that was synced last, which is empty for the root: where a sync that
+    /// fails has failed.
+    pub fn synced(&self) -> &str {
+        self.unsynced.last()
+    }
+
+    /// Whether folders are sought by their paths, since the system doesn't show open ones.
+    pub fn is_by_path(&self) -> bool {
+        self.trail.is_by_path()
+    }
+
+    /// Nothing, or a fault where the root isn't there any more.
+    fn nothing(&self, alloc: Global) -> Result<Place, FolderFault>
+        ensures { IfOk result (λ place. place ≡ Place.Nothing) }
+    {
+        self.trail.check_root(self.system.rt(), alloc)?;
+        Ok(Place::Nothing)
+    }
+
+    /// What stands at the path. The folder that it lies in is entered, if it is there.
+    fn look(&mut self, alloc: Global, path: &PathText) -> Result<Place, FolderFault>
+        ensures kept { ⟦<HostSystem<R> as System>⟧.holds self.new.system ≡ ⟦<HostSystem<R> as System>⟧.holds self.old.system }
+        ensures changes { ⟦<HostSystem<R> as System>⟧.changes self.new.system ≡ ⟦<HostSystem<R> as System>⟧.changes self.old.system }
+        ensures still { ⟦<HostSystem<R> as System>⟧.folders self.new.system ≡ ⟦<HostSystem<R> as System>⟧.folders self.old.system }
+        ensures earlier { ⟦<HostSystem<R> as System>⟧.honest self.new.system
+            → ⟦<HostSystem<R> as System>⟧.honest self.old.system }
+        ensures remembered { self.new.remembered ≡ self.old.remembered }
+        ensures lies { ⟦<HostSystem<R> as System>⟧.honest self.new.system
+            → IfOk result (LiesIn (⟦<HostSystem<R> as System>⟧.folders self.new.system) path.now (current_of self.new.trail)) }
+        ensures seen { ⟦<HostSystem<R> as System>⟧.honest self.new.system
+            → IfOk result (IsPlaceAt (⟦<HostSystem<R> as System>⟧.folders self.new.system) (⟦<HostSystem<R> as System>⟧.holds self.new.system) path.now (current_of self.new.trail)) }
+        ensures kept_out { IsTrue (is_kept_out path.now) → result ≡ Ok Place.Other }
+    {
+        self.look_unless_seen(alloc, path, None)
+    }
+
+    /// What stands at the path, where it isn't known to be the regular file that was seen.
+    fn look_unless_seen(
+        &mut self,
+        alloc: Global,
+        path: &PathText,
+        seen: Option<FileStatus>,
+    ) -> Result<Place, FolderFault>
+        ensures kept { ⟦<HostSystem<R> as System>⟧.holds self.new.system ≡ ⟦<HostSystem<R> as System>⟧.holds self.old.system }
+        ensures changes { ⟦<HostSystem<R> as System>⟧.changes self.new.system ≡ ⟦<HostSystem<R> as System>⟧.changes self.old.system }
+        ensures still { ⟦<HostSystem<R> as System>⟧.folders self.new.system ≡ ⟦<HostSystem<R> as System>⟧.folders self.old.system }
+        ensures earlier { ⟦<HostSystem<R> as System>⟧.honest self.new.system
+            → ⟦<HostSystem<R> as System>⟧.honest self.old.system }
+        ensures syncs { self.new.unsynced.syncs ≡ self.old.unsynced.syncs }
+        ensures remembered { self.new.remembered ≡ self.old.remembered }
+        ensures lies { ⟦<HostSystem<R> as System>⟧.honest self.new.system
+            → IfOk result (LiesIn (⟦<HostSystem<R> as System>⟧.folders self.new.system) path.now (current_of self.new.trail)) }
+        // What was seen may be another file by now; what is no file is told as it is.
+        ensures apart { ⟦<HostSystem<R> as System>⟧.honest self.new.system
+            → IfOk result (λ place. IsNoFile place → IsPlaceAt (⟦<HostSystem<R> as System>⟧.folders self.new.system) (⟦<HostSystem<R> as System>⟧.holds self.new.system) path.now (current_of self.new.trail) place) }
+        ensures seen { ⟦<HostSystem<R> as System>⟧.honest self.new.system → seen ≡ None
+            → IfOk result (IsPlaceAt (⟦<HostSystem<R> as System>⟧.folders self.new.system) (⟦<HostSystem<R> as System>⟧.holds self.new.system) path.now (current_of self.new.trail)) }
+        ensures kept_out { IsTrue (is_kept_out path.now) → result ≡ Ok Place.Other }
+    {
+        if is_kept_out(path.text()) {
+            return Ok(Place::Other);
+        }
+        let (folder, name) = folder_and_name(path.text());
+        match self.trail.enter(&mut self.system, alloc, folder)? {
+            None => {}
+            Some(Place::Nothing) => return self.nothing(alloc),
+            Some(place) => return Ok(place),
+        }
+        if let Some(status) = seen {
+            return Ok(Place::File(status));
+        }
+        match self.system.look(self.trail.current()?, name)? {
+            Found::Nothing => self.nothing(alloc),
+            found => Ok(found.into_place()),
+        }
+    }
+
+    /// The regular files that are one of these folders or lie below one, or all where no folder is
+    /// given, but for those below a folder that is pruned, in byte order. Only these folders are
+    /// looked into.
+    pub fn list<P: Pruning>(
+        &mut self,
+        alloc: Global,
+        folders: &[PathText],
+        pruning: &P,
+    ) -> Result<Vec<PathText>, FolderFault>
+        ensures sorted { IfOk result (λ paths. IsSorted (slice_cmp nat_cmp) paths.items) }
+        ensures kept_out { IfOk result (λ paths. All (λ path. is_kept_out path ≡ false) paths.items) }
+    {
+        let mut listing = Listing::new(alloc, pruning);
+        if folders.is_empty() {
+            self.trail.close();
+            listing.take_folder(alloc, "")?;
+        }
+        for (index, place) in folders.iter().enumerate() {
+            if !is_repeated(folders, index, place) {
+                self.take_place(alloc, place, &mut listing)?;
+            }
+        }
+        self.new_file = None;
+        listing.walk(&mut self.system, alloc, &mut self.trail, &mut self.listed)?;
+        let (paths, mut passed) = listing.into_found();
+        self.passed_over.append(&mut passed)?;
+        Ok(paths)
+    }
+
+    /// Takes the file or the folder at this place into a listing.
+    fn take_place<P: Pruning>(
+        &mut self,
+        alloc: Global,
+        place: &PathText,
+        listing: &mut Listing<P>,
+    ) -> Result<(), FolderFault> {
+        let text = place.text();
+        for (at, byte) in text.as_bytes().iter().enumerate() {
+            if *byte == b'/' && listing.passes_over(&text[..at]) {
+                return Ok(());
+            }
+        }
+        self.listed.clear();
+        self.listed.push_str(text)?;
+        match self.look(alloc, place)? {
+            Place::File(_) => listing.take_file(alloc, text),
+            Place::Folder => listing.take_folder(alloc, text),
+            Place::Nothing | Place::BelowFile | Place::Other => Ok(()),
+        }
+    }
+
+    /// Whose the journal is.
+    pub fn journal_owners(&mut self, alloc: Global) -> Result<JournalOwners, FolderFault> {
+        journal_owners(&mut self.system, alloc, &mut self.trail)
+    }
+
+    /// Whether the file at the path can be written anew: it keeps its owner, or needn't. What isn't
+    /// there can.
+    pub fn may_write(&mut self, alloc: Global, path: &PathText) -> Result<bool, FolderFault> {
+        match self.look(alloc, path)? {
+            Place::File(status) => Ok(self.keeping.may_write(status)),
+            _ => Ok(true),
+        }
+    }
+
+    /// Makes lasting what the files of the journal hold now, and what the paths of these changes
+    /// hold, whoever wrote them, and all that was put and removed here.
+    pub fn sync(&mut self, alloc: Global, changes: &[Change]) -> Result<(), FolderFault> {
+        self.unsynced
+            .sync(&mut self.system, alloc, &mut self.trail, changes)
+    }
+}
+
+/// Whether the place of this index lies below another one, or is one of those before it.
+fn is_repeated(folders: &[PathText], index: usize, place: &PathText) -> bool {
+    folders.iter().any(|other| place.lies_under(other))
+        || folders.iter().take(index).any(|other| other == place)
+}

@@ -1,0 +1,269 @@
+//! Reading a file. The file that is read is the one that was looked at: if something else has taken
+//! its place, a link too, it isn't read.
+ghost use Rattle.std.specs.Prelude.{◌≡◌, ◌≤◌, ◌⊎◌, ℕ, [], IfOk, IfSome, IsTrue, None, Some, length};
+ghost use Rattle.reuse_folder.specs.Seen.{expected_of, IsNoted, IsSeenBefore};
+ghost use Rattle.reuse_system.specs.KeptOut.{is_kept_out};
+ghost use Rattle.reuse_system.specs.Within.{IsWithin};
+
+use super::RootFolder;
+use super::seen::ReadPath;
+use crate::rolled_back::Foreign;
+use reuse_system::fault::{FolderFault, Obstacle};
+use reuse_system::kept_out::is_kept_out;
+use reuse_system::place::{FileStatus, Place, folder_and_name};
+use reuse_system::system::{HostSystem, System};
+use reuse_text::Bytes;
+use reuse_tree::{PathText, Reading};
+use std::alloc::{AllocError, Global};
+use std::fs::File;
+use std::rt::Files;
+
+/// How many paths that were read are remembered at most. A batch has fewer than half as many.
+const MOST_SEEN: usize = 1_024;
+
+impl<R: Files<File = File> + AllocGlobal + Clone + Drop> RootFolder<R> {
+    ghost use Rattle.reuse_folder.specs.FolderReads.{IsPlaceAt, IsReadAt, IsReadIn, IsReadWith, LiesIn, current_of};
+
+    /// The bytes of the regular file at the path, where they are at most `limit`. One that is longer
+    /// isn't opened, so it needn't be readable.
+    pub fn read(
+        &mut self,
+        alloc: Global,
+        path: &PathText,
+        limit: usize,
+    ) -> Result<Reading, FolderFault>
+        ensures within { IfOk result (IsWithin limit) }
+        ensures kept_out { IsTrue (is_kept_out path.now) → IfOk result (λ reading. reading ≡ Reading.Absent) }
+        ensures kept { ⟦<HostSystem<R> as System>⟧.holds self.new.system ≡ ⟦<HostSystem<R> as System>⟧.holds self.old.system }
+        ensures changes { ⟦<HostSystem<R> as System>⟧.changes self.new.system ≡ ⟦<HostSystem<R> as System>⟧.changes self.old.system }
+        ensures still { ⟦<HostSystem<R> as System>⟧.folders self.new.system ≡ ⟦<HostSystem<R> as System>⟧.folders self.old.system }
+        ensures earlier { ⟦<HostSystem<R> as System>⟧.honest self.new.system
+            → ⟦<HostSystem<R> as System>⟧.honest self.old.system }
+        // Of a file that is remembered the bytes aren't read again.
+        ensures read { ⟦<HostSystem<R> as System>⟧.honest self.new.system → self.old.remembered.files.items ≡ []
+            → IfOk result (IsReadAt (⟦<HostSystem<R> as System>⟧.folders self.new.system) (⟦<HostSystem<R> as System>⟧.holds self.new.system) path.now limit) }
+        ensures noted { IfOk result (λ _. IsNoted self.new.reads.items path.now) }
+    {
+        let Place::File(status) = self.look(alloc, path)? else {
+            self.note_read(alloc, path, None)?;
+            return Ok(Reading::Absent);
+        };
+        self.keeping.note_read(path.text(), status);
+        if let Some(bytes) = self.take_remembered(path, status, limit) {
+            self.note_read(alloc, path, Some(status))?;
+            return Ok(Reading::Found(bytes));
+        }
+        self.read_seen(alloc, path, limit, status)
+    }
+
+    /// The same; what stands at the path and is neither a file nor a folder is told so.
+    pub fn read_with(
+        &mut self,
+        alloc: Global,
+        path: &PathText,
+        limit: usize,
+        foreign: Foreign,
+    ) -> Result<Reading, FolderFault>
+        ensures within { IfOk result (IsWithin limit) }
+        ensures kept { ⟦<HostSystem<R> as System>⟧.holds self.new.system ≡ ⟦<HostSystem<R> as System>⟧.holds self.old.system }
+        ensures changes { ⟦<HostSystem<R> as System>⟧.changes self.new.system ≡ ⟦<HostSystem<R> as System>⟧.changes self.old.system }
+        ensures still { ⟦<HostSystem<R> as System>⟧.folders self.new.system ≡ ⟦<HostSystem<R> as System>⟧.folders self.old.system }
+        ensures earlier { ⟦<HostSystem<R> as System>⟧.honest self.new.system → ⟦<HostSystem<R> as System>⟧.honest self.old.system }
+        ensures read { ⟦<HostSystem<R> as System>⟧.honest self.new.system → self.old.remembered.files.items ≡ []
+            → IfOk result (IsReadWith foreign (⟦<HostSystem<R> as System>⟧.folders self.new.system) (⟦<HostSystem<R> as System>⟧.holds self.new.system) path.now limit) }
+    {
+        let reading = self.read(alloc, path, limit)?;
+        match (&reading, foreign) {
+            (Reading::Absent, Foreign::TooLong) if !is_kept_out(path.text()) => {
+                self.foreign_or(alloc, path, reading)
+            }
+            _ => Ok(reading),
+        }
+    }
+
+    /// What was read, or a file that is too long where something stands at the path that is neither
+    /// a file nor a folder.
+    fn foreign_or(
+        &mut self,
+        alloc: Global,
+        path: &PathText,
+        reading: Reading,
+    ) -> Result<Reading, FolderFault>
+        ensures within { (limit : ℕ) → IsWithin limit reading → IfOk result (IsWithin limit) }
+        ensures kept { ⟦<HostSystem<R> as System>⟧.holds self.new.system ≡ ⟦<HostSystem<R> as System>⟧.holds self.old.system }
+        ensures changes { ⟦<HostSystem<R> as System>⟧.changes self.new.system ≡ ⟦<HostSystem<R> as System>⟧.changes self.old.system }
+        ensures still { ⟦<HostSystem<R> as System>⟧.folders self.new.system ≡ ⟦<HostSystem<R> as System>⟧.folders self.old.system }
+        ensures earlier { ⟦<HostSystem<R> as System>⟧.honest self.new.system → ⟦<HostSystem<R> as System>⟧.honest self.old.system }
+        ensures told { ⟦<HostSystem<R> as System>⟧.honest self.new.system
+            → IfOk result (λ told. (told ≡ reading) ⊎ ((told ≡ Reading.TooLong) × IsPlaceAt (⟦<HostSystem<R> as System>⟧.folders self.new.system) (⟦<HostSystem<R> as System>⟧.holds self.new.system) path.now (current_of self.new.trail) Place.Other)) }
+    {
+        match self.look(alloc, path)? {
+            Place::Other => Ok(Reading::TooLong),
+            _ => Ok(reading),
+        }
+    }
+
+    /// The bytes of the file that was seen at the path, if they are remembered and are at most
+    /// `limit`.
+    fn take_remembered(
+        &mut self,
+        path: &PathText,
+        status: FileStatus,
+        limit: usize,
+    ) -> Option<Bytes>
+        ensures system { self.new.system ≡ self.old.system }
+        ensures trail { self.new.trail ≡ self.old.trail }
+        ensures within { IfSome result (λ bytes. length bytes ≤ limit) }
+        ensures none { self.old.remembered.files.items ≡ [] → result ≡ None }
+    {
+        if status.len > limit as u64 {
+            return None;
+        }
+        let bytes = self.remembered.take(path, &status)?;
+        if bytes.len() <= limit {
+            Some(bytes)
+        } else {
+            None
+        }
+    }
+
+    /// Reads the file that was seen at the path. If another one has taken its place, the path is
+    /// looked at once more.
+    fn read_seen(
+        &mut self,
+        alloc: Global,
+        path: &PathText,
+        limit: usize,
+        status: FileStatus,
+    ) -> Result<Reading, FolderFault>
+        ensures within { IfOk result (IsWithin limit) }
+        ensures kept { ⟦<HostSystem<R> as System>⟧.holds self.new.system ≡ ⟦<HostSystem<R> as System>⟧.holds self.old.system }
+        ensures changes { ⟦<HostSystem<R> as System>⟧.changes self.new.system ≡ ⟦<HostSystem<R> as System>⟧.changes self.old.system }
+        ensures still { ⟦<HostSystem<R> as System>⟧.folders self.new.system ≡ ⟦<HostSystem<R> as System>⟧.folders self.old.system }
+        ensures earlier { ⟦<HostSystem<R> as System>⟧.honest self.new.system
+            → ⟦<HostSystem<R> as System>⟧.honest self.old.system }
+        ensures read { ⟦<HostSystem<R> as System>⟧.honest self.new.system
+            → LiesIn (⟦<HostSystem<R> as System>⟧.folders self.old.system) path.now (current_of self.old.trail) (Place.File status)
+            → IsPlaceAt (⟦<HostSystem<R> as System>⟧.folders self.old.system) (⟦<HostSystem<R> as System>⟧.holds self.old.system) path.now (current_of self.old.trail) (Place.File status)
+            → IfOk result (IsReadAt (⟦<HostSystem<R> as System>⟧.folders self.new.system) (⟦<HostSystem<R> as System>⟧.holds self.new.system) path.now limit) }
+        ensures noted { IfOk result (λ _. IsNoted self.new.reads.items path.now) }
+    {
+        match self.read_anew(alloc, path, limit, status)? {
+            Some(reading) => Ok(reading),
+            None => self.read_again(alloc, path, limit),
+        }
+    }
+
+    /// Looks at the path once more, and reads the file that is there now.
+    fn read_again(
+        &mut self,
+        alloc: Global,
+        path: &PathText,
+        limit: usize,
+    ) -> Result<Reading, FolderFault>
+        ensures within { IfOk result (IsWithin limit) }
+        ensures kept { ⟦<HostSystem<R> as System>⟧.holds self.new.system ≡ ⟦<HostSystem<R> as System>⟧.holds self.old.system }
+        ensures changes { ⟦<HostSystem<R> as System>⟧.changes self.new.system ≡ ⟦<HostSystem<R> as System>⟧.changes self.old.system }
+        ensures still { ⟦<HostSystem<R> as System>⟧.folders self.new.system ≡ ⟦<HostSystem<R> as System>⟧.folders self.old.system }
+        ensures earlier { ⟦<HostSystem<R> as System>⟧.honest self.new.system
+            → ⟦<HostSystem<R> as System>⟧.honest self.old.system }
+        ensures read { ⟦<HostSystem<R> as System>⟧.honest self.new.system
+            → IfOk result (IsReadAt (⟦<HostSystem<R> as System>⟧.folders self.new.system) (⟦<HostSystem<R> as System>⟧.holds self.new.system) path.now limit) }
+        ensures noted { IfOk result (λ _. IsNoted self.new.reads.items path.now) }
+    {
+        let Place::File(status) = self.look(alloc, path)? else {
+            self.note_read(alloc, path, None)?;
+            return Ok(Reading::Absent);
+        };
+        self.keeping.note_read(path.text(), status);
+        match self.read_anew(alloc, path, limit, status)? {
+            Some(reading) => Ok(reading),
+            None => Err(FolderFault::Device(Obstacle::Changing)),
+        }
+    }
+
+    /// Reads the file that was seen at the path, or gives nothing if another one has taken its
+    /// place.
+    fn read_anew(
+        &mut self,
+        alloc: Global,
+        path: &PathText,
+        limit: usize,
+        status: FileStatus,
+    ) -> Result<Option<Reading>, FolderFault>
+        ensures within { IfOk result (λ read. IfSome read (IsWithin limit)) }
+        ensures kept { ⟦<HostSystem<R> as System>⟧.holds self.new.system ≡ ⟦<HostSystem<R> as System>⟧.holds self.old.system }
+        ensures changes { ⟦<HostSystem<R> as System>⟧.changes self.new.system ≡ ⟦<HostSystem<R> as System>⟧.changes self.old.system }
+        ensures still { ⟦<HostSystem<R> as System>⟧.folders self.new.system ≡ ⟦<HostSystem<R> as System>⟧.folders self.old.system }
+        ensures earlier { ⟦<HostSystem<R> as System>⟧.honest self.new.system
+            → ⟦<HostSystem<R> as System>⟧.honest self.old.system }
+        ensures trail { self.new.trail ≡ self.old.trail }
+        ensures read { ⟦<HostSystem<R> as System>⟧.honest self.new.system
+            → IsPlaceAt (⟦<HostSystem<R> as System>⟧.folders self.old.system) (⟦<HostSystem<R> as System>⟧.holds self.old.system) path.now (current_of self.old.trail) (Place.File status)
+            → IfOk result (λ read. IfSome read (IsReadIn (current_of self.old.trail) path.now limit (⟦<HostSystem<R> as System>⟧.holds self.old.system))) }
+        ensures noted { IfOk result (λ read. IfSome read (λ _. IsNoted self.new.reads.items path.now)) }
+    {
+        if status.len > limit as u64 {
+            self.note_read(alloc, path, Some(status))?;
+            return Ok(Some(Reading::TooLong));
+        }
+        let (_, name) = folder_and_name(path.text());
+        let folder = self.trail.current()?;
+        let Some(file) = self.system.open(folder, name, status)? else {
+            return Ok(None);
+        };
+        let reading = self.system.read(alloc, file, status.len, limit)?;
+        self.remember(alloc, path, status, &reading)?;
+        Ok(Some(reading))
+    }
+
+    /// This was read of the file at the path.
+    fn remember(
+        &mut self,
+        alloc: Global,
+        path: &PathText,
+        status: FileStatus,
+        reading: &Reading,
+    ) -> Result<(), AllocError>
+        ensures system { self.new.system ≡ self.old.system }
+        ensures trail { self.new.trail ≡ self.old.trail }
+        ensures noted { IfOk result (λ _. IsNoted self.new.reads.items path.now) }
+    {
+        if let Reading::Found(bytes) = reading {
+            self.remembered.note(alloc, path, &status, bytes);
+        }
+        self.note_read(alloc, path, Some(status))
+    }
+
+    /// Forgets the older half of the paths that were read, if there are too many.
+    fn forget_older_reads(&mut self)
+        ensures system { self.new.system ≡ self.old.system }
+        ensures trail { self.new.trail ≡ self.old.trail }
+    {
+        if self.reads.len() >= MOST_SEEN {
+            self.reads.reverse();
+            self.reads.truncate(MOST_SEEN / 2);
+            self.reads.reverse();
+        }
+    }
+
+    /// The path was read, and this was told of the regular file there, if there was one.
+    fn note_read(
+        &mut self,
+        alloc: Global,
+        path: &PathText,
+        seen: Option<FileStatus>,
+    ) -> Result<(), AllocError>
+        ensures system { self.new.system ≡ self.old.system }
+        ensures trail { self.new.trail ≡ self.old.trail }
+        ensures seen { IfOk result (λ _. IsSeenBefore self.new.reads.items path.now (expected_of seen)) }
+        ensures noted { IfOk result (λ _. IsNoted self.new.reads.items path.now) }
+    {
+        self.forget_older_reads();
+        let path = path.try_clone(alloc)?;
+        match self.reads.push(ReadPath { path, seen }) {
+            Ok(()) => Ok(()),
+            Err(full) => Err(AllocError::from(full)),
+        }
+    }
+}

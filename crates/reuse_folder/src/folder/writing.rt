@@ -1,0 +1,266 @@
+//! Putting and removing a file. What a put makes of the names is stated by what each call of the
+//! system makes of them, whatever was there.
+ghost use Rattle.std.specs.Prelude.{◌≡◌, is_ok, IfOk, IsErr, IsTrue};
+ghost use Rattle.reuse_system.specs.KeptOut.{is_kept_out};
+
+use super::RootFolder;
+use super::seen::{Expected, expected_at};
+use crate::empty_folders::remove_folders;
+use crate::listing::list_below;
+use crate::new_file::{Content, NewFile, Target, remove_seen};
+use reuse_system::fault::{FolderFault, Obstacle};
+use reuse_system::kept_out::JOURNAL;
+use reuse_system::new_name::new_names;
+use reuse_system::place::{FileStatus, Place, folder_and_name};
+use reuse_system::system::{HostSystem, System};
+use reuse_tree::{Parts, PathText};
+use std::alloc::Global;
+use std::fs::File;
+use std::rt::Files;
+
+impl<R: Files<File = File> + AllocGlobal + Clone + Drop> RootFolder<R> {
+    ghost use Rattle.reuse_folder.specs.FolderWrites.{IsCleared, IsGone, IsPutAt, IsPutIn, IsRemovedAt, IsRemovedIn, IsStoredAt};
+    ghost use Rattle.reuse_folder.specs.Written.{is_kept};
+    ghost use Rattle.reuse_folder.specs.Seen.{IsSeenAs, IsSeenBefore, LosesNoEdit, LosesNoEditAfter};
+    ghost use Rattle.reuse_tree.specs.Parts.{joined};
+
+    /// What is expected at the path, by the reads since the last write, which are forgotten.
+    fn take_expected(&mut self, path: &PathText) -> Expected
+        ensures kept { self.new.system ≡ self.old.system }
+        ensures trail { self.new.trail ≡ self.old.trail }
+        ensures syncs { self.new.unsynced.syncs ≡ self.old.unsynced.syncs }
+        ensures expected { IsSeenBefore self.old.reads.items path.now result }
+    {
+        let expected = expected_at(&self.reads, path);
+        self.reads.clear();
+        expected
+    }
+
+    /// Makes the parts joined the file at the path, as a whole or not at all, and folders as
+    /// needed.
+    pub fn put(&mut self, alloc: Global, path: &PathText, parts: Parts) -> Result<(), FolderFault>
+        ensures written { IsPutAt path.now (joined parts.entry) (is_kept self.old.unsynced.syncs)
+            (⟦<HostSystem<R> as System>⟧.holds self.old.system) (⟦<HostSystem<R> as System>⟧.holds self.new.system) (is_ok result) }
+        ensures place { ⟦<HostSystem<R> as System>⟧.honest self.new.system
+            → IsPutIn (⟦<HostSystem<R> as System>⟧.folders self.new.system) path.now (joined parts.entry) (is_kept self.old.unsynced.syncs)
+            (⟦<HostSystem<R> as System>⟧.holds self.old.system) (⟦<HostSystem<R> as System>⟧.holds self.new.system) (is_ok result) }
+        ensures stands { ⟦<HostSystem<R> as System>⟧.honest self.new.system
+            → IfOk result (λ _. IsStoredAt (⟦<HostSystem<R> as System>⟧.folders self.new.system) (⟦<HostSystem<R> as System>⟧.holds self.new.system) path.now (joined parts.entry) (is_kept self.old.unsynced.syncs)) }
+        ensures earlier { ⟦<HostSystem<R> as System>⟧.honest self.new.system → ⟦<HostSystem<R> as System>⟧.honest self.old.system }
+        ensures kept_out { IsTrue (is_kept_out path.now) → IsErr result }
+        // The file at the path stays if it isn't what was read there.
+        ensures keeps_edits { LosesNoEditAfter self.old.reads.items path.now (⟦<HostSystem<R> as System>⟧.changes self.old.system) (⟦<HostSystem<R> as System>⟧.changes self.new.system)
+            (⟦<HostSystem<R> as System>⟧.holds self.old.system) (⟦<HostSystem<R> as System>⟧.holds self.new.system) }
+    {
+        let expected = self.take_expected(path);
+        self.put_expected(alloc, path, parts, expected)
+    }
+
+    /// Does so if what is expected stands at the path.
+    pub(super) fn put_expected(
+        &mut self,
+        alloc: Global,
+        path: &PathText,
+        parts: Parts,
+        expected: Expected,
+    ) -> Result<(), FolderFault>
+        ensures written { IsPutAt path.now (joined parts.entry) (is_kept self.old.unsynced.syncs)
+            (⟦<HostSystem<R> as System>⟧.holds self.old.system) (⟦<HostSystem<R> as System>⟧.holds self.new.system) (is_ok result) }
+        ensures place { ⟦<HostSystem<R> as System>⟧.honest self.new.system
+            → IsPutIn (⟦<HostSystem<R> as System>⟧.folders self.new.system) path.now (joined parts.entry) (is_kept self.old.unsynced.syncs)
+            (⟦<HostSystem<R> as System>⟧.holds self.old.system) (⟦<HostSystem<R> as System>⟧.holds self.new.system) (is_ok result) }
+        ensures stands { ⟦<HostSystem<R> as System>⟧.honest self.new.system
+            → IfOk result (λ _. IsStoredAt (⟦<HostSystem<R> as System>⟧.folders self.new.system) (⟦<HostSystem<R> as System>⟧.holds self.new.system) path.now (joined parts.entry) (is_kept self.old.unsynced.syncs)) }
+        ensures earlier { ⟦<HostSystem<R> as System>⟧.honest self.new.system → ⟦<HostSystem<R> as System>⟧.honest self.old.system }
+        ensures kept_out { IsTrue (is_kept_out path.now) → IsErr result }
+        ensures keeps_edits { LosesNoEdit path.now expected (⟦<HostSystem<R> as System>⟧.changes self.old.system) (⟦<HostSystem<R> as System>⟧.changes self.new.system)
+            (⟦<HostSystem<R> as System>⟧.holds self.old.system) (⟦<HostSystem<R> as System>⟧.holds self.new.system) }
+    {
+        let found = self.make_room(alloc, path, expected)?;
+        self.write(alloc, path, parts, found)
+    }
+
+    /// Makes room for a file at the path, and the folders above it as needed. Gives the file that
+    /// is to stand there directly before it is written, if one is.
+    pub(super) fn make_room(
+        &mut self,
+        alloc: Global,
+        path: &PathText,
+        expected: Expected,
+    ) -> Result<Option<FileStatus>, FolderFault>
+        ensures kept { ⟦<HostSystem<R> as System>⟧.holds self.new.system ≡ ⟦<HostSystem<R> as System>⟧.holds self.old.system }
+        ensures changes { ⟦<HostSystem<R> as System>⟧.changes self.new.system ≡ ⟦<HostSystem<R> as System>⟧.changes self.old.system }
+        ensures earlier { ⟦<HostSystem<R> as System>⟧.honest self.new.system → ⟦<HostSystem<R> as System>⟧.honest self.old.system }
+        ensures syncs { self.new.unsynced.syncs ≡ self.old.unsynced.syncs }
+        ensures kept_out { IsTrue (is_kept_out path.now) → IsErr result }
+        ensures seen { IfOk result (IsSeenAs expected) }
+    {
+        let (folder, _) = folder_and_name(path.text());
+        self.keeping.check_hold()?;
+        match self.look_unless_seen(alloc, path, expected.read_file())? {
+            Place::Nothing => {
+                expected.nothing()?;
+                self.trail
+                    .make(&mut self.system, alloc, folder, &mut self.unsynced)?;
+                Ok(None)
+            }
+            Place::File(status) => {
+                self.keeping.check(path.text(), status)?;
+                Ok(Some(expected.file(status)?))
+            }
+            Place::BelowFile => Err(FolderFault::Clash),
+            Place::Folder => {
+                expected.nothing()?;
+                self.clear_folder(alloc, path)?;
+                Ok(None)
+            }
+            Place::Other => Err(FolderFault::Device(Obstacle::Foreign)),
+        }
+    }
+
+    /// Writes the parts to the path, where this file was found, or none.
+    fn write(
+        &mut self,
+        alloc: Global,
+        path: &PathText,
+        parts: Parts,
+        found: Option<FileStatus>,
+    ) -> Result<(), FolderFault>
+        ensures written { IsPutAt path.now (joined parts.entry) (is_kept self.old.unsynced.syncs)
+            (⟦<HostSystem<R> as System>⟧.holds self.old.system) (⟦<HostSystem<R> as System>⟧.holds self.new.system) (is_ok result) }
+        ensures place { ⟦<HostSystem<R> as System>⟧.honest self.new.system
+            → IsPutIn (⟦<HostSystem<R> as System>⟧.folders self.new.system) path.now (joined parts.entry) (is_kept self.old.unsynced.syncs)
+            (⟦<HostSystem<R> as System>⟧.holds self.old.system) (⟦<HostSystem<R> as System>⟧.holds self.new.system) (is_ok result) }
+        ensures earlier { ⟦<HostSystem<R> as System>⟧.honest self.new.system → ⟦<HostSystem<R> as System>⟧.honest self.old.system }
+        ensures keeps_edits { (expected : Expected) → IsSeenAs expected found → LosesNoEdit path.now expected
+            (⟦<HostSystem<R> as System>⟧.changes self.old.system) (⟦<HostSystem<R> as System>⟧.changes self.new.system) (⟦<HostSystem<R> as System>⟧.holds self.old.system) (⟦<HostSystem<R> as System>⟧.holds self.new.system) }
+    {
+        let (folder, name) = folder_and_name(path.text());
+        self.unsynced.note(alloc, folder)?;
+        let mut new_file = self.take_new_file(alloc)?;
+        self.trail.enter_seen(&mut self.system, alloc, folder)?;
+        let target = Target {
+            folder: self.trail.current()?,
+            name,
+            path: path.text(),
+        };
+        let content = Content {
+            parts,
+            wanted: self.keeping.wanted(target.folder, found),
+            found,
+        };
+        let written = new_file.write(&mut self.system, target, content, &mut self.unsynced);
+        self.note_written(path, found, new_file, written.is_ok());
+        written
+    }
+
+    /// The path, where this file was found, or none, was to be written by way of this place of new
+    /// files. If that failed, the place is opened anew before the next one.
+    fn note_written(
+        &mut self,
+        path: &PathText,
+        found: Option<FileStatus>,
+        new_file: NewFile,
+        is_done: bool,
+    )
+        ensures { self.new.system ≡ self.old.system }
+    {
+        if is_done {
+            self.keeping
+                .note_written(path.text(), found, new_file.kept());
+            self.new_file = Some(new_file);
+        }
+    }
+
+    /// The place of new files, opened as needed.
+    pub(super) fn take_new_file(&mut self, alloc: Global) -> Result<NewFile, FolderFault>
+        ensures cleared { IsCleared (⟦<HostSystem<R> as System>⟧.changes self.old.system) (⟦<HostSystem<R> as System>⟧.changes self.new.system) (⟦<HostSystem<R> as System>⟧.holds self.old.system) (⟦<HostSystem<R> as System>⟧.holds self.new.system) result }
+        ensures earlier { ⟦<HostSystem<R> as System>⟧.honest self.new.system → ⟦<HostSystem<R> as System>⟧.honest self.old.system }
+        ensures syncs { self.new.unsynced.syncs ≡ self.old.unsynced.syncs }
+    {
+        match self.new_file.take() {
+            Some(new_file) => Ok(new_file),
+            None => self.open_new_file(alloc),
+        }
+    }
+
+    /// Opens the journal's folder for new files; it is made as needed.
+    fn open_new_file(&mut self, alloc: Global) -> Result<NewFile, FolderFault>
+        ensures cleared { IsCleared (⟦<HostSystem<R> as System>⟧.changes self.old.system) (⟦<HostSystem<R> as System>⟧.changes self.new.system) (⟦<HostSystem<R> as System>⟧.holds self.old.system) (⟦<HostSystem<R> as System>⟧.holds self.new.system) result }
+        ensures earlier { ⟦<HostSystem<R> as System>⟧.honest self.new.system → ⟦<HostSystem<R> as System>⟧.honest self.old.system }
+        ensures syncs { self.new.unsynced.syncs ≡ self.old.unsynced.syncs }
+    {
+        self.trail
+            .make(&mut self.system, alloc, JOURNAL, &mut self.unsynced)?;
+        let folder = self.trail.current()?.try_clone(alloc)?;
+        let names = new_names(self.system.rt(), alloc, &folder)?;
+        let new_file = NewFile::in_folder(alloc, folder);
+        new_file.clear(&mut self.system, &names)?;
+        Ok(new_file)
+    }
+
+    /// Removes a folder without files, so that a file can take its place; with files it is a clash.
+    fn clear_folder(&mut self, alloc: Global, path: &PathText) -> Result<(), FolderFault>
+        ensures kept { ⟦<HostSystem<R> as System>⟧.holds self.new.system ≡ ⟦<HostSystem<R> as System>⟧.holds self.old.system }
+        ensures changes { ⟦<HostSystem<R> as System>⟧.changes self.new.system ≡ ⟦<HostSystem<R> as System>⟧.changes self.old.system }
+        ensures earlier { ⟦<HostSystem<R> as System>⟧.honest self.new.system → ⟦<HostSystem<R> as System>⟧.honest self.old.system }
+        ensures syncs { self.new.unsynced.syncs ≡ self.old.unsynced.syncs }
+    {
+        let (system, trail) = (&mut self.system, &mut self.trail);
+        let files = list_below(system, alloc, trail, path.text(), &mut self.listed)?;
+        if !files.is_empty() {
+            return Err(FolderFault::Clash);
+        }
+        let (folder, _) = folder_and_name(path.text());
+        self.unsynced.note(alloc, folder)?;
+        remove_folders(system, alloc, trail, path.text())
+    }
+
+    /// Removes the regular file at the path, if there is one, and no folder.
+    pub fn remove(&mut self, alloc: Global, path: &PathText) -> Result<(), FolderFault>
+        ensures removed { IsRemovedAt path.now (⟦<HostSystem<R> as System>⟧.holds self.old.system) (⟦<HostSystem<R> as System>⟧.holds self.new.system) }
+        ensures still { ⟦<HostSystem<R> as System>⟧.folders self.new.system ≡ ⟦<HostSystem<R> as System>⟧.folders self.old.system }
+        ensures place { ⟦<HostSystem<R> as System>⟧.honest self.new.system
+            → IsRemovedIn (⟦<HostSystem<R> as System>⟧.folders self.new.system) path.now (⟦<HostSystem<R> as System>⟧.holds self.old.system) (⟦<HostSystem<R> as System>⟧.holds self.new.system) }
+        ensures gone { ⟦<HostSystem<R> as System>⟧.honest self.new.system
+            → IfOk result (λ _. IsGone (⟦<HostSystem<R> as System>⟧.folders self.new.system) (⟦<HostSystem<R> as System>⟧.holds self.new.system) path.now) }
+        // The file at the path stays if it isn't what was read there.
+        ensures keeps_edits { LosesNoEditAfter self.old.reads.items path.now (⟦<HostSystem<R> as System>⟧.changes self.old.system) (⟦<HostSystem<R> as System>⟧.changes self.new.system)
+            (⟦<HostSystem<R> as System>⟧.holds self.old.system) (⟦<HostSystem<R> as System>⟧.holds self.new.system) }
+    {
+        let expected = self.take_expected(path);
+        self.remove_expected(alloc, path, expected)
+    }
+
+    /// Does so if what is expected stands at the path.
+    pub(super) fn remove_expected(
+        &mut self,
+        alloc: Global,
+        path: &PathText,
+        expected: Expected,
+    ) -> Result<(), FolderFault>
+        ensures removed { IsRemovedAt path.now (⟦<HostSystem<R> as System>⟧.holds self.old.system) (⟦<HostSystem<R> as System>⟧.holds self.new.system) }
+        ensures still { ⟦<HostSystem<R> as System>⟧.folders self.new.system ≡ ⟦<HostSystem<R> as System>⟧.folders self.old.system }
+        ensures place { ⟦<HostSystem<R> as System>⟧.honest self.new.system
+            → IsRemovedIn (⟦<HostSystem<R> as System>⟧.folders self.new.system) path.now (⟦<HostSystem<R> as System>⟧.holds self.old.system) (⟦<HostSystem<R> as System>⟧.holds self.new.system) }
+        ensures gone { ⟦<HostSystem<R> as System>⟧.honest self.new.system
+            → IfOk result (λ _. IsGone (⟦<HostSystem<R> as System>⟧.folders self.new.system) (⟦<HostSystem<R> as System>⟧.holds self.new.system) path.now) }
+        ensures keeps_edits { LosesNoEdit path.now expected (⟦<HostSystem<R> as System>⟧.changes self.old.system) (⟦<HostSystem<R> as System>⟧.changes self.new.system)
+            (⟦<HostSystem<R> as System>⟧.holds self.old.system) (⟦<HostSystem<R> as System>⟧.holds self.new.system) }
+    {
+        match self.look_unless_seen(alloc, path, expected.read_file())? {
+            Place::File(status) => {
+                let seen = expected.file(status)?;
+                let (folder, name) = folder_and_name(path.text());
+                self.unsynced.note(alloc, folder)?;
+                let target = Target {
+                    folder: self.trail.current()?,
+                    name,
+                    path: path.text(),
+                };
+                remove_seen(&mut self.system, target, seen)
+            }
+            _ => expected.nothing(),
+        }
+    }
+}

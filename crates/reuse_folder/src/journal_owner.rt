@@ -1,0 +1,95 @@
+//! Whose the journal of a tree is. What a journal lists is carried out: the next call writes files
+//! of a pending step, and `undo` those of a step. So a journal of another user is not opened.
+ghost use Rattle.std.specs.Prelude.{◌≡◌};
+ghost use Rattle.reuse_folder.specs.JournalOwners.{is_of_other, is_journal_of_other};
+ghost use Rattle.reuse_folder.specs.Trails.{AreOpenedIf};
+
+use crate::trail::Trail;
+use reuse_system::fault::FolderFault;
+use reuse_system::kept_out::{ABOVE_JOURNAL, HEAD, JOURNAL};
+use reuse_system::place::Found;
+use reuse_system::system::{HostSystem, System};
+use std::alloc::Global;
+use std::fs::File;
+use std::rt::Files;
+
+/// The users to whom the folders of the journal and its head belong, as far as they are there.
+#[derive(Clone, Copy)]
+pub struct JournalOwners {
+    /// Of the folder that the journal's folder lies in.
+    pub above: Option<u32>,
+    /// Of the journal's folder.
+    pub folder: Option<u32>,
+    /// Of the head.
+    pub head: Option<u32>,
+}
+
+/// Whether what belongs to this owner, if it is there, belongs to another user.
+fn is_of_other(user: u32, owner: Option<u32>) -> bool
+    ensures { result ≡ is_of_other user owner }
+{
+    match owner {
+        Some(owner) => owner != user,
+        None => false,
+    }
+}
+
+impl JournalOwners {
+    /// Whether the journal is not this user's. Root is no exception.
+    pub fn is_journal_of_other(self, user: u32) -> bool
+        ensures { result ≡ is_journal_of_other user self }
+    {
+        is_of_other(user, self.above)
+            || is_of_other(user, self.folder)
+            || is_of_other(user, self.head)
+    }
+}
+
+/// Whose the journal below the root of this trail is. Nothing of it is read. What is opened is what
+/// is looked at, and stays open.
+pub fn journal_owners<R: Files<File = File> + AllocGlobal + Drop>(
+    system: &mut HostSystem<R>,
+    alloc: Global,
+    trail: &mut Trail,
+) -> Result<JournalOwners, FolderFault>
+    ensures kept { ⟦<HostSystem<R> as System>⟧.holds system.new ≡ ⟦<HostSystem<R> as System>⟧.holds system.old }
+    ensures changes { ⟦<HostSystem<R> as System>⟧.changes system.new ≡ ⟦<HostSystem<R> as System>⟧.changes system.old }
+    ensures still { ⟦<HostSystem<R> as System>⟧.folders system.new ≡ ⟦<HostSystem<R> as System>⟧.folders system.old }
+    ensures earlier { ⟦<HostSystem<R> as System>⟧.honest system.new → ⟦<HostSystem<R> as System>⟧.honest system.old }
+    ensures opened { AreOpenedIf (⟦<HostSystem<R> as System>⟧.honest system.old) (⟦<HostSystem<R> as System>⟧.folders system.old) trail.old
+        → AreOpenedIf (⟦<HostSystem<R> as System>⟧.honest system.new) (⟦<HostSystem<R> as System>⟧.folders system.new) trail.new }
+{
+    let above = folder_owner(system, alloc, trail, ABOVE_JOURNAL)?;
+    let folder = folder_owner(system, alloc, trail, JOURNAL)?;
+    let head = match folder {
+        Some(_) => match trail.current()?.look(system.rt(), alloc, HEAD)? {
+            Found::File(status) => Some(status.owner.user),
+            _ => None,
+        },
+        None => None,
+    };
+    Ok(JournalOwners {
+        above,
+        folder,
+        head,
+    })
+}
+
+fn folder_owner<S: System>(
+    system: &mut S,
+    alloc: Global,
+    trail: &mut Trail,
+    folder: &str,
+) -> Result<Option<u32>, FolderFault>
+    ensures kept { S.holds system.new ≡ S.holds system.old }
+    ensures changes { S.changes system.new ≡ S.changes system.old }
+    ensures still { S.folders system.new ≡ S.folders system.old }
+    ensures earlier { S.honest system.new → S.honest system.old }
+    ensures opened { AreOpenedIf (S.honest system.old) (S.folders system.old) trail.old
+        → AreOpenedIf (S.honest system.new) (S.folders system.new) trail.new }
+{
+    match trail.enter(system, alloc, folder)? {
+        None => Ok(Some(trail.current()?.owner().user)),
+        Some(_) => Ok(None),
+    }
+}

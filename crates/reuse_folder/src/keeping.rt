@@ -1,0 +1,162 @@
+//! How the files of a folder keep their owners. A file that can't keep its owner is not written
+//! anew, unless that is allowed. A call is held before its first put if it has read such a file, so
+//! that it can be looked at, before it begins, whether it would write that file.
+ghost use Rattle.std.specs.Prelude.{◌≡◌, ◌↔◌, IsErr, IfErr, true};
+ghost use Rattle.reuse_system.specs.KeptOut.{begins_journal};
+ghost use Rattle.reuse_system.specs.Owners.{cannot_keep, rights_of_mode};
+ghost use Rattle.reuse_folder.specs.OwnerChanges.{is_lost, may_write};
+ghost use Rattle.reuse_system.specs.Names.{between_slashes};
+ghost use Rattle.reuse_system.specs.declared.fault.FolderFault.TheVariants.{Device};
+ghost use Rattle.reuse_system.specs.declared.fault.Obstacle.TheVariants.{Owned};
+
+use crate::new_file::Wanted;
+use reuse_system::fault::{FolderFault, Obstacle};
+use reuse_system::handle::OpenFolder;
+use reuse_system::kept_out::is_in_journal;
+use reuse_system::owner::{Owner, OwnerChange, Process};
+use reuse_system::place::FileStatus;
+use reuse_system::process::ProcessIds;
+
+/// Whether a call is held before its first put.
+#[derive(Clone, Copy, PartialEq, Eq)]
+enum Hold {
+    /// It isn't.
+    Off,
+    /// It is if it reads a file that can't keep its owner.
+    Watching,
+    /// It has read one.
+    Due,
+    /// It was held.
+    FileState,
+}
+
+/// What a run did to owners and names.
+#[derive(Clone, Copy)]
+pub struct Kept {
+    /// How many files have another owner or group than before.
+    pub changed: usize,
+    /// How many files had further names, which keep the old bytes.
+    pub linked: usize,
+}
+
+/// What a folder knows of the owners of its files.
+#[derive(Drop)]
+pub struct Keeping {
+    process: Process,
+    owner_change: OwnerChange,
+    hold: Hold,
+    kept: Kept,
+}
+
+impl Keeping {
+    /// For files of this process.
+    pub fn new(process: Process, owner_change: OwnerChange) -> Keeping {
+        Keeping {
+            process,
+            owner_change,
+            hold: Hold::Off,
+            kept: Kept {
+                changed: 0,
+                linked: 0,
+            },
+        }
+    }
+
+    /// The process' user.
+    pub fn user(&self) -> u32 {
+        self.process.user
+    }
+
+    /// Which process it is, and whose.
+    pub fn process(&self) -> ProcessIds {
+        self.process.ids()
+    }
+
+    /// What was done so far.
+    pub fn kept(&self) -> Kept {
+        self.kept
+    }
+
+    /// From now on a call is held before its first put if it reads a file that can't keep its
+    /// owner. It isn't if such files may be written.
+    pub fn watch(&mut self) {
+        if self.owner_change == OwnerChange::Refused {
+            self.hold = Hold::Watching;
+        }
+    }
+
+    /// No call is held any more; whether one was.
+    pub fn release(&mut self) -> bool {
+        let was_held = self.hold == Hold::FileState;
+        self.hold = Hold::Off;
+        was_held
+    }
+
+    /// Whether a file can be written anew: it keeps its owner, or needn't.
+    pub fn may_write(&self, status: FileStatus) -> bool
+        ensures { result ≡ may_write self.now.owner_change (cannot_keep self.now.process status.owner (rights_of_mode status.mode)) }
+    {
+        self.owner_change == OwnerChange::Allowed
+            || !self.process.cannot_keep(status.owner, status.rights())
+    }
+
+    /// The file at this path was read.
+    pub fn note_read(&mut self, path: &str, status: FileStatus) {
+        if self.hold == Hold::Watching && self.check(path, status).is_err() {
+            self.hold = Hold::Due;
+        }
+    }
+
+    /// Fails before the first put of a call that is to be held.
+    pub fn check_hold(&mut self) -> Result<(), FolderFault> {
+        if matches!(self.hold, Hold::Due | Hold::FileState) {
+            self.hold = Hold::FileState;
+            return Err(FolderFault::Device(Obstacle::Owned));
+        }
+        Ok(())
+    }
+
+    /// Fails if the file at this path can't be written anew. The journal's own files always can:
+    /// whose it is was looked at before.
+    pub fn check(&self, path: &str, status: FileStatus) -> Result<(), FolderFault>
+        ensures refused { IsErr result ↔ (is_lost (begins_journal (between_slashes path.now)) self.now.owner_change
+            (cannot_keep self.now.process status.owner (rights_of_mode status.mode)) ≡ true) }
+        ensures fault { IfErr result (λ fault. fault ≡ Device Owned) }
+    {
+        if is_in_journal(path) || self.may_write(status) {
+            Ok(())
+        } else {
+            Err(FolderFault::Device(Obstacle::Owned))
+        }
+    }
+
+    /// Whose a file in this folder is to be: as it was, if it was there.
+    pub fn wanted(&self, folder: &OpenFolder, found: Option<FileStatus>) -> Wanted<'_> {
+        let owner = match found {
+            Some(status) => status.owner,
+            None => self
+                .process
+                .owner_of_new(folder.owner(), folder.passes_group()),
+        };
+        Wanted {
+            owner,
+            process: &self.process,
+        }
+    }
+
+    /// A file was written anew, and has this owner.
+    pub fn note_written(&mut self, path: &str, found: Option<FileStatus>, owner: Option<Owner>) {
+        let Some(status) = found else {
+            return;
+        };
+        if is_in_journal(path) {
+            return;
+        }
+        if owner.is_some_and(|owner| owner != status.owner) {
+            self.kept.changed = self.kept.changed.saturating_add(1);
+        }
+        if status.links > 1 {
+            self.kept.linked = self.kept.linked.saturating_add(1);
+        }
+    }
+}

@@ -1,0 +1,390 @@
+//! A folder of the file system as a store of files.
+//!
+//! No link is followed, and no file is written where another may read it half: it is written aside,
+//! synced and renamed. Each call of the system is noted with its answer, and the contracts speak of
+//! these notes. The program opens a store, with the lock of its folder in hand. Tested by
+//! `folder.sh`, `races.sh`, `syncs.sh`, `owners.sh` and `fail_system_calls.sh` in `tests/`.
+#![tactic(auto)]
+
+ghost use Rattle.std.specs.Prelude.{◌≡◌, ◌≢◌, ◌<◌, ℕ, [], ◌∷◌, List, IfErr, IfOk, MatchResult, is_ok, length};
+ghost use Rattle.std.specs.FinMap as map;
+ghost use Rattle.reuse_tree.specs.Store.{reading_of};
+ghost use Rattle.reuse_folder.specs.FolderReads.{IsReadWith};
+ghost use Rattle.reuse_folder.specs.FolderWrites.{IsGone, IsPutIn, IsRemovedIn, IsStoredAt};
+ghost use Rattle.reuse_folder.specs.RolledBack.{foreign_of};
+ghost use Rattle.reuse_folder.specs.Written.{is_kept};
+ghost use Rattle.std.specs.Result.{result_map_both};
+ghost use Rattle.reuse_tree.specs.Calls.Call.{ListCall};
+ghost use Rattle.reuse_tree.specs.Asked.{FailsAsRead, OnlyReads, IsLater, IsPut, IsRemoval, IsWrite, AreWrites};
+ghost use Rattle.reuse_tree.specs.Parts.{joined};
+ghost use Rattle.reuse_tree.specs.Calls.{Start};
+ghost use Rattle.reuse_tree.specs.Files.{AreFiles};
+ghost use Rattle.reuse_system.specs.FolderFault.{fault_of_store};
+ghost use Rattle.reuse_folder.specs.Honesty.{files_of, IsHonest};
+
+mod empty_folders;
+mod failure;
+mod folder;
+mod journal_owner;
+mod keeping;
+mod listing;
+mod made_folder;
+mod new_file;
+mod origin;
+mod remembered;
+mod rolled_back;
+mod syncs;
+mod trail;
+
+pub use failure::Failure;
+use failure::LastFailure;
+use folder::{RootFolder, Stop};
+use keeping::Keeping;
+pub use keeping::Kept;
+use reuse_lock::{LockedFolders, RootLock};
+use reuse_system::fault::FolderFault;
+use reuse_system::owner::{OwnerChange, Process};
+use reuse_system::syncs::Syncs;
+use reuse_system::system::{HostSystem, System};
+use reuse_tree::laws::files_stay_good;
+use reuse_tree::{
+    Asked, CallRecord, Change, FileWrite, Parts, PathText, Pruning, Reading, Store, StoreFault,
+};
+use rolled_back::RolledBack;
+use std::alloc::Global;
+use std::fs::File;
+use std::io;
+use std::rt::{Env, Files};
+use std::time::Duration;
+
+/// The files of a folder. It is honest as long as each call was answered as a folder answers that
+/// held the files of the start and that nobody else writes. No contract says that a folder is:
+/// proved are the counts of failures, of bytes written and of puts and removals, and that each
+/// answer is noted as it was given. Of a read, of one put and of a removal it is proved, too, what
+/// stands at the path then. That listings, batches and syncs are made as they are noted is tested.
+#[derive(Drop)]
+pub struct DiskStore<R: Files<File = File> + AllocGlobal + Clone + Drop> {
+    folder: RootFolder<R>,
+    failure: LastFailure,
+    calls: CallRecord,
+    rolled_back: RolledBack,
+    /// No other run works in the folder as long as the store is there.
+    lock: LockedFolders,
+    ghost are_files: { IsHonest calls.start calls.calls → AreFiles (files_of calls.start calls.calls) },
+}
+
+impl<R: Files<File = File> + AllocGlobal + Clone + Drop> DiskStore<R> {
+    /// The folder that is locked, in which what is written is made lasting or not, and files may
+    /// lose their owners or not. The system isn't asked for the folder yet, so what it holds is
+    /// unknown: for any files the contract gives a store that holds these, and the answers then fit
+    /// or don't.
+    pub fn at(rt: R, lock: RootLock, syncs: Syncs, owner_change: OwnerChange) -> DiskStore<R>
+        ghost start: { Start }
+        ensures files { ⟦<DiskStore<R> as Store>⟧.files result ≡ start.files }
+        ensures honest { AreFiles start.files → ⟦<DiskStore<R> as Store>⟧.honest result }
+        ensures failures { ⟦<DiskStore<R> as Store>⟧.failures result ≡ 0 }
+        ensures written { ⟦<DiskStore<R> as Store>⟧.written result ≡ 0 }
+        ensures mutations { ⟦<DiskStore<R> as Store>⟧.mutations result ≡ 0 }
+    {
+        let (root, lock) = lock.into_parts();
+        let keeping = Keeping::new(Process::current(&rt, rt.alloc()), owner_change);
+        DiskStore {
+            folder: RootFolder::new(rt, root, syncs, keeping),
+            failure: LastFailure::none(),
+            calls: CallRecord::new(),
+            rolled_back: RolledBack::nothing(),
+            lock,
+        }
+    }
+
+    /// Whether the journal belongs to another user than the process. If that can't be seen, it
+    /// isn't told here: opening the journal fails.
+    pub fn is_journal_of_other(&mut self, alloc: Global) -> bool {
+        let user = self.folder.keeping().user();
+        match self.folder.journal_owners(alloc) {
+            Ok(owners) => owners.is_journal_of_other(user),
+            Err(_) => false,
+        }
+    }
+
+    /// From now on the first put of a call fails if a file was read that can't keep its owner,
+    /// unless that is allowed.
+    pub fn watch_owners(&mut self) {
+        self.folder.keeping().watch();
+    }
+
+    /// Short files that are read from now on are remembered, for a call that began at this time
+    /// since 1970: they aren't read again as long as the system tells the same of them.
+    pub fn remember_files(&mut self, since: Option<Duration>) {
+        self.folder.remember_files(since);
+    }
+
+    /// Goes to where the system shows the handles of the process, so that paths through them are
+    /// short, until `come_back`. Meanwhile no other path is to be told from where the process was.
+    pub fn go_to_handles(&mut self, env: &impl Env, alloc: Global) {
+        self.folder.go_to_handles(env, alloc);
+    }
+
+    /// Comes back to the folder that the process was called in.
+    pub fn come_back(&mut self, env: &impl Env, alloc: Global) {
+        self.folder.come_back(env, alloc);
+    }
+
+    /// A pending step is rolled back from now on, until the journal is first written. Meanwhile
+    /// what stands at a path and is neither a file nor a folder, as a link or a pipe, is read as a
+    /// file that is too long: so it isn't taken for a path without a file, where one could be made.
+    pub fn expect_rollback(&mut self) {
+        self.rolled_back.expect();
+    }
+
+    /// Why the root, or a folder above it, couldn't be locked, where one couldn't.
+    pub fn lock_error(&self) -> Option<io::Error> {
+        self.lock.error()
+    }
+
+    /// No put fails for that any more, but those of such files; whether one has failed.
+    pub fn release_owners(&mut self) -> bool {
+        self.folder.keeping().release()
+    }
+
+    /// Whether the file at the path, if there is one, can be written anew and keep its owner, or
+    /// needn't.
+    pub fn may_write(&mut self, alloc: Global, path: &PathText) -> Result<bool, StoreFault> {
+        let answer = self.folder.may_write(alloc, path);
+        answer.map_err(StoreFault::from)
+    }
+
+    /// What was done so far to owners and names of files.
+    pub fn kept(&mut self) -> Kept {
+        self.folder.keeping().kept()
+    }
+
+    /// How many files were rolled back, if a step was pending and isn't any more.
+    pub fn rolled_back(&self) -> Option<usize> {
+        self.rolled_back.files()
+    }
+
+    /// Whether folders are sought by their paths, since the system doesn't show open ones.
+    pub fn is_by_path(&self) -> bool {
+        self.folder.is_by_path()
+    }
+
+    /// The folders that listings found and passed over.
+    pub fn passed_over(&self) -> &[String] {
+        self.folder.passed_over()
+    }
+
+    // Notes that the path was to be made these parts joined, and the answer.
+    fn note_put(
+        &mut self,
+        alloc: Global,
+        path: &PathText,
+        parts: Parts,
+        answer: Result<(), FolderFault>,
+    ) -> Result<(), StoreFault>
+        ensures puts { IsPut ⟦<DiskStore<R> as Store>⟧ path.now (joined parts.entry) self.old self.new result }
+        ensures later { IsLater ⟦<DiskStore<R> as Store>⟧ self.old self.new }
+        ensures folder { self.new.folder ≡ self.old.folder }
+        ensures done { is_ok result ≡ is_ok answer }
+        ensures ok { answer ≡ Ok tt → result ≡ Ok tt }
+        ensures fails { IfErr answer (λ fault. result ≡ Err (fault_of_store fault)) }
+    {
+        files_stay_good();
+        self.rolled_back.note(path.text(), answer.is_ok());
+        self.failure.note(alloc, Asked::Write, path.text(), &answer);
+        let answer = answer.map_err(StoreFault::from);
+        self.calls.note_put_parts(path, parts, &answer);
+        answer
+    }
+
+    // Notes that the path's file was to be removed, and the answer.
+    fn note_removal(
+        &mut self,
+        alloc: Global,
+        path: &PathText,
+        answer: Result<(), FolderFault>,
+    ) -> Result<(), StoreFault>
+        ensures removes { IsRemoval ⟦<DiskStore<R> as Store>⟧ path.now self.old self.new result }
+        ensures later { IsLater ⟦<DiskStore<R> as Store>⟧ self.old self.new }
+        ensures folder { self.new.folder ≡ self.old.folder }
+        ensures done { is_ok result ≡ is_ok answer }
+        ensures ok { answer ≡ Ok tt → result ≡ Ok tt }
+        ensures fails { IfErr answer (λ fault. result ≡ Err (fault_of_store fault)) }
+    {
+        files_stay_good();
+        self.rolled_back.note(path.text(), answer.is_ok());
+        self.failure
+            .note(alloc, Asked::Remove, path.text(), &answer);
+        let answer = answer.map_err(StoreFault::from);
+        self.calls.note_remove(path, &answer);
+        answer
+    }
+
+    // Notes one write and the answer.
+    fn note_write(
+        &mut self,
+        alloc: Global,
+        write: &FileWrite,
+        answer: Result<(), FolderFault>,
+    ) -> Result<(), StoreFault>
+        ensures write { IsWrite ⟦<DiskStore<R> as Store>⟧ write.now.path.now write.now.file self.old self.new result }
+        ensures ok { answer ≡ Ok tt → result ≡ Ok tt }
+        ensures fails { IfErr answer (λ fault. result ≡ Err (fault_of_store fault)) }
+    {
+        match write.file {
+            Some(parts) => self.note_put(alloc, write.path, parts, answer),
+            None => self.note_removal(alloc, write.path, answer),
+        }
+    }
+
+    // Notes writes that were made.
+    fn note_made(&mut self, alloc: Global, writes: &[FileWrite])
+        ensures { AreWrites ⟦<DiskStore<R> as Store>⟧ writes.now self.old self.new (Ok tt) }
+    {
+        for write in writes {
+            let _ = self.note_write(alloc, write, Ok(()));
+        }
+    }
+
+    // Notes writes that were asked for together, and the answer: each that was made, and the one
+    // that has failed.
+    fn note_writes(
+        &mut self,
+        alloc: Global,
+        writes: &[FileWrite],
+        answer: Result<(), Stop>,
+    ) -> Result<(), StoreFault>
+        requires { IfErr answer (λ stop. stop.made < length writes.now) }
+        ensures { AreWrites ⟦<DiskStore<R> as Store>⟧ writes.now self.old self.new result }
+    {
+        match answer {
+            Ok(()) => {
+                self.note_made(alloc, writes);
+                Ok(())
+            }
+            Err(stop) => {
+                self.note_made(alloc, &writes[..stop.made]);
+                self.note_write(alloc, &writes[stop.made], Err(stop.fault))
+            }
+        }
+    }
+
+    /// The last call that failed, where one did since the last asking.
+    pub fn take_failure(&mut self) -> Option<Failure> {
+        self.failure.take()
+    }
+}
+
+/// Notes a listing and its answer. Which folders it was to pass over is a ghost value: no record
+/// holds a function, so it is the list of those that the pruning names, picked where the pruning is
+/// at hand.
+fn note_listing<P: Pruning>(
+    calls: &mut CallRecord,
+    folders: &[PathText],
+    _pruning: &P,
+    answer: &Result<Vec<PathText>, StoreFault>,
+)
+    ghost pruned: { List (List ℕ) }
+    ensures { calls.new ≡ record calls.old {
+      calls = ListCall folders.now pruned (result_map_both (λ paths. paths.items) (λ fault. fault) answer.now) ∷ calls.old.calls;
+    } }
+{
+    calls.note_list(folders, answer);
+}
+
+impl<R: Files<File = File> + AllocGlobal + Clone + Drop> Store for DiskStore<R> {
+    ghost use Rattle.reuse_tree.specs.Calls.{failures_of, written_of, mutations_of};
+    ghost use Rattle.reuse_folder.specs.Honesty.{files_of, files_may_be_left, IsHonest, MayBeLeft};
+
+    ghost files = { λ store. files_of store.calls.start store.calls.calls };
+
+    ghost may_be = { λ store. MayBeLeft store.calls.start store.calls.doubts store.calls.calls };
+
+    ghost failures = { λ store. failures_of store.calls.calls };
+
+    ghost written = { λ store. written_of store.calls.calls };
+
+    ghost mutations = { λ store. mutations_of store.calls.calls };
+
+    ghost honest = { λ store. IsHonest store.calls.start store.calls.calls };
+
+    fn list<P: Pruning>(
+        &mut self,
+        alloc: Global,
+        folders: &[PathText],
+        pruning: &P,
+    ) -> Result<Vec<PathText>, StoreFault> {
+        let answer = self.folder.list(alloc, folders, pruning);
+        self.failure
+            .note(alloc, Asked::List, self.folder.listed(), &answer);
+        let answer = answer.map_err(StoreFault::from);
+        note_listing(&mut self.calls, folders, pruning, &answer);
+        answer
+    }
+
+    fn read(&mut self, alloc: Global, path: &PathText, limit: usize) -> Result<Reading, StoreFault>
+        ensures kept { ⟦<DiskStore<R> as Store>⟧.honest self.old
+            → MatchResult result (λ reading. reading ≡ reading_of (map.get (⟦<DiskStore<R> as Store>⟧.files self.old) path.now) limit → ⟦<DiskStore<R> as Store>⟧.honest self.new) (λ fault. fault ≢ StoreFault.Clash → ⟦<DiskStore<R> as Store>⟧.honest self.new) }
+        ensures reading { ⟦<DiskStore<R> as Store>⟧.honest self.new → IfOk result (λ reading. reading ≡ reading_of (map.get (⟦<DiskStore<R> as Store>⟧.files self.old) path.now) limit) }
+        ensures fails { FailsAsRead ⟦<DiskStore<R> as Store>⟧ self.old self.new result }
+        ensures reads { OnlyReads ⟦<DiskStore<R> as Store>⟧ self.old self.new }
+        // What is read is what the file at the path holds on the disk, if none is remembered.
+        ensures read { ⟦<HostSystem<R> as System>⟧.honest self.new.folder.system → self.old.folder.remembered.files.items ≡ []
+            → IfOk result (IsReadWith (foreign_of self.old.rolled_back) (⟦<HostSystem<R> as System>⟧.folders self.new.folder.system) (⟦<HostSystem<R> as System>⟧.holds self.new.folder.system) path.now limit) }
+    {
+        let foreign = self.rolled_back.foreign();
+        let answer = self.folder.read_with(alloc, path, limit, foreign);
+        self.failure.note(alloc, Asked::Read, path.text(), &answer);
+        let answer = answer.map_err(StoreFault::from);
+        self.calls.note_read(path, limit, &answer);
+        answer
+    }
+
+    fn put_parts(&mut self, alloc: Global, path: &PathText, parts: Parts) -> Result<(), StoreFault>
+        ensures puts { IsPut ⟦<DiskStore<R> as Store>⟧ path.now (joined parts.entry) self.old self.new result }
+        ensures later { IsLater ⟦<DiskStore<R> as Store>⟧ self.old self.new }
+        // On the disk the file at the path has these bytes, and nothing else differs.
+        ensures stands { ⟦<HostSystem<R> as System>⟧.honest self.new.folder.system
+            → IfOk result (λ _. IsStoredAt (⟦<HostSystem<R> as System>⟧.folders self.new.folder.system) (⟦<HostSystem<R> as System>⟧.holds self.new.folder.system) path.now (joined parts.entry) (is_kept self.old.folder.unsynced.syncs)) }
+        ensures place { ⟦<HostSystem<R> as System>⟧.honest self.new.folder.system
+            → IsPutIn (⟦<HostSystem<R> as System>⟧.folders self.new.folder.system) path.now (joined parts.entry) (is_kept self.old.folder.unsynced.syncs)
+            (⟦<HostSystem<R> as System>⟧.holds self.old.folder.system) (⟦<HostSystem<R> as System>⟧.holds self.new.folder.system) (is_ok result) }
+    {
+        let answer = self.folder.put(alloc, path, parts);
+        self.note_put(alloc, path, parts, answer)
+    }
+
+    fn remove(&mut self, alloc: Global, path: &PathText) -> Result<(), StoreFault>
+        ensures removes { IsRemoval ⟦<DiskStore<R> as Store>⟧ path.now self.old self.new result }
+        ensures later { IsLater ⟦<DiskStore<R> as Store>⟧ self.old self.new }
+        // On the disk no file is at the path, and nothing else differs.
+        ensures gone { ⟦<HostSystem<R> as System>⟧.honest self.new.folder.system
+            → IfOk result (λ _. IsGone (⟦<HostSystem<R> as System>⟧.folders self.new.folder.system) (⟦<HostSystem<R> as System>⟧.holds self.new.folder.system) path.now) }
+        ensures place { ⟦<HostSystem<R> as System>⟧.honest self.new.folder.system
+            → IsRemovedIn (⟦<HostSystem<R> as System>⟧.folders self.new.folder.system) path.now (⟦<HostSystem<R> as System>⟧.holds self.old.folder.system) (⟦<HostSystem<R> as System>⟧.holds self.new.folder.system) }
+    {
+        let answer = self.folder.remove(alloc, path);
+        self.note_removal(alloc, path, answer)
+    }
+
+    fn write_all(&mut self, alloc: Global, writes: &[FileWrite]) -> Result<(), StoreFault> {
+        if writes.is_empty() {
+            return Ok(());
+        }
+        let answer = self.folder.write_all(alloc, writes);
+        self.note_writes(alloc, writes, answer)
+    }
+
+    fn sync(&mut self, alloc: Global, changes: &[Change]) -> Result<(), StoreFault> {
+        let answer = self.folder.sync(alloc, changes);
+        self.failure
+            .note(alloc, Asked::Sync, self.folder.synced(), &answer);
+        let answer = answer.map_err(StoreFault::from);
+        self.calls.note_sync(changes, &answer);
+        answer
+    }
+
+    ghost files_may_be = { λ store. files_may_be_left store.calls.start store.calls.doubts store.calls.calls };
+
+    ghost are_files = { λ store honest. store.are_files honest };
+}

@@ -1,0 +1,78 @@
+-- The journal in files: a head, and a file for each entry, in the folder `.reuse/undo`.
+use Rattle.std.specs.Prelude.{◌≡◌, ◌⊎◌, ◌<◌, ◌≤◌, ℕ, ◌+◌, ◌/◌, ◌%◌, List, [], ◌∷◌, ◌++◌, map, reverse, Option, Some, None, IsSome, IsTrue, codes}
+use Rattle.std.specs.List.{All}
+use Rattle.std.specs.FinMap.{get}
+use Rattle.reuse_tree.specs.Path.{lies_under}
+use Rattle.reuse_tree.specs.Files.{Files}
+use Rattle.reuse_tree.specs.Head.{IsGoodHead}
+use Rattle.reuse_tree.specs.EntryText.{IsGoodEntry}
+use Rattle.reuse_journal.specs.Journal.{Recorded, Journal}
+use Rattle.reuse_tree.specs.declared.journal.head.Head.{Head}
+use Rattle.reuse_tree.specs.declared.journal.head.Pending.{Pending}
+use Rattle.reuse_tree.specs.declared.journal.entry.Entry.{Entry}
+
+-- ---- their paths
+
+abbrev pub head_path : List ℕ
+head_path = codes ".reuse/undo/head.json"
+
+-- the digit of a number at this place: its ones, tens, hundreds ..
+abbrev pub digit : ℕ → ℕ → ℕ
+digit number place = 48 + number / place % 10
+
+-- six digits, with zeros in front
+abbrev pub six_digits : ℕ → List ℕ
+six_digits number = digit number 100_000 ∷ digit number 10_000 ∷ digit number 1_000 ∷ digit number 100 ∷ digit number 10 ∷ digit number 1 ∷ []
+
+-- the file of the entry of this number
+abbrev pub entry_path : ℕ → List ℕ
+entry_path number = codes ".reuse/undo/" ++ six_digits number ++ codes ".json"
+
+-- the path of a file of the journal: the head, or an entry by a number that is given out
+abbrev pub IsJournalPath : List ℕ → Type 0
+IsJournalPath path =
+    (path ≡ head_path) ⊎ ((number : ℕ) × (0 < number) × (number ≤ 999_999) × (path ≡ entry_path number))
+
+-- no path of a file of the journal is a folder
+abbrev pub IsFree : Files → Type 0
+IsFree folder =
+    (path other : List ℕ) → IsJournalPath path → IsSome (get folder other) → ¬ (IsTrue (lies_under other path))
+
+-- ---- what they say
+
+-- the head of an empty journal, which needs no file
+abbrev pub empty_head : Head
+empty_head = record { done = []; undone = []; next = 1; pending = None }
+
+-- the file of the head says this
+abbrev pub HeadSays : Option (List ℕ) → Head → Type 0
+HeadSays None head = head ≡ empty_head
+HeadSays (Some text) head = IsGoodHead text head
+
+-- the file of an entry says this
+abbrev pub EntrySays : Option (List ℕ) → Entry → Type 0
+EntrySays None entry = ⊥
+EntrySays (Some text) entry = IsGoodEntry text entry
+
+-- a step as an entry
+abbrev pub entry_in : Recorded → Entry
+entry_in step = record { changes = step.changes; command = step.label.command; when = step.label.when }
+
+-- the number of a step
+abbrev pub number_of : Recorded → ℕ
+number_of step = step.label.number
+
+-- the step's entry is in the folder
+abbrev pub IsKeptIn : Files → Recorded → Type 0
+IsKeptIn folder step = EntrySays (get folder (entry_path (number_of step))) (entry_in step)
+
+-- the head that lists the steps of a journal, and tells what is pending; it lists the undone ones the next to be redone
+-- last
+abbrev pub head_of : Journal → Option Pending → Head
+head_of journal pending = record { done = map number_of (reverse journal.done); undone = map number_of (reverse journal.undone); next = journal.used + 1; pending = pending }
+
+-- the folder has this journal, and tells what is pending
+pub record KeepsJournal (folder : Files) (journal : Journal) (pending : Option Pending) : Type 0 where
+  pub head : HeadSays (get folder head_path) (head_of journal pending)
+  pub done : All (IsKeptIn folder) journal.done
+  pub undone : All (IsKeptIn folder) journal.undone

@@ -1,0 +1,14 @@
+pub mod Carried
+pub mod History
+pub mod InTurn
+pub mod Journal
+pub mod JournalFiles
+pub mod Labels
+pub mod Losses
+pub mod Numbered
+pub mod Opening
+pub mod Recovery
+pub mod Remembered
+pub mod Seals
+pub mod Standing
+pub mod Tested

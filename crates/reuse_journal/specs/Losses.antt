@@ -1,0 +1,140 @@
+-- What a loss of power leaves of a tree and its journal.
+use Rattle.std.specs.Prelude.{◌≡◌, ◌⊎◌, List, ℕ, Some, Result, Ok, Err, MatchResult}
+use Rattle.reuse_tree.specs.Asked.{Leaves, IsSynced}
+use Rattle.reuse_tree.specs.Entry.{LeadsBy, SomeMade}
+use Rattle.reuse_tree.specs.Files.{Files, tree_of}
+use Rattle.reuse_tree.specs.Head.{direction_of}
+use Rattle.reuse_tree.specs.Lasting.{IsMidway}
+use Rattle.reuse_tree.specs.Tree.{undo_folder_of, Sets}
+use Rattle.reuse_tree.specs.declared.change.Change.{Change}
+use Rattle.reuse_tree.specs.declared.journal.head.PendingDirection.{PendingDirection}
+use Rattle.reuse_tree.specs.declared.store.Store.{Ghosts}
+use Rattle.reuse_tree.specs.declared.direction.Direction.{Direction}
+use Rattle.reuse_command.specs.Answer.{IsStop}
+use Rattle.reuse_journal.specs.Carried.{SetsHead, IsStopped}
+use Rattle.reuse_journal.specs.Journal.{Recorded, State}
+use Rattle.reuse_journal.specs.JournalFiles.{head_path}
+use Rattle.reuse_journal.specs.Recovery.{RecoversTo}
+use Rattle.reuse_command.specs.declared.reply.Recovered.{Recovered}
+use Rattle.reuse_command.specs.declared.reply.Response.{Response}
+use Rattle.reuse_command.specs.declared.reply.Response.TheVariants.{NothingChanged}
+use Rattle.reuse_command.specs.declared.reply.Refusal.{Refusal}
+use Rattle.reuse_command.specs.declared.failure.Failure.TheVariants.{Interrupted}
+use Rattle.reuse_command.specs.declared.reply.Refusal.TheVariants.{Failed}
+use Rattle.reuse_journal.specs.Standing.{IsStanding, IsStep, IsUnderWay, InDoubt}
+
+-- What is left has the tree of the standing. It is the standing; or a step from it is pending, of which nothing is
+-- made; or the step that led to it is pending, all of which is made.
+pub record IsSafeOn (earlier held : State) (left : Files) : Type 0 where
+  pub tree : tree_of left ≡ held.tree
+  pub opens :
+      IsStanding left held
+      ⊎ ((next : State) × (direction : PendingDirection) × (step : Recorded) × IsStep direction step held next
+      × IsUnderWay direction step held left)
+      ⊎ ((direction : PendingDirection) × (step : Recorded) × IsStep direction step earlier held
+      × IsUnderWay direction step earlier left)
+
+-- all that a loss of power may leave is safe on the standing
+abbrev pub AreSafeOn : {S : Type 0} → Ghosts S → State → State → S → Type 0
+AreSafeOn store earlier held new = Leaves store new (IsSafeOn earlier held)
+
+-- The files are in doubt between the standing and the next, and so is all that a loss of power may leave: each is safe
+-- on the standing that the files are; or the step between the two is under way in the files, and each is safe on the
+-- first, or in doubt between the two.
+abbrev pub AreInDoubt : {S : Type 0} → Ghosts S → (earlier held next : State) → S → Type 0
+AreInDoubt store earlier held next new =
+    (IsStanding (store.files new) held × AreSafeOn store earlier held new)
+    ⊎ (IsStanding (store.files new) next × AreSafeOn store held next new)
+    ⊎ ((direction : PendingDirection) × (step : Recorded) × IsStep direction step held next
+    × IsUnderWay direction step held (store.files new)
+    × Leaves store new (λ left. IsSafeOn earlier held left ⊎ InDoubt held next left))
+
+-- What a loss of power may leave after a call of a session that stood on the standing: behind a step what is there;
+-- where a step was stopped, the files are in doubt between the standing and such a next one, and so is all that may be
+-- left; and else it is safe on the standing, as it was before.
+abbrev pub Survives : {S : Type 0} → Ghosts S → (State → Type 0) → (earlier held : State) → Result Response Refusal → S
+    → Type 0
+Survives store IsNext earlier held (Ok NothingChanged) new = AreSafeOn store earlier held new
+Survives store IsNext earlier held (Ok reply) new = IsSynced store new
+Survives store IsNext earlier held (Err (Failed (Interrupted cause))) new =
+    (next : State) × IsNext next × AreInDoubt store earlier held next new
+Survives store IsNext earlier held (Err refusal) new = AreSafeOn store earlier held new
+
+-- the next standing is that after a step this way
+abbrev pub IsNextBy : PendingDirection → State → State → Type 0
+IsNextBy direction held next = (step : Recorded) × IsStep direction step held next
+
+-- ---- recovering
+
+-- Files in doubt were recovered. They are one of the two committed states, and all that may be left is safe on it; or
+-- that failed, and they are in doubt still.
+abbrev pub SurvivesInDoubt : {S : Type 0} → Ghosts S → (earlier held next : State) → Result Recovered Refusal → S
+    → Type 0
+SurvivesInDoubt store earlier held next result new =
+    MatchResult result
+    (λ recovered. (IsStanding (store.files new) held × AreSafeOn store earlier held new)
+    ⊎ (IsStanding (store.files new) next × AreSafeOn store held next new))
+    (λ refusal. AreInDoubt store earlier held next new)
+
+-- all that may be left has one tree
+abbrev pub HaveTree : {S : Type 0} → Ghosts S → S → Files → Type 0
+HaveTree store new tree = Leaves store new (λ left. tree_of left ≡ tree)
+
+-- A step is pending in the files, and recovering them leads to the committed state, in which a path that can't be set
+-- back is as it is found. Each tree that a loss of power may leave is that of the state with some of the step's changes
+-- made, whatever its journal tells.
+pub record AwaitsRecovery {S : Type 0} (store : Ghosts S) (direction : PendingDirection) (step : Recorded) (held : State) (new : S)
+    : Type 0 where
+  pub files : RecoversTo direction step held (store.files new)
+  pub trees : Leaves store new (λ left. SomeMade (direction_of direction) step.changes held.tree (tree_of left))
+
+-- they await it still; or they are that state, and all that may be left has its tree
+abbrev pub AwaitsOrIs : {S : Type 0} → Ghosts S → PendingDirection → Recorded → State → S → Type 0
+AwaitsOrIs store direction step held new =
+    AwaitsRecovery store direction step held new
+    ⊎ (IsStanding (store.files new) held × HaveTree store new held.tree)
+
+-- what is left is the committed state, or recovering leads to it
+abbrev pub IsOrRecoversTo : PendingDirection → Recorded → State → Files → Type 0
+IsOrRecoversTo direction step held left = IsStanding left held ⊎ RecoversTo direction step held left
+
+-- Files that await it were recovered. They are the committed state, and nothing else may be left. Or that failed: they
+-- await it still, or are the state; and if it stopped, each that may be left is the state, or recovering leads to it.
+abbrev pub SurvivesRecovery : {S : Type 0} → Ghosts S → PendingDirection → Recorded → State → Result Recovered Refusal
+    → S
+    → Type 0
+SurvivesRecovery store direction step held result new =
+    MatchResult result
+    (λ recovered. IsStanding (store.files new) held × IsSynced store new)
+    (λ refusal. AwaitsOrIs store direction step held new
+    × (IsStop refusal → Leaves store new (IsOrRecoversTo direction step held)))
+
+-- ---- for private clauses
+
+-- a head was put on these files, or not, in the files and in what may be left
+abbrev pub MayHaveHead : {S : Type 0} → Ghosts S → List ℕ → Files → S → Type 0
+MayHaveHead store head done new =
+    ((store.files new ≡ done) ⊎ Sets head_path (Some head) done (store.files new))
+    × Leaves store new (λ left. (left ≡ done) ⊎ Sets head_path (Some head) done left)
+
+-- where carrying a step out stops, from files of which nothing but the journal was in doubt: at the pending head, among
+-- the changes, or at the last head
+abbrev pub StopsWithDoubt : {S : Type 0} → Ghosts S → Direction → List Change → (pending settled : List ℕ) → S → S
+    → Type 0
+StopsWithDoubt store direction changes pending settled old new =
+    (((store.files new ≡ store.files old) ⊎ Sets head_path (Some pending) (store.files old) (store.files new))
+    × Leaves store new (λ left. store.may_be old left
+    ⊎ ((kept : Files) × store.may_be old kept × Sets head_path (Some pending) kept left)))
+    ⊎ (IsStopped direction changes pending (store.files old) (store.files new)
+    × Leaves store new (IsStopped direction changes pending (store.files old)))
+    ⊎ ((done : Files) × LeadsBy direction changes (tree_of (store.files old)) (tree_of done)
+    × SetsHead pending (store.files old) done × MayHaveHead store settled done new)
+
+-- where rolling these files back to a tree stops: among the changes, or at the last head
+abbrev pub StopsBackWithDoubt : {S : Type 0} → Ghosts S → Direction → List Change → List ℕ → (start before : Files) → S
+    → Type 0
+StopsBackWithDoubt store direction changes settled start before new =
+    (IsMidway direction changes start (undo_folder_of before) (store.files new)
+    × Leaves store new (IsMidway direction changes start (undo_folder_of before)))
+    ⊎ ((done : Files) × (tree_of done ≡ start) × (undo_folder_of done ≡ undo_folder_of before)
+    × MayHaveHead store settled done new)

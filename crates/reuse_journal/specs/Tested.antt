@@ -1,0 +1,12 @@
+-- What is tested of each change of an entry, before one of them is made.
+use Rattle.reuse_tree.specs.Files.{Files}
+use Rattle.reuse_tree.specs.declared.change.Change.{Change}
+use Rattle.reuse_tree.specs.Entry.{CanBeMade, CanBeRolledBack}
+use Rattle.reuse_tree.specs.declared.direction.Direction.{Direction}
+use Rattle.reuse_journal.specs.declared.prepare.Aim.{Aim}
+use Rattle.reuse_journal.specs.declared.prepare.Aim.TheVariants.{Go, RollingBack}
+
+-- on the tree, the change is as the aim needs it
+abbrev pub Passes : Aim → Direction → Files → Change → Type 0
+Passes Go direction tree = CanBeMade direction tree
+Passes RollingBack direction tree = CanBeRolledBack direction tree

@@ -1,0 +1,104 @@
+//! Tests the changes of an entry before they are made.
+ghost use Rattle.std.specs.Prelude.{◌≡◌, ◌↔◌, ℕ, List, map, IsTrue, IfOk, IfErr, OnOk, true};
+ghost use Rattle.std.specs.List.{All};
+ghost use Rattle.reuse_tree.specs.Files.{tree_of};
+ghost use Rattle.reuse_tree.specs.Change.{path_of, IsProper};
+ghost use Rattle.reuse_command.specs.Answer.{IsTestRefusal, RefusedAsRead};
+ghost use Rattle.reuse_tree.specs.Tree.{is_of_tree};
+ghost use Rattle.reuse_tree.specs.Entry.{paths_of, IsSmall, IsEntry, CanBeMade, IsFirstStuck, IsFirstWithout};
+ghost use Rattle.reuse_journal.specs.Tested.{Passes};
+ghost use Rattle.reuse_tree.specs.Asked.{OnlyReads, FailsAsRead};
+
+use reuse_command::reply::{Paths, Refusal};
+use reuse_tree::apply_change::can_apply;
+use reuse_tree::apply_changes::can_be_made;
+use reuse_tree::{Change, Direction, Store, StoreFault};
+use std::alloc::{AllocError, Global};
+
+/// The paths of the changes.
+pub fn paths_of(alloc: Global, changes: &[Change]) -> Result<Paths, AllocError>
+    ensures { IfOk result (λ paths. paths ≡ paths_of changes.now) }
+{
+    let mut paths = Vec::new(alloc);
+    for change in changes {
+        paths.push(change.path().try_clone(alloc)?)?;
+    }
+    Ok(Paths::new(paths))
+}
+
+/// What each change of an entry is tested for, this way.
+#[derive(Clone, Copy)]
+pub enum Aim {
+    /// It can be made.
+    Go,
+    /// It isn't made, or can be taken back.
+    RollingBack,
+}
+
+/// Tests each change; refused as `Moved` at the first that isn't as the aim needs it.
+pub fn test_each<S: Store>(
+    alloc: Global,
+    store: &mut S,
+    changes: &[Change],
+    direction: Direction,
+    aim: Aim,
+) -> Result<(), Refusal>
+    ensures ready { S.honest store.new → IsEntry changes.now
+        → OnOk result (All (Passes aim direction (tree_of (S.files store.old))) changes.now) }
+    ensures moved { S.honest store.new → IsEntry changes.now → (path : List ℕ) → result ≡ Err (Refusal.Moved path)
+        → IsFirstWithout (Passes aim direction (tree_of (S.files store.old))) changes.now path }
+    ensures refusal { IfErr result IsTestRefusal }
+    ensures fails { RefusedAsRead S.Store store.old store.new result }
+    ensures reads { OnlyReads S.Store store.old store.new }
+{
+    for change in changes {
+        if !passes(alloc, store, change, direction, aim)? {
+            return Err(Refusal::Moved(change.path().try_clone(alloc)?));
+        }
+    }
+    Ok(())
+}
+
+// Whether the change is as the aim needs it.
+fn passes<S: Store>(
+    alloc: Global,
+    store: &mut S,
+    change: &Change,
+    direction: Direction,
+    aim: Aim,
+) -> Result<bool, StoreFault>
+    ensures ok { S.honest store.new → IsProper change.now → IsSmall change.now → is_of_tree (path_of change.now) ≡ true
+        → IfOk result (λ yes. IsTrue yes ↔ Passes aim direction (tree_of (S.files store.old)) change.now) }
+    ensures fails { FailsAsRead S.Store store.old store.new result }
+    ensures reads { OnlyReads S.Store store.old store.new }
+{
+    match aim {
+        Aim::Go => can_be_made(alloc, store, change, direction),
+        Aim::RollingBack => {
+            if can_apply(alloc, store, change, direction)? {
+                return Ok(true);
+            }
+            can_be_made(alloc, store, change, direction.opposite())
+        }
+    }
+}
+
+/// Tests that each change can be made now, this way, and gives their paths.
+pub fn prepare<S: Store>(
+    alloc: Global,
+    store: &mut S,
+    changes: &[Change],
+    direction: Direction,
+) -> Result<Paths, Refusal>
+    ensures paths { IfOk result (λ paths. paths ≡ paths_of changes.now) }
+    ensures ready { S.honest store.new → IsEntry changes.now
+        → OnOk result (All (CanBeMade direction (tree_of (S.files store.old))) changes.now) }
+    ensures moved { S.honest store.new → IsEntry changes.now → (path : List ℕ) → result ≡ Err (Refusal.Moved path)
+        → IsFirstStuck direction (tree_of (S.files store.old)) changes.now path }
+    ensures refusal { IfErr result IsTestRefusal }
+    ensures fails { RefusedAsRead S.Store store.old store.new result }
+    ensures reads { OnlyReads S.Store store.old store.new }
+{
+    test_each(alloc, store, changes, direction, Aim::Go)?;
+    Ok(paths_of(alloc, changes)?)
+}

@@ -1,0 +1,2 @@
+pub mod LockCall
+pub mod Locks

@@ -1,0 +1,102 @@
+//! The calls of the system by which a root is locked. Each is noted by the one function here that
+//! makes it: that what is noted is the call that is made is not proved, and has to be read here.
+ghost use Rattle.std.specs.Prelude.{◌≡◌, ◌≢◌, ◌↔◌, ◌∷◌, Err, IsOk, MatchOption};
+ghost use Rattle.std.specs.Option.{option_map};
+ghost use Rattle.std.specs.Path.{path_buf_bytes};
+ghost use Rattle.reuse_lock.specs.LockCall.LockCall.{PathCall, TryCall};
+
+use crate::record::{AskKind, Hold, LockAnswer, LockRecord};
+use std::alloc::Global;
+use std::fs::{self, File, TryLockError};
+use std::io;
+use std::path::PathBuf;
+use std::rt::Files;
+
+/// Where the root lies, as an absolute path without links, if the system tells that.
+pub fn absolute_path<R: Files<File = File> + AllocGlobal>(
+    rt: &R,
+    root: &str,
+    noted: &mut LockRecord,
+) -> Option<PathBuf<Global>>
+    ensures { noted.new.calls ≡ PathCall root.now (option_map path_buf_bytes result) ∷ noted.old.calls }
+{
+    match fs::canonicalize(rt, root) {
+        Ok(path) => {
+            let told = path.as_str().as_bytes();
+            noted.note(&AskKind::Path(true), root.as_bytes(), told);
+            Some(path)
+        }
+        Err(_) => {
+            noted.note(&AskKind::Path(false), root.as_bytes(), b"");
+            None
+        }
+    }
+}
+
+/// The folder at this path, if it is one that may be read. Anything else, as a pipe, isn't opened.
+fn open_folder<R: Files<File = File>>(rt: &R, path: &str) -> io::Result<Option<File>> {
+    if fs::metadata(rt, path)?.is_dir() {
+        Ok(Some(File::open(rt, path)?))
+    } else {
+        Ok(None)
+    }
+}
+
+/// What the system answered.
+fn answer_of(tried: Result<(), TryLockError>) -> LockAnswer
+    ensures granted { (result ≡ LockAnswer.Granted) ↔ IsOk tried }
+    ensures held { (result ≡ LockAnswer.HeldByAnother) ↔ (tried ≡ Err TryLockError.WouldBlock) }
+    ensures opened { result ≢ LockAnswer.NotOpened }
+{
+    match tried {
+        Ok(()) => LockAnswer::Granted,
+        Err(TryLockError::WouldBlock) => LockAnswer::HeldByAnother,
+        Err(TryLockError::Error(_)) => LockAnswer::NoLocks,
+    }
+}
+
+/// Why the lock couldn't be had at all, as on a file system without locks.
+fn error_of(tried: &Result<(), TryLockError>) -> Option<io::Error> {
+    match tried {
+        Err(TryLockError::Error(error)) => Some(*error),
+        Ok(()) | Err(TryLockError::WouldBlock) => None,
+    }
+}
+
+/// An open folder, on which a lock was asked for.
+#[derive(Drop)]
+pub struct AskedFolder {
+    /// The lock is held as long as this is open.
+    _folder: File,
+    /// Why it couldn't be had at all.
+    pub error: Option<io::Error>,
+}
+
+/// Opens the folder at this path, if that can be done, and asks for the lock on it.
+pub fn try_lock<R: Files<File = File>>(
+    rt: &R,
+    path: &str,
+    hold: Hold,
+    noted: &mut LockRecord,
+) -> (Option<AskedFolder>, LockAnswer)
+    ensures noted { noted.new.calls ≡ TryCall path.now hold result.1 ∷ noted.old.calls }
+    ensures opened { MatchOption result.0 (result.1 ≡ LockAnswer.NotOpened) (λ folder. result.1 ≢ LockAnswer.NotOpened) }
+{
+    let Some(folder) = open_folder(rt, path).unwrap_or(None) else {
+        let kind = AskKind::Lock(hold, LockAnswer::NotOpened);
+        noted.note(&kind, path.as_bytes(), b"");
+        return (None, LockAnswer::NotOpened);
+    };
+    let tried = match hold {
+        Hold::Exclusive => folder.try_lock(),
+        Hold::Shared => folder.try_lock_shared(),
+    };
+    let error = error_of(&tried);
+    let answer = answer_of(tried);
+    noted.note(&AskKind::Lock(hold, answer), path.as_bytes(), b"");
+    let folder = AskedFolder {
+        _folder: folder,
+        error,
+    };
+    (Some(folder), answer)
+}

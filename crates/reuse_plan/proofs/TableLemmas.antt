@@ -1,0 +1,82 @@
+-- The `REUSE.toml` at the root: its path, and what amending makes of it.
+use Rattle.std.proofs.Common.{◌≡◌, ◌⊎◌, ℕ, ◌≤◌, true, false, cond, List, [], length, take, drop, Option, Some, None, Result, Ok, Err, refl, sym, ap, ◌∙◌, bytes_eq}
+use Rattle.reuse_command.specs.Reading.{get, Files}
+use Rattle.std.proofs.lemmas.Bool.{false≢true, false_from_ne_true}
+use Rattle.std.proofs.lemmas.Slice.Eq.{bytes_eq-Decides}
+use Rattle.reuse_text.specs.Text.{spliced}
+use Rattle.reuse_text.specs.declared.TheConstants.{LONGEST_FILE}
+use Rattle.reuse_notice.specs.declared.amendments.Amendments.{Amendments}
+use Rattle.reuse_dep5.specs.declared.toml_change.TomlSplice.{TomlSplice}
+use Rattle.reuse_dep5.specs.declared.toml_values.AmendTomlRefusal.{AmendTomlRefusal}
+use Rattle.reuse_dep5.specs.declared.toml_values.AmendTomlRefusal.TheVariants.{BadExpression, CannotBeAmended, TooLong, Memory}
+use Rattle.reuse_dep5.specs.TomlAmending.{toml_amendment_of}
+use Rattle.reuse_dep5.specs.TomlAnswers.{IsTomlAnswer}
+use Rattle.reuse_dep5.proofs.TomlLawLemmas as toml
+use Rattle.reuse_header.specs.Annotation as header
+use Rattle.reuse_tree.specs.Change.{sealed_splice}
+use Rattle.reuse_plan.specs.Amend.{table_refused_by, table_edit, table_amendment}
+use Rattle.reuse_plan.specs.AmendmentPlan.{IsWithin}
+use Rattle.reuse_plan.specs.Annotate.{edit_by}
+use Rattle.reuse_plan.specs.Conversion.{toml_path}
+use Rattle.reuse_command.specs.Covered.{is_covered}
+use Rattle.reuse_plan.specs.Edit.{Edit}
+use Rattle.reuse_plan.specs.Plan.{IsRefusalOf, MakesEdit}
+use Rattle.reuse_plan.proofs.Outcomes.{no_edit, some_edit, same_edit}
+use Rattle.reuse_plan.proofs.SpliceLemmas.{makes_splice}
+
+-- ---- its path
+
+-- it isn't covered
+pub not_table : (path : List ℕ) → is_covered path ≡ true → bytes_eq path toml_path ≡ false
+not_table path covered = false_from_ne_true (bytes_eq path toml_path) (λ e. false≢true (ap is_covered (sym ((bytes_eq-Decides path toml_path).0 e)) ∙ covered))
+
+pub is_table : (path : List ℕ) → path ≡ toml_path → bytes_eq path toml_path ≡ true
+is_table path e = (bytes_eq-Decides path toml_path).1 e
+
+-- the path of a file that is worked is covered, or that of the `REUSE.toml`
+abbrev pub IsWorkable : List ℕ → Type 0
+IsWorkable path = (is_covered path ≡ true) ⊎ (path ≡ toml_path)
+
+-- ---- what amending makes of it
+
+-- the change as an edit of a file
+abbrev pub as_edit : TomlSplice → header.Edit
+as_edit change = record { start = change.at; old_len = change.old; front = []; text = []; back = change.new }
+
+pub of_change : (path bytes : List ℕ) (due : Result (Option TomlSplice) AmendTomlRefusal) (edit : Edit) → table_amendment path bytes due ≡ some_edit edit
+    → (change : TomlSplice) × (due ≡ Ok (Some change)) × (table_edit path bytes change ≡ edit)
+of_change path bytes (Ok None) edit e = absurd (cc)
+of_change path bytes (Ok (Some change)) edit e = (change, refl, same_edit (table_edit path bytes change) edit e)
+of_change path bytes (Err refusal) edit e = absurd (cc)
+
+module _ (amendments : Amendments) (bytes : List ℕ) (change : TomlSplice) (is : toml_amendment_of amendments bytes ≡ Ok (Some change)) where
+  -- it changes something
+  pub table_differs : bytes_eq (spliced bytes change.at change.old change.new) bytes ≡ false
+  table_differs = false_from_ne_true (bytes_eq (spliced bytes change.at change.old change.new) bytes) (λ e.
+      toml.another amendments bytes change is ((bytes_eq-Decides (spliced bytes change.at change.old change.new) bytes).0 e))
+
+  pub as_edit_by : (path : List ℕ) → edit_by path path bytes (Ok (as_edit change)) ≡ some_edit (table_edit path bytes change)
+  as_edit_by path = ap (λ b. cond b no_edit (some_edit (table_edit path bytes change))) table_differs
+
+  -- the change of the file
+  pub table_made : (tree : Files) (path : List ℕ) → get tree path ≡ Some bytes → length bytes ≤ LONGEST_FILE
+      → MakesEdit tree (table_amendment path bytes (Ok (Some change))) (Some (sealed_splice path bytes change.at (take change.old (drop change.at bytes)) change.new))
+  table_made tree path here short = (
+    table_edit path bytes change,
+    refl,
+    makes_splice bytes change.at change.old (toml.within amendments bytes change is) tree path change.new here short (toml.fitting amendments bytes change is) table_differs,
+  )
+
+-- ---- by what a call answers
+
+pub within_answer : (amendments : Amendments) (bytes : List ℕ) (made : Result (Option TomlSplice) AmendTomlRefusal) → IsTomlAnswer (toml_amendment_of amendments bytes) made → IsWithin bytes made
+within_answer amendments bytes (Ok (Some change)) is = toml.within amendments bytes change is
+within_answer amendments bytes (Ok None) is = tt
+within_answer amendments bytes (Err refusal) is = tt
+
+pub table_refused : (path bytes : List ℕ) (due : Result (Option TomlSplice) AmendTomlRefusal) (refusal : AmendTomlRefusal) → IsTomlAnswer due (Err refusal)
+    → IsRefusalOf (table_amendment path bytes due) (table_refused_by path refusal)
+table_refused path bytes due BadExpression is = ap (table_amendment path bytes) is
+table_refused path bytes due CannotBeAmended is = ap (table_amendment path bytes) is
+table_refused path bytes due TooLong is = ap (table_amendment path bytes) is
+table_refused path bytes due (Memory e) is = tt

@@ -1,0 +1,16 @@
+use Rattle.std.proofs.Common.{◌≡◌, take, flat_map, All}
+use Rattle.reuse_command.specs.Reading.{OnlyReads, tree_of}
+use Rattle.reuse_tree.specs.Listing.{ArePaths}
+use Rattle.reuse_plan.specs.Shown.{ShowsPlace}
+use Rattle.reuse_plan.specs.Selected.{expanded}
+use Rattle.reuse_plan.proofs.select.expanded.Given as goal
+
+-- nothing but readings so far, and what stands in the place of the places so far
+abbrev pub invariant-loop-place : goal.invariant-loop-place
+invariant-loop-place g l =
+    let store = g.S.Store in
+    record {
+      reads : OnlyReads store l.fn.store l.store;
+      found : store.honest l.store → ArePaths l.paths → All (ShowsPlace l.scope l.paths (tree_of (store.files l.fn.store))) l.places
+          → l.found.items ≡ flat_map (expanded l.scope (tree_of (store.files l.fn.store))) (take l.place-index l.places);
+    }

@@ -1,0 +1,20 @@
+use Rattle.std.proofs.Common.{◌≡◌, ◌∙◌, ◌||◌, is_some, sym, ap}
+use Rattle.std.specs.FinMap.{get}
+use Rattle.reuse_tree.specs.Listing.{is_among}
+use Rattle.reuse_tree.proofs.TreeLemmas.{among_keys}
+use Rattle.reuse_plan.specs.Annotate.{neighbour_of, goes_beside_unread}
+use Rattle.reuse_plan.specs.AnnotationPlan.{own_of}
+use Rattle.reuse_plan.proofs.target_choice.goes_beside.Goals as goal
+use Rattle.reuse_plan.proofs.target_choice.goes_beside.Goals.{then-is_among, else-is_among}
+
+pub returns : goal.returns
+returns c tree are =
+    let asked = c.args.asked.now in
+    let path = c.args.path.now in
+    let unread = goes_beside_unread asked.scope.now (own_of asked) path in
+    let there : c.is_among.result ≡ is_some (get tree (neighbour_of path)) =
+    c.is_among.ensures are.ordered ∙ ap (is_among c.args.paths.now) (c.as_slice.ensures ∙ c.in_ok-neighbour.ensures) ∙ are.beside ∙ among_keys tree (neighbour_of path) in
+    elim c.if-is_among.branch [
+      | then-is_among w ↦ w.result-is ∙ w.if-is_among.true ∙ ap (λ b. b || unread) (sym w.if-is_among.true ∙ there)
+      | else-is_among w ↦ w.result-is ∙ w.goes_beside_unread.ensures ∙ ap (λ b. b || unread) (sym w.if-is_among.false ∙ there)
+    ]

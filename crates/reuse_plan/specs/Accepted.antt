@@ -1,0 +1,153 @@
+-- Where a command isn't refused, in other words.
+use Rattle.std.specs.Prelude.{◌≡◌, ◌⊎◌, ℕ, ◌≤◌, true, List, [], length, Some, None, Ok, IsOk, IsSome, unwrap_or}
+use Rattle.std.specs.List.{Contains}
+use Rattle.std.specs.FinMap.{get}
+use Rattle.reuse_text.specs.declared.TheConstants.{LONGEST_FILE}
+use Rattle.reuse_notice.specs.declared.adding.Additions.{Additions}
+use Rattle.reuse_notice.specs.declared.amendments.Amendments.{Amendments}
+use Rattle.reuse_header.specs.Annotation.{annotated}
+use Rattle.reuse_header.specs.Amendment.{amended_file, amendment_of, neighbour_amendment_of}
+use Rattle.reuse_header.specs.Neighbour.{is_text, neighbour_annotated}
+use Rattle.reuse_header.specs.declared.annotation.How.{How}
+use Rattle.reuse_header.specs.declared.style.Style.{Style}
+use Rattle.reuse_header.specs.declared.style.Kind.TheVariants as kind
+use Rattle.reuse_dep5.specs.Conversion.{converted}
+use Rattle.reuse_dep5.specs.TomlAmending.{toml_amendment_of}
+use Rattle.reuse_tree.specs.Files.{Files, Clashes}
+use Rattle.reuse_plan.specs.Amend.{amended_table}
+use Rattle.reuse_plan.specs.Annotate.{neighbour_of}
+use Rattle.reuse_plan.specs.Annotated.{Pair, pair_at, HasKind, IsSkipped, IsStyleOf, TakesComment, TakesNeighbour}
+use Rattle.reuse_command.specs.Command.{has_root}
+use Rattle.reuse_plan.specs.Conversion.{dep5_path, toml_path}
+use Rattle.reuse_command.specs.Covered.{is_covered}
+use Rattle.reuse_plan.specs.Downloads.{text_for}
+use Rattle.reuse_plan.specs.Licence.{is_id, licence_path}
+use Rattle.reuse_plan.specs.Outcome.{edit_count, edits_of, recorded_size}
+use Rattle.reuse_plan.specs.TreeStyles.{OwnNames, styles_in}
+use Rattle.reuse_plan.specs.Selected.{amended_paths, selected_paths}
+use Rattle.reuse_command.specs.declared.command.Command.{Command}
+use Rattle.reuse_command.specs.declared.command.Command.TheVariants.{Amend, Annotate, ConvertDep5, Download}
+use Rattle.reuse_command.specs.declared.command.Place.{Place}
+use Rattle.reuse_command.specs.declared.command.Scope.{Scope}
+use Rattle.reuse_command.specs.declared.licence.LicenceText.{LicenceText}
+
+-- one entry holds what the command changes: at most 100,000 files, and 256 MiB by what they count for
+abbrev pub FitsEntry : Command → Files → Type 0
+FitsEntry command tree =
+    (edit_count (edits_of command tree) ≤ 100_000) × (recorded_size (edits_of command tree) ≤ 268_435_456)
+
+-- ---- downloads
+
+-- the id is one, a text that isn't too long is found for it, and its path has no file and doesn't clash
+pub record CanBeDownloaded (texts : List LicenceText) (tree : Files) (id : List ℕ) : Type 0 where
+  pub good : is_id id ≡ true
+  pub text : List ℕ
+  pub found : text_for texts id ≡ Some text
+  pub short : length text ≤ LONGEST_FILE
+  pub absent : get tree (licence_path id) ≡ None
+  pub free : ¬ (Clashes tree (licence_path id))
+
+-- each text can be downloaded, and one entry holds them all
+pub record CanDownload (ids : List (List ℕ)) (texts : List LicenceText) (tree : Files) : Type 0 where
+  pub each : (id : List ℕ) → Contains ids id → CanBeDownloaded texts tree id
+  pub fits : FitsEntry (Download ids texts) tree
+
+-- ---- conversions
+
+-- there is a `.reuse/dep5` that isn't too long and is converted, `REUSE.toml` isn't there and doesn't clash, and one
+-- entry holds both
+pub record CanConvert (tree : Files) : Type 0 where
+  pub dep5 : List ℕ
+  pub there : get tree dep5_path ≡ Some dep5
+  pub short : length dep5 ≤ LONGEST_FILE
+  pub good : IsOk (converted dep5)
+  pub absent : get tree toml_path ≡ None
+  pub free : ¬ (Clashes tree toml_path)
+  pub fits : FitsEntry ConvertDep5 tree
+
+-- ---- annotations
+
+-- the file needn't be read: a neighbour is there or asked for, or the file's name takes no comment
+abbrev pub IsUnread : Scope → OwnNames → List ℕ → Pair → Type 0
+IsUnread scope own path pair =
+    IsSome pair.neighbour ⊎ (scope.force_dot_license ≡ true) ⊎ HasKind scope own path kind.Uncommentable
+
+-- the neighbour's path isn't too long, nor is the neighbour; where it isn't there its path doesn't clash
+pub record HasRoomBeside (tree : Files) (path : List ℕ) : Type 0 where
+  pub short_path : length (neighbour_of path) ≤ 4096
+  pub short : (beside : List ℕ) → get tree (neighbour_of path) ≡ Some beside → length beside ≤ LONGEST_FILE
+  pub free : get tree (neighbour_of path) ≡ None → ¬ (Clashes tree (neighbour_of path))
+
+-- the file is skipped, or the header rules accept its bytes in its style, or those of its neighbour
+abbrev pub RulesAccept : Additions → How → Scope → OwnNames → List ℕ → List ℕ → Pair → Type 0
+RulesAccept additions how scope own path bytes pair =
+    IsSkipped scope own path bytes pair
+    ⊎ ((style : Style) × TakesComment scope own path bytes pair style × IsOk (annotated style how additions bytes))
+    ⊎ (TakesNeighbour scope own path bytes pair
+    × IsOk (neighbour_annotated how additions (unwrap_or pair.neighbour [])))
+
+-- the path has a covered file, which isn't too long where it is read, room beside it where its neighbour takes the
+-- information, and what the rules accept
+pub record CanBeAnnotated (additions : Additions) (how : How) (scope : Scope) (own : OwnNames) (tree : Files) (path : List ℕ) : Type 0 where
+  pub bytes : List ℕ
+  pub there : get tree path ≡ Some bytes
+  pub covered : is_covered path ≡ true
+  pub short : ¬ (IsUnread scope own path (pair_at tree path)) → length bytes ≤ LONGEST_FILE
+  pub room : TakesNeighbour scope own path bytes (pair_at tree path) → HasRoomBeside tree path
+  pub accepted : RulesAccept additions how scope own path bytes (pair_at tree path)
+
+-- the tree's own styles are good, the root is given only where folders are gone through, each path that is gone through
+-- can be annotated, and one entry holds them all
+pub record CanAnnotate (places : List Place) (additions : Additions) (how : How) (scope : Scope) (tree : Files) : Type 0 where
+  pub own : OwnNames
+  pub styles : styles_in tree ≡ Ok own
+  pub root : has_root places ≡ true → scope.recursive ≡ true
+  pub each : (path : List ℕ) → Contains (selected_paths scope places tree) path
+      → CanBeAnnotated additions how scope own tree path
+  pub fits : FitsEntry (Annotate places additions how scope) tree
+
+-- ---- amendments
+
+-- the path of the neighbour isn't too long, nor is the neighbour, and the rules accept its bytes
+pub record CanNeighbourBeAmended (amendments : Amendments) (path beside : List ℕ) : Type 0 where
+  pub short_path : length (neighbour_of path) ≤ 4096
+  pub short : length beside ≤ LONGEST_FILE
+  pub accepted : IsOk (amended_file beside (neighbour_amendment_of amendments beside))
+
+-- the file isn't too long, and the rules accept its bytes in the style, where it is text
+pub record CanFileBeAmended (amendments : Amendments) (style : Style) (bytes : List ℕ) : Type 0 where
+  pub short : length bytes ≤ LONGEST_FILE
+  pub accepted : is_text bytes ≡ true → IsOk (amended_file bytes (amendment_of style amendments bytes))
+
+-- the path has a covered file; its neighbour can be amended where that is there, else the file itself where it has a
+-- style
+pub record CanCoveredBeAmended (amendments : Amendments) (scope : Scope) (own : OwnNames) (tree : Files) (path : List ℕ) : Type 0 where
+  pub bytes : List ℕ
+  pub there : get tree path ≡ Some bytes
+  pub covered : is_covered path ≡ true
+  pub by_neighbour : (beside : List ℕ) → get tree (neighbour_of path) ≡ Some beside
+      → CanNeighbourBeAmended amendments path beside
+  pub by_file : get tree (neighbour_of path) ≡ None → (style : Style) → IsStyleOf scope own path style
+      → CanFileBeAmended amendments style bytes
+
+-- the `REUSE.toml` is there and isn't too long, and the rules accept its bytes
+pub record CanTableBeAmended (amendments : Amendments) (tree : Files) : Type 0 where
+  pub bytes : List ℕ
+  pub there : get tree toml_path ≡ Some bytes
+  pub short : length bytes ≤ LONGEST_FILE
+  pub accepted : IsOk (amended_table bytes (toml_amendment_of amendments bytes))
+
+-- the path is that of the `REUSE.toml` at the root, which can be amended; or it has a covered file that can be
+abbrev pub CanBeAmended : Amendments → Scope → OwnNames → Files → List ℕ → Type 0
+CanBeAmended amendments scope own tree path =
+    ((path ≡ toml_path) × CanTableBeAmended amendments tree) ⊎ CanCoveredBeAmended amendments scope own tree path
+
+-- the tree's own styles are good, the root is given only where folders are gone through, each path that is gone through
+-- can be amended, and one entry holds them all
+pub record CanAmend (places : List Place) (amendments : Amendments) (scope : Scope) (tree : Files) : Type 0 where
+  pub own : OwnNames
+  pub styles : styles_in tree ≡ Ok own
+  pub root : has_root places ≡ true → scope.recursive ≡ true
+  pub each : (path : List ℕ) → Contains (amended_paths scope places tree) path
+      → CanBeAmended amendments scope own tree path
+  pub fits : FitsEntry (Amend places amendments scope) tree

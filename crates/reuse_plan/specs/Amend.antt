@@ -1,0 +1,138 @@
+-- What amend does at each path of a tree: the information is amended where it stands, in the neighbour that is there or
+-- else in the file's own header block, and in the `REUSE.toml` at the root in its values. Nothing is made, and no file
+-- is refused for want of a style (docs/RULES.md, "What amend writes").
+use Rattle.std.specs.Prelude.{ℕ, not, List, length, take, drop, nat_lt, Option, Some, None, Result, Ok, Err, if◌then◌else◌}
+use Rattle.std.specs.Str.{bytes_eq}
+use Rattle.std.specs.FinMap.{get}
+use Rattle.reuse_text.specs.Text.{spliced}
+use Rattle.reuse_dep5.specs.declared.toml_change.TomlSplice.{TomlSplice}
+use Rattle.reuse_dep5.specs.declared.toml_values.AmendTomlRefusal.{AmendTomlRefusal}
+use Rattle.reuse_dep5.specs.declared.toml_values.AmendTomlRefusal.TheVariants as toml_refusals
+use Rattle.reuse_dep5.specs.TomlAmending.{toml_amendment_of}
+use Rattle.reuse_notice.specs.declared.amendments.Amendments.{Amendments}
+use Rattle.reuse_header.specs.declared.style.Style.{Style}
+use Rattle.reuse_header.specs.declared.style.Kind.{Kind}
+use Rattle.reuse_header.specs.declared.style.Kind.TheVariants as kind
+use Rattle.reuse_header.specs.declared.amendment.AmendHeaderRefusal.{AmendHeaderRefusal}
+use Rattle.reuse_header.specs.declared.amendment.AmendHeaderRefusal.TheVariants as header_refusals
+use Rattle.reuse_header.specs.Names.{kind_in}
+use Rattle.reuse_text.specs.declared.TheConstants.{LONGEST_FILE}
+use Rattle.reuse_header.specs.Amendment.{amendment_of, neighbour_amendment_of}
+use Rattle.reuse_header.specs.Annotation as header
+use Rattle.reuse_header.specs.Neighbour.{is_text}
+use Rattle.reuse_tree.specs.Files.{Files}
+use Rattle.reuse_tree.specs.Listing.{is_folder}
+use Rattle.reuse_plan.specs.Annotate.{neighbour_of, edit_by}
+use Rattle.reuse_plan.specs.Conversion.{toml_path}
+use Rattle.reuse_command.specs.Covered.{is_covered}
+use Rattle.reuse_plan.specs.Edit.{Edit}
+use Rattle.reuse_plan.specs.HeaderFaults.{refused_by}
+use Rattle.reuse_plan.specs.TreeStyles.{OwnNames}
+use Rattle.reuse_command.specs.declared.amend_fault.AmendFault.TheVariants.{BadExpression, NothingLeft, CannotBeAmended}
+use Rattle.reuse_command.specs.declared.command.Place.TheVariants as place
+use Rattle.reuse_command.specs.declared.command.Scope.{Scope}
+use Rattle.reuse_command.specs.declared.reply.Refusal.{Refusal}
+use Rattle.reuse_command.specs.declared.failure.Failure.TheVariants.{Memory}
+use Rattle.reuse_command.specs.declared.reply.Refusal.TheVariants.{NoSuchPath, IsFolder, NotCovered, TooLong, Amend, Failed}
+
+-- ---- the style of a file
+
+abbrev pub style_of_kind : Kind → Option Style
+style_of_kind (kind.Style style) = Some style
+style_of_kind kind.Uncommentable = None
+style_of_kind kind.Unknown = None
+
+-- the one that is asked for
+abbrev pub style_or_named : Option Style → Kind → Option Style
+style_or_named (Some style) of_name = Some style
+style_or_named None of_name = style_of_kind of_name
+
+-- else that of the name, of which the tree's own stand first
+abbrev pub style_for : Scope → OwnNames → List ℕ → Option Style
+style_for scope own path = style_or_named scope.style (kind_in own path)
+
+-- ---- what is done at a place
+
+-- why a file can't be amended, as a refusal that names it
+abbrev pub amend_refused_by : List ℕ → AmendHeaderRefusal → Refusal
+amend_refused_by path header_refusals.BadExpression = Amend path BadExpression
+amend_refused_by path header_refusals.NothingLeft = Amend path NothingLeft
+amend_refused_by path (header_refusals.Header refusal) = refused_by path refusal
+
+-- what amending makes of the bytes at a place; a refusal names the file
+abbrev pub amendment_edit : List ℕ → List ℕ → List ℕ → Result (Option header.Edit) AmendHeaderRefusal
+    → Result (Option Edit) Refusal
+amendment_edit path at bytes (Ok None) = Ok None
+amendment_edit path at bytes (Ok (Some edit)) = edit_by path at bytes (Ok edit)
+amendment_edit path at bytes (Err refusal) = Err (amend_refused_by path refusal)
+
+-- the neighbour that is there, of these bytes
+abbrev pub amend_neighbour : Amendments → List ℕ → List ℕ → Result (Option Edit) Refusal
+amend_neighbour amendments path beside =
+    if nat_lt 4096 (length (neighbour_of path)) then Err (TooLong path)
+    else if nat_lt LONGEST_FILE (length beside) then Err (TooLong path)
+    else amendment_edit path (neighbour_of path) beside (neighbour_amendment_of amendments beside)
+
+-- the header block of a file that is text; without a style it isn't looked for
+abbrev pub amend_inside : Amendments → List ℕ → List ℕ → Option Style → Result (Option Edit) Refusal
+amend_inside amendments path bytes None = Ok None
+amend_inside amendments path bytes (Some style) =
+    if nat_lt LONGEST_FILE (length bytes) then Err (TooLong path)
+    else if not (is_text bytes) then Ok None
+    else amendment_edit path path bytes (amendment_of style amendments bytes)
+
+-- the neighbour where it is there, else the file
+abbrev pub amend_covered : Amendments → Scope → OwnNames → List ℕ → List ℕ → Option (List ℕ)
+    → Result (Option Edit) Refusal
+amend_covered amendments scope own path bytes (Some beside) = amend_neighbour amendments path beside
+amend_covered amendments scope own path bytes None = amend_inside amendments path bytes (style_for scope own path)
+
+-- ---- the `REUSE.toml`
+
+-- why it can't be amended, as a refusal that names it
+abbrev pub table_refused_by : List ℕ → AmendTomlRefusal → Refusal
+table_refused_by path toml_refusals.BadExpression = Amend path BadExpression
+table_refused_by path toml_refusals.CannotBeAmended = Amend path CannotBeAmended
+table_refused_by path toml_refusals.TooLong = TooLong path
+table_refused_by path (toml_refusals.Memory e) = Failed Memory
+
+-- a change of one range of its bytes
+abbrev pub table_edit : List ℕ → List ℕ → TomlSplice → Edit
+table_edit path bytes change = record {
+  path = path;
+  removed = take change.old (drop change.at bytes);
+  written = change.new;
+  file = Some (spliced bytes change.at change.old change.new);
+}
+
+-- what amending makes of its bytes; a refusal names the file
+abbrev pub table_amendment : List ℕ → List ℕ → Result (Option TomlSplice) AmendTomlRefusal
+    → Result (Option Edit) Refusal
+table_amendment path bytes (Ok None) = Ok None
+table_amendment path bytes (Ok (Some change)) = Ok (Some (table_edit path bytes change))
+table_amendment path bytes (Err refusal) = Err (table_refused_by path refusal)
+
+-- the text that amending makes, or the refusal
+abbrev pub amended_table : List ℕ → Result (Option TomlSplice) AmendTomlRefusal → Result (List ℕ) AmendTomlRefusal
+amended_table bytes (Ok None) = Ok bytes
+amended_table bytes (Ok (Some change)) = Ok (spliced bytes change.at change.old change.new)
+amended_table bytes (Err refusal) = Err refusal
+
+abbrev pub amend_table : Amendments → List ℕ → List ℕ → Result (Option Edit) Refusal
+amend_table amendments path bytes =
+    if nat_lt LONGEST_FILE (length bytes) then Err (TooLong path) else table_amendment path bytes (toml_amendment_of amendments bytes)
+
+-- ---- a path
+
+-- what amend does at a path, where the tree has this
+abbrev pub amended_where : Amendments → Scope → OwnNames → Files → List ℕ → Option (List ℕ)
+    → Result (Option Edit) Refusal
+amended_where amendments scope own tree path None =
+    if is_folder tree path then Err (IsFolder (place.Path path)) else Err (NoSuchPath path)
+amended_where amendments scope own tree path (Some bytes) =
+    if bytes_eq path toml_path then amend_table amendments path bytes
+    else if not (is_covered path) then Err (NotCovered path)
+    else amend_covered amendments scope own path bytes (get tree (neighbour_of path))
+
+abbrev pub amended_at : Amendments → Scope → OwnNames → Files → List ℕ → Result (Option Edit) Refusal
+amended_at amendments scope own tree path = amended_where amendments scope own tree path (get tree path)

@@ -1,0 +1,107 @@
+-- What amend makes of a tree, in other words: each file that is gone through, or its neighbour where that is there,
+-- becomes what the rules say of these bytes alone, the `REUSE.toml` what they say of its values, and all else stays.
+use Rattle.std.specs.Prelude.{◌≡◌, ◌≢◌, ◌⊎◌, ℕ, true, false, List, Some, None, is_some, Ok}
+use Rattle.std.specs.List.{Contains}
+use Rattle.std.specs.Option.{option_map}
+use Rattle.std.specs.FinMap.{get}
+use Rattle.reuse_text.specs.Text.{mark_len_of}
+use Rattle.reuse_notice.specs.declared.amendments.Amendments.{Amendments}
+use Rattle.reuse_dep5.specs.TomlAmending.{toml_amendment_of}
+use Rattle.reuse_dep5.specs.TomlLaws.{IsAmendedText, DiffersInStrings}
+use Rattle.reuse_header.specs.declared.style.Style.{Style}
+use Rattle.reuse_header.specs.declared.style.Kind.TheVariants as kind
+use Rattle.reuse_header.specs.Amendment.{amended_file, amendment_of, neighbour_amendment_of}
+use Rattle.reuse_header.specs.Header.{HeaderSpan, header_of, span_in}
+use Rattle.reuse_header.specs.Neighbour.{is_text, neighbour_end}
+use Rattle.reuse_tree.specs.Files.{Files}
+use Rattle.reuse_plan.specs.Amend.{amended_table}
+use Rattle.reuse_plan.specs.Annotate.{neighbour_of}
+use Rattle.reuse_plan.specs.Annotated.{IsSameAround, IsStyleOf, HasKind, Pair, pair_at}
+use Rattle.reuse_plan.specs.Conversion.{toml_path}
+use Rattle.reuse_command.specs.Covered.{is_covered}
+use Rattle.reuse_plan.specs.TreeStyles.{OwnNames, styles_in}
+use Rattle.reuse_plan.specs.Selected.{amended_paths}
+use Rattle.reuse_command.specs.declared.command.Place.{Place}
+use Rattle.reuse_command.specs.declared.command.Scope.{Scope}
+
+-- ---- one file
+
+-- there is a header block, and each byte outside it stays
+abbrev pub KeepsOutsideBlock : Style → List ℕ → List ℕ → Type 0
+KeepsOutsideBlock style old new =
+    (block : HeaderSpan) × (option_map (span_in old) (header_of style old) ≡ Some block)
+    × IsSameAround block.start block.end old new
+
+-- The neighbour is there. It holds what the rules make of its own bytes, and the file stays. It is as it was, or each
+-- byte outside its block stays.
+pub record IsNeighbourAmended (amendments : Amendments) (old new : Pair) : Type 0 where
+  pub beside : List ℕ
+  pub there : old.neighbour ≡ Some beside
+  pub made : List ℕ
+  pub by_rules : amended_file beside (neighbour_amendment_of amendments beside) ≡ Ok made
+  pub holds : new ≡ record { file = old.file; neighbour = Some made }
+  pub keeps : (made ≡ beside) ⊎ IsSameAround (mark_len_of beside) (neighbour_end beside) beside made
+
+-- The file has no neighbour, is text and has a style. It holds what the rules make of its own bytes, and no neighbour
+-- is made. It is as it was, or has a header block and each byte outside it stays.
+pub record IsFileAmended (amendments : Amendments) (scope : Scope) (own : OwnNames) (path bytes : List ℕ) (old new : Pair) : Type 0 where
+  pub alone : old.neighbour ≡ None
+  pub text : is_text bytes ≡ true
+  pub style : Style
+  pub of_style : IsStyleOf scope own path style
+  pub made : List ℕ
+  pub by_rules : amended_file bytes (amendment_of style amendments bytes) ≡ Ok made
+  pub holds : new ≡ record { file = Some made; neighbour = None }
+  pub keeps : (made ≡ bytes) ⊎ KeepsOutsideBlock style bytes made
+
+-- it has no neighbour, and isn't text or has no style, so that nothing in it is amended
+abbrev pub HasNoPlace : Scope → OwnNames → List ℕ → List ℕ → Pair → Type 0
+HasNoPlace scope own path bytes pair =
+    (pair.neighbour ≡ None)
+    × ((is_text bytes ≡ false) ⊎ HasKind scope own path kind.Uncommentable ⊎ HasKind scope own path kind.Unknown)
+
+-- the path has a covered file, which has no place that is amended, and then both stay; or it is amended, or its
+-- neighbour is
+pub record IsCoveredAmended (amendments : Amendments) (scope : Scope) (own : OwnNames) (path : List ℕ) (old new : Pair) : Type 0 where
+  pub bytes : List ℕ
+  pub there : old.file ≡ Some bytes
+  pub covered : is_covered path ≡ true
+  pub becomes : (HasNoPlace scope own path bytes old × (new ≡ old))
+      ⊎ IsFileAmended amendments scope own path bytes old new ⊎ IsNeighbourAmended amendments old new
+
+-- ---- the `REUSE.toml`
+
+-- It is there, and holds what the rules make of its own bytes. That is read as the old table with the values of the two
+-- keys amended. It is as it was, or differs in strings and commas alone, so that each comment stays. A neighbour of it
+-- stays.
+pub record IsTableAmended (amendments : Amendments) (old new : Pair) : Type 0 where
+  pub bytes : List ℕ
+  pub there : old.file ≡ Some bytes
+  pub made : List ℕ
+  pub by_rules : amended_table bytes (toml_amendment_of amendments bytes) ≡ Ok made
+  pub holds : new ≡ record { file = Some made; neighbour = old.neighbour }
+  pub reads : IsAmendedText amendments bytes made
+  pub keeps : (made ≡ bytes) ⊎ DiffersInStrings bytes made
+
+-- the path is that of the `REUSE.toml` at the root, which is amended; or it has a covered file, which is
+abbrev pub IsAmended : Amendments → Scope → OwnNames → List ℕ → Pair → Pair → Type 0
+IsAmended amendments scope own path old new =
+    ((path ≡ toml_path) × IsTableAmended amendments old new) ⊎ IsCoveredAmended amendments scope own path old new
+
+-- ---- the tree
+
+-- by the tree's own names each file that is gone through is amended, and each path holds what it held that is none of
+-- these nor a neighbour of one
+pub record Amends (places : List Place) (amendments : Amendments) (scope : Scope) (before after : Files) : Type 0 where
+  pub own : OwnNames
+  pub styles : styles_in before ≡ Ok own
+  pub selected : (path : List ℕ) → Contains (amended_paths scope places before) path
+      → IsAmended amendments scope own path (pair_at before path) (pair_at after path)
+  pub others : (other : List ℕ)
+      → ((path : List ℕ) → Contains (amended_paths scope places before) path → (other ≢ path)
+      × (other ≢ neighbour_of path))
+      → get after other ≡ get before other
+
+-- no file is made, and none is removed
+abbrev pub HaveSamePaths : Files → Files → Type 0
+HaveSamePaths before after = (path : List ℕ) → is_some (get after path) ≡ is_some (get before path)

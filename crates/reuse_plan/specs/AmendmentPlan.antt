@@ -1,0 +1,55 @@
+-- What an amendment that is asked for does, by the styles of its tree, for private clauses.
+use Rattle.std.specs.Prelude.{ℕ, ◌+◌, ◌≤◌, List, length, Option, Some, None, Result, Ok, Err}
+use Rattle.reuse_dep5.specs.declared.toml_change.TomlSplice.{TomlSplice}
+use Rattle.reuse_dep5.specs.declared.toml_values.AmendTomlRefusal.{AmendTomlRefusal}
+use Rattle.reuse_header.specs.Annotation as header
+use Rattle.reuse_header.specs.Names.{lookup}
+use Rattle.reuse_header.specs.declared.amendment.AmendHeaderRefusal.{AmendHeaderRefusal}
+use Rattle.reuse_header.specs.declared.style.Style.{Style}
+use Rattle.reuse_text.specs.declared.TheConstants.{LONGEST_FILE}
+use Rattle.reuse_tree.specs.Files.{Files}
+use Rattle.reuse_plan.specs.Amend.{amended_at, amend_inside, amend_neighbour, amend_table, style_for}
+use Rattle.reuse_plan.specs.Edit.{Edit}
+use Rattle.reuse_plan.specs.TreeStyles.{OwnNames}
+use Rattle.reuse_plan.specs.declared.annotation.Amendment.{Amendment}
+use Rattle.reuse_command.specs.declared.reply.Refusal.{Refusal}
+
+-- what amending makes of a file, which may be nothing
+abbrev pub Due : Type 0
+Due = Result (Option header.Edit) AmendHeaderRefusal
+
+-- an edit is within its file, and makes none that is too long
+abbrev pub Fits : List ℕ → Due → Type 0
+Fits bytes (Ok (Some edit)) =
+    (edit.start + edit.old_len ≤ length bytes) × (length (header.edited bytes edit) ≤ LONGEST_FILE)
+Fits bytes (Ok None) = Unit {0}
+Fits bytes (Err refusal) = Unit {0}
+
+-- the tree's own names
+abbrev pub names_of : Amendment → OwnNames
+names_of asked = lookup asked.styles.now
+
+abbrev pub amended_by : Amendment → Files → List ℕ → Result (Option Edit) Refusal
+amended_by asked tree path = amended_at asked.amendments.now asked.scope.now (names_of asked) tree path
+
+-- the style of the file
+abbrev pub style_by : Amendment → List ℕ → Option Style
+style_by asked path = style_for asked.scope.now (names_of asked) path
+
+-- where its neighbour is there, of these bytes
+abbrev pub beside_by : Amendment → List ℕ → List ℕ → Result (Option Edit) Refusal
+beside_by asked path beside = amend_neighbour asked.amendments.now path beside
+
+-- where it isn't, and the file has these bytes
+abbrev pub inside_by : Amendment → List ℕ → List ℕ → Option Style → Result (Option Edit) Refusal
+inside_by asked path bytes style = amend_inside asked.amendments.now path bytes style
+
+-- the `REUSE.toml`, of these bytes
+abbrev pub table_by : Amendment → List ℕ → List ℕ → Result (Option Edit) Refusal
+table_by asked path bytes = amend_table asked.amendments.now path bytes
+
+-- the change that is made of it stands in the file
+abbrev pub IsWithin : List ℕ → Result (Option TomlSplice) AmendTomlRefusal → Type 0
+IsWithin bytes (Ok (Some change)) = change.at + change.old ≤ length bytes
+IsWithin bytes (Ok None) = Unit {0}
+IsWithin bytes (Err refusal) = Unit {0}

@@ -1,0 +1,141 @@
+-- What annotate does at each path of a tree: which place is written, and with what. The options are those of the reuse
+-- tool's manual page of `annotate`; what that page leaves open is decided here.
+use Rattle.std.specs.Prelude.{ℕ, Bool, true, false, not, ◌&&◌, ◌||◌, List, [], ◌++◌, length, take, drop, codes, nat_lt, Option, Some, None, is_some, is_none, Result, Ok, Err, if◌then◌else◌}
+use Rattle.std.specs.List.{list_any}
+use Rattle.std.specs.Str.{bytes_eq}
+use Rattle.std.specs.FinMap.{get}
+use Rattle.reuse_notice.specs.declared.adding.Additions.{Additions}
+use Rattle.reuse_header.specs.declared.style.Style.{Style}
+use Rattle.reuse_header.specs.declared.style.Kind.{Kind}
+use Rattle.reuse_header.specs.declared.style.Kind.TheVariants as kind
+use Rattle.reuse_header.specs.declared.annotation.How.{How}
+use Rattle.reuse_header.specs.declared.annotation.HeaderRefusal.{HeaderRefusal}
+use Rattle.reuse_header.specs.Names.{kind_in}
+use Rattle.reuse_text.specs.declared.TheConstants.{LONGEST_FILE}
+use Rattle.reuse_plan.specs.TreeStyles.{OwnNames}
+use Rattle.reuse_header.specs.Header.{header_of, neighbour_contents}
+use Rattle.reuse_header.specs.Tagged.{has_tag}
+use Rattle.reuse_header.specs.Annotation as header
+use Rattle.reuse_header.specs.Neighbour.{is_text, neighbour_annotation_of}
+use Rattle.reuse_tree.specs.Files.{Files}
+use Rattle.reuse_command.specs.Covered.{is_covered}
+use Rattle.reuse_tree.specs.Listing.{is_folder}
+use Rattle.reuse_plan.specs.Edit.{Edit}
+use Rattle.reuse_plan.specs.HeaderFaults.{refused_by}
+use Rattle.reuse_tree.specs.Clash.{is_clash}
+use Rattle.reuse_command.specs.declared.command.Scope.{Scope}
+use Rattle.reuse_command.specs.declared.command.Unknown.{Unknown}
+use Rattle.reuse_command.specs.declared.command.Unknown.TheVariants as unknown
+use Rattle.reuse_command.specs.declared.command.Place.TheVariants as place
+use Rattle.reuse_plan.specs.declared.target.Target.{Target}
+use Rattle.reuse_plan.specs.declared.target.Target.TheVariants.{Inside, Beside, Nowhere}
+use Rattle.reuse_command.specs.declared.reply.Refusal.{Refusal}
+use Rattle.reuse_command.specs.declared.reply.Refusal.TheVariants.{NoSuchPath, IsFolder, NotCovered, TooLong, Unrecognised, Clash}
+
+-- ---- where a file's licensing information goes
+
+-- the file beside a file that holds its licensing information
+abbrev pub neighbour_of : List ℕ → List ℕ
+neighbour_of path = path ++ codes ".license"
+
+-- where the name has no style: as it is asked for
+abbrev pub target_of_unknown : Unknown → List ℕ → Result Target Refusal
+target_of_unknown unknown.Refuse path = Err (Unrecognised path)
+target_of_unknown unknown.Neighbour path = Ok Beside
+target_of_unknown unknown.Skip path = Ok Nowhere
+
+-- by the name of the file
+abbrev pub target_by_name : Unknown → List ℕ → Kind → Result Target Refusal
+target_by_name asked path (kind.Style style) = Ok (Inside style)
+target_by_name asked path kind.Uncommentable = Ok Beside
+target_by_name asked path kind.Unknown = target_of_unknown asked path
+
+-- by the style that is asked for, else by the name; the tree's own names stand first
+abbrev pub target_by_style : Scope → OwnNames → List ℕ → Option Style → Result Target Refusal
+target_by_style scope own path (Some style) = Ok (Inside style)
+target_by_style scope own path None = target_by_name scope.unknown path (kind_in own path)
+
+-- by the bytes of the file: a binary goes to its neighbour
+abbrev pub target_by_bytes : Scope → OwnNames → List ℕ → List ℕ → Result Target Refusal
+target_by_bytes scope own path bytes =
+    if nat_lt LONGEST_FILE (length bytes) then Err (TooLong path)
+    else if not (is_text bytes) then Ok Beside
+    else target_by_style scope own path scope.style
+
+-- a name that takes no comment
+abbrev pub is_uncommentable : Kind → Bool
+is_uncommentable (kind.Style style) = false
+is_uncommentable kind.Uncommentable = true
+is_uncommentable kind.Unknown = false
+
+-- the target is the neighbour, whether that is there or not: it is asked for, or the name takes no comment and no style
+-- is asked for
+abbrev pub goes_beside_unread : Scope → OwnNames → List ℕ → Bool
+goes_beside_unread scope own path =
+    scope.force_dot_license || (is_none scope.style && is_uncommentable (kind_in own path))
+
+-- the target is the neighbour, whatever the file holds: so, or since it is there
+abbrev pub goes_beside : Scope → OwnNames → Files → List ℕ → Bool
+goes_beside scope own tree path = is_some (get tree (neighbour_of path)) || goes_beside_unread scope own path
+
+abbrev pub target_of : Scope → OwnNames → Files → List ℕ → List ℕ → Result Target Refusal
+target_of scope own tree path bytes =
+    if goes_beside scope own tree path then Ok Beside else target_by_bytes scope own path bytes
+
+-- ---- what is done there
+
+-- what an annotation makes of the bytes at a place; a refusal names the file
+abbrev pub edit_by : List ℕ → List ℕ → List ℕ → Result header.Edit HeaderRefusal → Result (Option Edit) Refusal
+edit_by path at bytes (Err refusal) = Err (refused_by path refusal)
+edit_by path at bytes (Ok edit) =
+    if bytes_eq (header.edited bytes edit) bytes then Ok None
+    else Ok (Some (record {
+      path = at;
+      removed = take edit.old_len (drop edit.start bytes);
+      written = header.new_bytes edit;
+      file = Some (header.edited bytes edit);
+    }))
+
+-- a file's own comment, unless it has a header block and such files are skipped
+abbrev pub edit_inside : How → Scope → Additions → List ℕ → List ℕ → Style → Result (Option Edit) Refusal
+edit_inside how scope additions path bytes style =
+    if scope.skip_existing && is_some (header_of style bytes) then Ok None
+    else edit_by path path bytes (header.annotation_of style how additions bytes)
+
+-- whether a neighbour has licensing information
+abbrev pub neighbour_is_tagged : List ℕ → Bool
+neighbour_is_tagged bytes = list_any (has_tag []) (neighbour_contents bytes)
+
+-- the neighbour that is there, or that is made
+abbrev pub edit_neighbour : How → Scope → Additions → Files → List ℕ → Option (List ℕ) → Result (Option Edit) Refusal
+edit_neighbour how scope additions tree path None =
+    if is_clash tree (neighbour_of path) then Err (Clash (neighbour_of path))
+    else edit_by path (neighbour_of path) [] (neighbour_annotation_of how additions [])
+edit_neighbour how scope additions tree path (Some bytes) =
+    if nat_lt LONGEST_FILE (length bytes) then Err (TooLong path)
+    else if scope.skip_existing && neighbour_is_tagged bytes then Ok None
+    else edit_by path (neighbour_of path) bytes (neighbour_annotation_of how additions bytes)
+
+abbrev pub edit_beside : How → Scope → Additions → Files → List ℕ → Result (Option Edit) Refusal
+edit_beside how scope additions tree path =
+    if nat_lt 4096 (length (neighbour_of path)) then Err (TooLong path)
+    else edit_neighbour how scope additions tree path (get tree (neighbour_of path))
+
+abbrev pub edit_target : How → Scope → Additions → Files → List ℕ → List ℕ → Result Target Refusal
+    → Result (Option Edit) Refusal
+edit_target how scope additions tree path bytes (Err refusal) = Err refusal
+edit_target how scope additions tree path bytes (Ok Nowhere) = Ok None
+edit_target how scope additions tree path bytes (Ok Beside) = edit_beside how scope additions tree path
+edit_target how scope additions tree path bytes (Ok (Inside style)) = edit_inside how scope additions path bytes style
+
+-- what annotate does at a path, where the tree has this
+abbrev pub annotated_where : How → Scope → Additions → OwnNames → Files → List ℕ → Option (List ℕ)
+    → Result (Option Edit) Refusal
+annotated_where how scope additions own tree path None =
+    if is_folder tree path then Err (IsFolder (place.Path path)) else Err (NoSuchPath path)
+annotated_where how scope additions own tree path (Some bytes) =
+    if not (is_covered path) then Err (NotCovered path)
+    else edit_target how scope additions tree path bytes (target_of scope own tree path bytes)
+
+abbrev pub annotated_at : How → Scope → Additions → OwnNames → Files → List ℕ → Result (Option Edit) Refusal
+annotated_at how scope additions own tree path = annotated_where how scope additions own tree path (get tree path)

@@ -1,0 +1,109 @@
+-- What a command gives on a whole tree: the tree after it, or the first refusal.
+use Rattle.std.specs.Prelude.{ℕ, ◌+◌, ◌*◌, not, ◌&&◌, ◌||◌, Bool, false, List, [], ◌∷◌, length, map, Option, Some, None, Result, Ok, Err, nat_lt, if◌then◌else◌}
+use Rattle.std.specs.List.{sum_by}
+use Rattle.std.specs.FinMap.{insert, remove}
+use Rattle.reuse_notice.specs.declared.adding.Additions.{Additions}
+use Rattle.reuse_notice.specs.declared.amendments.Amendments.{Amendments}
+use Rattle.reuse_header.specs.declared.annotation.How.{How}
+use Rattle.reuse_tree.specs.Files.{Files}
+use Rattle.reuse_plan.specs.Amend.{amended_at}
+use Rattle.reuse_plan.specs.Annotate.{annotated_at}
+use Rattle.reuse_command.specs.Command.{has_root}
+use Rattle.reuse_plan.specs.Conversion.{conversion_edits}
+use Rattle.reuse_plan.specs.Downloads.{downloads_at}
+pub use Rattle.reuse_plan.specs.Edit.{Edit}
+use Rattle.reuse_plan.specs.PathEdits.{PathEdit, refused_alone, all_or_none, edits_in}
+use Rattle.reuse_plan.specs.Reverting.{reverted_at}
+use Rattle.reuse_plan.specs.Skipped.{is_skipped}
+use Rattle.reuse_plan.specs.TreeStyles.{OwnNames, styles_in}
+use Rattle.reuse_plan.specs.Selected.{with_table, selected_paths}
+use Rattle.reuse_command.specs.declared.command.Command.{Command}
+use Rattle.reuse_command.specs.declared.command.Command.TheVariants.{Annotate, Amend, ConvertDep5, Download, Revert}
+use Rattle.reuse_command.specs.declared.command.Place.{Place}
+use Rattle.reuse_command.specs.declared.command.Place.TheVariants as place
+use Rattle.reuse_command.specs.declared.command.Scope.{Scope}
+use Rattle.reuse_command.specs.declared.reply.Refusal.{Refusal}
+use Rattle.reuse_command.specs.declared.reply.Refusal.TheVariants.{IsFolder, TooMany}
+
+-- ---- edits
+
+-- the tree with this at the path
+abbrev pub with_file : Files → List ℕ → Option (List ℕ) → Files
+with_file tree path None = remove tree path
+with_file tree path (Some bytes) = insert tree path bytes
+
+-- the tree after the edits, which are of distinct paths
+abbrev pub edited : Files → List Edit → Files
+edited tree [] = tree
+edited tree (edit ∷ edits) = with_file (edited tree edits) edit.path edit.file
+
+-- what an edit counts for in the size of an entry
+abbrev pub edit_size : Edit → ℕ
+edit_size edit = 512 + 6 * length edit.path + 2 * length edit.removed + 2 * length edit.written
+
+-- more than an entry holds
+abbrev pub is_too_many : List Edit → Bool
+is_too_many edits = nat_lt 100_000 (length edits) || nat_lt 268_435_456 (256 + sum_by edit_size edits)
+
+-- the size of the entry that records them
+abbrev pub recorded_size : Result (List Edit) Refusal → ℕ
+recorded_size (Err refusal) = 0
+recorded_size (Ok edits) = 256 + sum_by edit_size edits
+
+-- how many files they change
+abbrev pub edit_count : Result (List Edit) Refusal → ℕ
+edit_count (Err refusal) = 0
+edit_count (Ok edits) = length edits
+
+-- ---- commands, path by path
+
+-- one for each path that is gone through, in byte order, without repeats; the root stands alone where folders aren't
+-- gone through, since it is one
+abbrev pub at_places : (List ℕ → PathEdit) → Scope → List Place → Files → List PathEdit
+at_places at scope places tree =
+    if not scope.recursive && has_root places then refused_alone (IsFolder place.Root) else map at (selected_paths scope places tree)
+
+-- what annotate does at a path, where the tree gives these kinds to its own names
+abbrev pub annotation_at : How → Scope → Additions → OwnNames → Files → List ℕ → PathEdit
+annotation_at how scope additions own tree path =
+    record { path = path; skipped = is_skipped scope own tree path; edit = annotated_at how scope additions own tree path }
+
+-- at these places; the refusal of the tree's styles stands alone
+abbrev pub annotations_by : List Place → Additions → How → Scope → Files → Result OwnNames Refusal → List PathEdit
+annotations_by places additions how scope tree (Err refusal) = refused_alone refusal
+annotations_by places additions how scope tree (Ok own) =
+    at_places (annotation_at how scope additions own tree) scope places tree
+
+-- what amend does at a path: it skips none
+abbrev pub amendment_at : Amendments → Scope → OwnNames → Files → List ℕ → PathEdit
+amendment_at amendments scope own tree path =
+    record { path = path; skipped = false; edit = amended_at amendments scope own tree path }
+
+abbrev pub amendments_by : List Place → Amendments → Scope → Files → Result OwnNames Refusal → List PathEdit
+amendments_by places amendments scope tree (Err refusal) = refused_alone refusal
+amendments_by places amendments scope tree (Ok own) =
+    at_places (amendment_at amendments scope own tree) scope places tree
+
+-- what a command does, path by path
+abbrev pub path_edits_of : Command → Files → List PathEdit
+path_edits_of (Annotate places additions how scope) tree =
+    annotations_by places additions how scope tree (styles_in tree)
+path_edits_of (Amend places amendments scope) tree =
+    amendments_by (with_table scope places tree) amendments scope tree (styles_in tree)
+path_edits_of ConvertDep5 tree = all_or_none (conversion_edits tree)
+path_edits_of (Download ids texts) tree = downloads_at ids texts tree
+path_edits_of (Revert changes touched skip_moved) tree = map (reverted_at touched skip_moved tree) changes
+
+-- ---- the outcome
+
+-- the edits of all paths, or the first refusal
+abbrev pub edits_of : Command → Files → Result (List Edit) Refusal
+edits_of command tree = edits_in (path_edits_of command tree)
+
+-- the tree after the edits, unless they are too many
+abbrev pub tree_after : Files → Result (List Edit) Refusal → Result Files Refusal
+tree_after tree (Err refusal) = Err refusal
+tree_after tree (Ok edits) = if is_too_many edits then Err TooMany else Ok (edited tree edits)
+
+unfoldable pub outcome_of : Command → Files → Result Files Refusal
+outcome_of command tree = tree_after tree (edits_of command tree)

@@ -1,0 +1,68 @@
+-- What a listing of a part of the tree shows of a path.
+use Rattle.std.specs.Prelude.{◌≡◌, ℕ, false, List, [], ◌∷◌, length, nat_lt, filter, flat_map, true, if◌then◌else◌}
+use Rattle.std.specs.List.{All}
+use Rattle.std.specs.FinMap.{keys}
+use Rattle.reuse_tree.specs.Clash.{is_clash, is_clash_of}
+use Rattle.reuse_tree.specs.Files.{Files}
+use Rattle.reuse_tree.specs.Listing.{ArePaths, is_among, is_folder, is_folder_of}
+use Rattle.reuse_plan.specs.Annotate.{neighbour_of}
+use Rattle.reuse_tree.specs.Path.{lies_under}
+use Rattle.reuse_command.specs.Choice.{is_chosen}
+use Rattle.reuse_command.specs.Command.{has_root}
+use Rattle.reuse_plan.specs.Licence.{licence_path}
+use Rattle.reuse_command.specs.declared.command.Place.{Place}
+use Rattle.reuse_command.specs.declared.command.Place.TheVariants.{Root, Path}
+use Rattle.reuse_command.specs.declared.command.Scope.{Scope}
+use Rattle.reuse_plan.specs.declared.select.Listing.{Listing}
+use Rattle.reuse_plan.specs.declared.select.Listing.TheVariants.{Listed, Alone}
+
+-- these paths, which are in byte order, have the path exactly if the tree has it, and it clashes with them exactly if
+-- it does with the tree
+pub record Shows (paths : List (List ℕ)) (tree : Files) (path : List ℕ) : Type 0 where
+  pub ordered : ArePaths paths
+  pub there : is_among paths path ≡ is_among (keys tree) path
+  pub clash : is_clash_of paths path ≡ is_clash tree path
+
+-- so it is at the path of each licence
+pub record ShowsLicences (paths : List (List ℕ)) (tree : Files) : Type 0 where
+  pub each : (id : List ℕ) → Shows paths tree (licence_path id)
+
+-- these paths, which are in byte order, have the path and its neighbour exactly if the tree has them; where it lacks
+-- the path, that is a folder of these exactly if it is one of the tree
+pub record ShowsPair (paths : List (List ℕ)) (tree : Files) (path : List ℕ) : Type 0 where
+  pub ordered : ArePaths paths
+  pub there : is_among paths path ≡ is_among (keys tree) path
+  pub beside : is_among paths (neighbour_of path) ≡ is_among (keys tree) (neighbour_of path)
+  pub folder : is_among (keys tree) path ≡ false → is_folder_of paths path ≡ is_folder tree path
+
+-- the listing, if there is one, shows the path and its neighbour
+abbrev pub ShowsOne : Listing → Files → List ℕ → Type 0
+ShowsOne (Listed paths) tree path = ShowsPair paths tree path
+ShowsOne Alone tree path = Unit {0}
+
+-- so it does of each of these
+pub record ShowsEach (listing : Listing) (tree : Files) (paths : List (List ℕ)) : Type 0 where
+  pub each : All (ShowsOne listing tree) paths
+
+-- the path of the neighbour, unless that is over 4,096 bytes
+abbrev pub neighbours_of : List ℕ → List (List ℕ)
+neighbours_of path = if nat_lt 4096 (length (neighbour_of path)) then [] else neighbour_of path ∷ []
+
+-- these paths, each with its neighbour behind it
+abbrev pub with_neighbours : List (List ℕ) → List (List ℕ)
+with_neighbours paths = flat_map (λ path. path ∷ neighbours_of path) paths
+
+-- the folders that are listed for these places, among which these paths are given: the whole tree where the root is one
+-- of the places
+abbrev pub folders_for : List Place → List (List ℕ) → List (List ℕ)
+folders_for places given = if has_root places then [] else with_neighbours given
+
+-- beneath the folder, these paths have the files that are asked for, and no others than the tree
+pub record ShowsBeneath (scope : Scope) (paths : List (List ℕ)) (tree : Files) (folder : List ℕ) : Type 0 where
+  pub chosen : filter (is_chosen scope) (filter (λ other. lies_under other folder) paths) ≡ filter (is_chosen scope) (filter (λ other. lies_under other folder) (keys tree))
+  pub some : is_folder_of paths folder ≡ true → is_folder tree folder ≡ true
+
+-- so they do beneath the place
+abbrev pub ShowsPlace : Scope → List (List ℕ) → Files → Place → Type 0
+ShowsPlace scope paths tree Root = filter (is_chosen scope) paths ≡ filter (is_chosen scope) (keys tree)
+ShowsPlace scope paths tree (Path folder) = ShowsBeneath scope paths tree folder

@@ -1,0 +1,191 @@
+//! What amend does at a path. What it works on is the `REUSE.toml` at the root, or the neighbour of
+//! a file where that is there, else the header block of the file itself. It makes nothing.
+ghost use Rattle.std.specs.Prelude.{◌≡◌, ℕ, List, IfErr, Some, length, nat_lt, false};
+ghost use Rattle.std.specs.Str.{bytes_eq};
+ghost use Rattle.reuse_command.specs.Reading.{get, reading_of, tree_of, Files, IsOfPlan, ReadsAlone};
+ghost use Rattle.reuse_plan.specs.Amend.{style_of_kind};
+ghost use Rattle.reuse_plan.specs.AmendmentPlan.{amended_by, beside_by, inside_by, style_by, table_by};
+ghost use Rattle.reuse_plan.specs.Annotate.{neighbour_of};
+ghost use Rattle.reuse_plan.specs.Conversion.{toml_path};
+ghost use Rattle.reuse_plan.specs.Plan.{AnswersEdit};
+ghost use Rattle.reuse_command.specs.Refused.{IsNoFault};
+ghost use Rattle.reuse_plan.specs.Shown.{ShowsPair};
+
+use crate::annotation::Amendment;
+use crate::covered::is_covered;
+use crate::edit::{amendment_by, table_change_by};
+use crate::place::{absent_refusal, neighbour_path, short_bytes};
+use crate::target_choice::neighbour_of;
+use reuse_command::reply::Refusal;
+use reuse_dep5::amend_toml;
+use reuse_header::{Kind, Style, amend_file, amend_neighbour, amendments_fit};
+use reuse_text::{LONGEST_FILE, is_text};
+use reuse_tree::{Change, PathText, Reading, Store, is_among};
+use std::alloc::Global;
+
+/// The change that amend makes at a path, if there is one. `paths` show it and its neighbour.
+pub(crate) fn plan_amended<S: Store>(
+    alloc: Global,
+    store: &mut S,
+    paths: &[PathText],
+    path: &PathText,
+    asked: &Amendment<'_>,
+) -> Result<Option<Change>, Refusal>
+    ensures edit { S.honest store.new → ShowsPair paths.now (tree_of (S.files store.old)) path.now → AnswersEdit (tree_of (S.files store.old)) (amended_by asked.now (tree_of (S.files store.old)) path.now) result }
+    ensures asks { ReadsAlone S.Store IsOfPlan store.old store.new result }
+{
+    if !is_among(paths, path.as_bytes()) {
+        return Err(absent_refusal(alloc, paths, path)?);
+    }
+    if is_table(path) {
+        return plan_table(alloc, store, path, asked);
+    }
+    if !is_covered(path.as_bytes()) {
+        return Err(Refusal::NotCovered(path.try_clone(alloc)?));
+    }
+    let neighbour = neighbour_of(alloc, path)?;
+    if is_among(paths, neighbour.as_slice()) {
+        return plan_beside(alloc, store, path, asked);
+    }
+    match style_of(path, asked) {
+        Some(style) => plan_inside(alloc, store, path, style, asked),
+        None => Ok(None),
+    }
+}
+
+// Whether the path is that of the `REUSE.toml` at the root.
+fn is_table(path: &PathText) -> bool
+    ensures { result ≡ bytes_eq path.now toml_path }
+{
+    path.as_bytes() == b"REUSE.toml".as_slice()
+}
+
+// The change of the `REUSE.toml`, which is there.
+fn plan_table<S: Store>(
+    alloc: Global,
+    store: &mut S,
+    path: &PathText,
+    asked: &Amendment<'_>,
+) -> Result<Option<Change>, Refusal>
+    ensures edit { S.honest store.new → (bytes : List ℕ) → get (tree_of (S.files store.old)) path.now ≡ Some bytes
+        → AnswersEdit (tree_of (S.files store.old)) (table_by asked.now path.now bytes) result }
+    ensures asks { ReadsAlone S.Store IsOfPlan store.old store.new result }
+{
+    let reading = store.read(alloc, path, LONGEST_FILE)?;
+    plan_table_text(alloc, path, asked, reading)
+}
+
+// The change of the `REUSE.toml`, by what was read of it.
+fn plan_table_text(
+    alloc: Global,
+    path: &PathText,
+    asked: &Amendment<'_>,
+    reading: Reading,
+) -> Result<Option<Change>, Refusal>
+    ensures edit { (tree : Files) (bytes : List ℕ) → get tree path.now ≡ Some bytes
+        → reading ≡ reading_of (Some bytes) LONGEST_FILE → AnswersEdit tree (table_by asked.now path.now bytes) result }
+    ensures no_fault { IfErr result IsNoFault }
+{
+    let bytes = short_bytes(alloc, path, reading)?;
+    let made = amend_toml(alloc, bytes.as_slice(), asked.amendments);
+    table_change_by(alloc, path, bytes.as_slice(), made)
+}
+
+// The style of a file: the one that is asked for, else that of its name.
+fn style_of(path: &PathText, asked: &Amendment<'_>) -> Option<Style>
+    ensures { result ≡ style_by asked.now path.now }
+{
+    match asked.scope.style {
+        Some(style) => Some(style),
+        None => style_of_kind(asked.styles.style_of(path.text())),
+    }
+}
+
+fn style_of_kind(kind: Kind) -> Option<Style>
+    ensures { result ≡ style_of_kind kind }
+{
+    match kind {
+        Kind::Style(style) => Some(style),
+        Kind::Uncommentable => None,
+        Kind::Unknown => None,
+    }
+}
+
+// The change of the neighbour of a file, which is there.
+fn plan_beside<S: Store>(
+    alloc: Global,
+    store: &mut S,
+    path: &PathText,
+    asked: &Amendment<'_>,
+) -> Result<Option<Change>, Refusal>
+    ensures edit { S.honest store.new → (bytes : List ℕ)
+        → get (tree_of (S.files store.old)) (neighbour_of path.now) ≡ Some bytes
+        → AnswersEdit (tree_of (S.files store.old)) (beside_by asked.now path.now bytes) result }
+    ensures asks { ReadsAlone S.Store IsOfPlan store.old store.new result }
+{
+    let Some(neighbour) = neighbour_path(alloc, path)? else {
+        return Err(Refusal::TooLong(path.try_clone(alloc)?));
+    };
+    let reading = store.read(alloc, &neighbour, LONGEST_FILE)?;
+    plan_neighbour(alloc, path, &neighbour, asked, reading)
+}
+
+// The change of a neighbour, by what was read of it.
+fn plan_neighbour(
+    alloc: Global,
+    path: &PathText,
+    neighbour: &PathText,
+    asked: &Amendment<'_>,
+    reading: Reading,
+) -> Result<Option<Change>, Refusal>
+    ensures edit { (tree : Files) (bytes : List ℕ) → neighbour.now ≡ neighbour_of path.now
+        → nat_lt 4096 (length (neighbour_of path.now)) ≡ false
+        → get tree neighbour.now ≡ Some bytes → reading ≡ reading_of (Some bytes) LONGEST_FILE
+        → AnswersEdit tree (beside_by asked.now path.now bytes) result }
+    ensures no_fault { IfErr result IsNoFault }
+{
+    let bytes = short_bytes(alloc, path, reading)?;
+    // That the edit lies within the file, and makes none that is too long.
+    amendments_fit();
+    let made = amend_neighbour(alloc, bytes.as_slice(), asked.amendments);
+    amendment_by(alloc, path, neighbour, bytes.as_slice(), made)
+}
+
+// The change of the header block of a file that has no neighbour.
+fn plan_inside<S: Store>(
+    alloc: Global,
+    store: &mut S,
+    path: &PathText,
+    style: Style,
+    asked: &Amendment<'_>,
+) -> Result<Option<Change>, Refusal>
+    ensures edit { S.honest store.new → (bytes : List ℕ) → get (tree_of (S.files store.old)) path.now ≡ Some bytes
+        → AnswersEdit (tree_of (S.files store.old)) (inside_by asked.now path.now bytes (Some style)) result }
+    ensures asks { ReadsAlone S.Store IsOfPlan store.old store.new result }
+{
+    let reading = store.read(alloc, path, LONGEST_FILE)?;
+    plan_block(alloc, path, style, asked, reading)
+}
+
+// The change of the header block of a file, by what was read of it.
+fn plan_block(
+    alloc: Global,
+    path: &PathText,
+    style: Style,
+    asked: &Amendment<'_>,
+    reading: Reading,
+) -> Result<Option<Change>, Refusal>
+    ensures edit { (tree : Files) (bytes : List ℕ) → get tree path.now ≡ Some bytes
+        → reading ≡ reading_of (Some bytes) LONGEST_FILE
+        → AnswersEdit tree (inside_by asked.now path.now bytes (Some style)) result }
+    ensures no_fault { IfErr result IsNoFault }
+{
+    let bytes = short_bytes(alloc, path, reading)?;
+    if !is_text(bytes.as_slice()) {
+        return Ok(None);
+    }
+    // That the edit lies within the file, and makes none that is too long.
+    amendments_fit();
+    let made = amend_file(alloc, bytes.as_slice(), style, asked.amendments);
+    amendment_by(alloc, path, path, bytes.as_slice(), made)
+}

@@ -1,0 +1,43 @@
+//! What is asked of the files that a command goes through.
+ghost use Rattle.std.specs.Prelude.{◌≡◌};
+ghost use Rattle.reuse_plan.specs.Asked.{scope_of};
+
+use reuse_command::command::Scope;
+use reuse_header::{How, StyleTable};
+use reuse_notice::{Additions, Amendments};
+
+/// What is asked of an annotation, and the styles of the tree that it is of.
+#[derive(Clone, Copy)]
+pub(crate) struct Annotation<'a> {
+    pub(crate) additions: &'a Additions,
+    pub(crate) how: &'a How,
+    pub(crate) scope: &'a Scope,
+    pub(crate) styles: &'a StyleTable,
+}
+
+/// What is asked of an amendment, and the styles of the tree that it is of.
+#[derive(Clone, Copy)]
+pub(crate) struct Amendment<'a> {
+    pub(crate) amendments: &'a Amendments,
+    pub(crate) scope: &'a Scope,
+    pub(crate) styles: &'a StyleTable,
+}
+
+/// What is asked of each file: one walk serves both commands.
+#[derive(Clone, Copy)]
+pub(crate) enum Asked<'a> {
+    Annotation(Annotation<'a>),
+    Amendment(Amendment<'a>),
+}
+
+impl<'a> Asked<'a> {
+    /// Which files are gone through.
+    pub(crate) fn scope(&self) -> &'a Scope
+        ensures { result.now ≡ scope_of self.now }
+    {
+        match self {
+            Asked::Annotation(asked) => asked.scope,
+            Asked::Amendment(asked) => asked.scope,
+        }
+    }
+}

@@ -1,0 +1,45 @@
+//! Which files annotate treats, by their paths.
+ghost use Rattle.std.specs.Prelude.{◌≡◌};
+ghost use Rattle.reuse_command.specs.Covered.{is_in, is_outside, has_stem, is_outer_name, is_covered};
+
+use reuse_text::last_part;
+
+/// Whether annotate treats a file of this path: one that is neither in a folder of licences, of the
+/// journal or of version control, nor of a name that holds licensing information or a licence.
+pub(crate) fn is_covered(path: &[u8]) -> bool
+    ensures { result ≡ is_covered path.now }
+{
+    !is_outside(path) && !is_outer_name(last_part(path))
+}
+
+// Whether the path is the folder's, or goes on by a slash.
+fn is_in(folder: &[u8], path: &[u8]) -> bool
+    ensures { result ≡ is_in folder.now path.now }
+{
+    path.starts_with(folder) && (path.len() == folder.len() || path[folder.len()] == b'/')
+}
+
+fn is_outside(path: &[u8]) -> bool
+    ensures { result ≡ is_outside path.now }
+{
+    is_in(b"LICENSES", path) || is_in(b".reuse", path) || is_in(b".git", path)
+}
+
+// Whether a name is the stem alone, or goes on by `.` or `-`.
+fn has_stem(stem: &[u8], name: &[u8]) -> bool
+    ensures { result ≡ has_stem stem.now name.now }
+{
+    name.starts_with(stem)
+        && (name.len() == stem.len() || name[stem.len()] == b'.' || name[stem.len()] == b'-')
+}
+
+fn is_outer_name(name: &[u8]) -> bool
+    ensures { result ≡ is_outer_name name.now }
+{
+    name.ends_with(b".license")
+        || name.ends_with(b".spdx")
+        || name == b"REUSE.toml".as_slice()
+        || has_stem(b"LICENSE", name)
+        || has_stem(b"LICENCE", name)
+        || has_stem(b"COPYING", name)
+}

@@ -1,0 +1,179 @@
+//! The change of a place, by what an annotation or an amendment makes of its bytes.
+ghost use Rattle.std.specs.Prelude.{◌≡◌, ◌≤◌, ◌+◌, [], take, drop, IfOk, IfErr, Some, None, length};
+ghost use Rattle.reuse_text.specs.declared.TheConstants.{LONGEST_FILE};
+ghost use Rattle.reuse_command.specs.Reading.{get, Files};
+ghost use Rattle.reuse_tree.specs.Change.{sealed_splice};
+ghost use Rattle.reuse_header.specs.Splices.{IsDue, answer_of};
+ghost use Rattle.reuse_header.specs.Amendment.{amendment_answer, IsAmendmentDue};
+ghost use Rattle.reuse_notice.specs.declared.amendments.Amendments.{Amendments};
+ghost use Rattle.reuse_dep5.specs.TomlAmending.{toml_amendment_of};
+ghost use Rattle.reuse_dep5.specs.TomlAnswers.{IsTomlAnswer};
+ghost use Rattle.reuse_plan.specs.Amend.{amendment_edit, amend_refused_by, table_amendment, table_refused_by};
+ghost use Rattle.reuse_plan.specs.AmendmentPlan as amending;
+ghost use Rattle.reuse_plan.specs.Annotate.{edit_by};
+ghost use Rattle.reuse_plan.specs.HeaderFaults.{refused_by};
+ghost use Rattle.reuse_plan.specs.Annotations.{Fits, Due};
+ghost use Rattle.reuse_plan.specs.Plan.{AnswersEdit};
+ghost use Rattle.reuse_command.specs.Refused.{IsNoFault};
+
+use reuse_command::amend_fault::AmendFault;
+use reuse_command::failure::Failure;
+use reuse_command::header_fault::HeaderFault;
+use reuse_command::reply::Refusal;
+use reuse_dep5::{AmendTomlRefusal, TomlSplice};
+use reuse_header::{AmendHeaderRefusal, HeaderRefusal, Splice};
+use reuse_text::Bytes;
+use reuse_tree::{Change, PathText};
+use std::alloc::{AllocError, Global};
+
+/// The change of a file that is there, of these bytes, by what an annotation makes of it. A refusal
+/// names `path`.
+pub(crate) fn change_by(
+    alloc: Global,
+    path: &PathText,
+    at: &PathText,
+    file: &[u8],
+    made: Result<Option<Splice>, HeaderRefusal>,
+) -> Result<Option<Change>, Refusal>
+    ensures edit { (tree : Files) (due : Due) → get tree at.now ≡ Some file.now → length file.now ≤ LONGEST_FILE
+        → Fits file.now due → IsDue (answer_of file.now due) made
+        → AnswersEdit tree (edit_by path.now at.now file.now due) result }
+    ensures no_fault { IfErr result IsNoFault }
+{
+    match made {
+        Err(refusal) => Err(refused_by(alloc, path, refusal)?),
+        Ok(None) => Ok(None),
+        Ok(Some(splice)) => Ok(Some(Change::sealed_splice(
+            at.try_clone(alloc)?,
+            file,
+            splice.at,
+            splice.old,
+            splice.new,
+        ))),
+    }
+}
+
+/// The change that makes a file, by what an annotation makes of no bytes. A refusal names `path`.
+pub(crate) fn making_by(
+    alloc: Global,
+    path: &PathText,
+    at: &PathText,
+    made: Result<Option<Splice>, HeaderRefusal>,
+) -> Result<Option<Change>, Refusal>
+    ensures edit { (tree : Files) (due : Due) → get tree at.now ≡ None → Fits [] due → IsDue (answer_of [] due) made
+        → AnswersEdit tree (edit_by path.now at.now [] due) result }
+    ensures no_fault { IfErr result IsNoFault }
+{
+    match made {
+        Err(refusal) => Err(refused_by(alloc, path, refusal)?),
+        Ok(None) => Ok(None),
+        Ok(Some(splice)) => Ok(Some(Change::sealed_make(at.try_clone(alloc)?, splice.new))),
+    }
+}
+
+/// The change of a file that is there, of these bytes, by what an amendment makes of it. A refusal names `path`.
+pub(crate) fn amendment_by(
+    alloc: Global,
+    path: &PathText,
+    at: &PathText,
+    file: &[u8],
+    made: Result<Option<Splice>, AmendHeaderRefusal>,
+) -> Result<Option<Change>, Refusal>
+    ensures edit { (tree : Files) (due : amending.Due) → get tree at.now ≡ Some file.now
+        → length file.now ≤ LONGEST_FILE → amending.Fits file.now due
+        → IsAmendmentDue (amendment_answer file.now due) made
+        → AnswersEdit tree (amendment_edit path.now at.now file.now due) result }
+    ensures no_fault { IfErr result IsNoFault }
+{
+    match made {
+        Ok(None) => Ok(None),
+        Ok(Some(splice)) => change_by(alloc, path, at, file, Ok(Some(splice))),
+        Err(refusal) => Err(amend_refused_by(alloc, path, refusal)?),
+    }
+}
+
+/// The change of the `REUSE.toml`, which is there and has these bytes, by what an amendment makes
+/// of it.
+pub(crate) fn table_change_by(
+    alloc: Global,
+    path: &PathText,
+    file: &[u8],
+    made: Result<Option<TomlSplice>, AmendTomlRefusal>,
+) -> Result<Option<Change>, Refusal>
+    requires { amending.IsWithin file.now made }
+    ensures edit { (tree : Files) (amendments : Amendments) → get tree path.now ≡ Some file.now
+        → length file.now ≤ LONGEST_FILE
+        → IsTomlAnswer (toml_amendment_of amendments file.now) made
+        → AnswersEdit tree (table_amendment path.now file.now (toml_amendment_of amendments file.now)) result }
+    ensures no_fault { IfErr result IsNoFault }
+{
+    match made {
+        Ok(None) => Ok(None),
+        Ok(Some(splice)) => Ok(Some(table_change(alloc, path, file, splice)?)),
+        Err(refusal) => Err(table_refused_by(alloc, path, refusal)?),
+    }
+}
+
+// The change of one range of a file's bytes.
+fn table_change(
+    alloc: Global,
+    path: &PathText,
+    file: &[u8],
+    splice: TomlSplice,
+) -> Result<Change, AllocError>
+    requires { splice.at + splice.old ≤ length file.now }
+    ensures { IfOk result (λ change. change ≡ sealed_splice path.now file.now splice.at (take splice.old (drop splice.at file.now)) splice.new) }
+{
+    let old = &file[splice.at..];
+    let removed = Bytes::from_slice(alloc, &old[..splice.old])?;
+    let path = path.try_clone(alloc)?;
+    Ok(Change::sealed_splice(path, file, splice.at, removed, splice.new))
+}
+
+// The refusal of an amended `REUSE.toml`, with its path.
+fn table_refused_by(
+    alloc: Global,
+    path: &PathText,
+    refusal: AmendTomlRefusal,
+) -> Result<Refusal, AllocError>
+    ensures { IfOk result (λ refused. refused ≡ table_refused_by path.now refusal) }
+{
+    let fault = match refusal {
+        AmendTomlRefusal::BadExpression => AmendFault::BadExpression,
+        AmendTomlRefusal::CannotBeAmended => AmendFault::CannotBeAmended,
+        AmendTomlRefusal::TooLong => return Ok(Refusal::TooLong(path.try_clone(alloc)?)),
+        AmendTomlRefusal::Memory(_) => return Ok(Refusal::Failed(Failure::Memory)),
+    };
+    Ok(Refusal::Amend(path.try_clone(alloc)?, fault))
+}
+
+// The refusal of an amendment, with the path of its file.
+fn amend_refused_by(
+    alloc: Global,
+    path: &PathText,
+    refusal: AmendHeaderRefusal,
+) -> Result<Refusal, AllocError>
+    ensures { IfOk result (λ refused. refused ≡ amend_refused_by path.now refusal) }
+{
+    let fault = match refusal {
+        AmendHeaderRefusal::BadExpression => AmendFault::BadExpression,
+        AmendHeaderRefusal::NothingLeft => AmendFault::NothingLeft,
+        AmendHeaderRefusal::Header(refusal) => return refused_by(alloc, path, refusal),
+    };
+    Ok(Refusal::Amend(path.try_clone(alloc)?, fault))
+}
+
+// A header's refusal, with the path of its file.
+fn refused_by(alloc: Global, path: &PathText, refusal: HeaderRefusal) -> Result<Refusal, AllocError>
+    ensures { IfOk result (λ refused. refused ≡ refused_by path.now refusal) }
+{
+    let fault = match refusal {
+        HeaderRefusal::NotText => HeaderFault::NotText,
+        HeaderRefusal::NoSuchForm => HeaderFault::NoSuchForm,
+        HeaderRefusal::HoldsCloser => HeaderFault::HoldsCloser,
+        HeaderRefusal::TooLong => HeaderFault::TooLong,
+        HeaderRefusal::Unsettled => HeaderFault::Unsettled,
+        HeaderRefusal::Memory(_) => return Ok(Refusal::Failed(Failure::Memory)),
+    };
+    Ok(Refusal::Header(path.try_clone(alloc)?, fault))
+}

@@ -1,0 +1,94 @@
+//! What is made of the plans of a command: the changes of a run, and what a preview tells.
+ghost use Rattle.std.specs.Prelude.{◌≡◌, ◌++◌, ◌∷◌, [], ◌||◌, map, IfOk, OnOk};
+ghost use Rattle.std.specs.Option.{option_to_list};
+ghost use Rattle.std.specs.List.{list_any};
+ghost use Rattle.reuse_plan.specs.PathPlans.{change_planned, changes_planned, path_outcome_planned, is_refusal};
+ghost use Rattle.reuse_plan.specs.Counted.{is_skip_planned, skipped_planned};
+
+use crate::path_plan::PathPlan;
+use reuse_command::path_outcome::PathOutcome;
+use reuse_tree::Change;
+use std::alloc::{AllocError, Global};
+
+/// What a preview tells of each path, and the changes beside that.
+#[derive(Drop)]
+pub(crate) struct Planned {
+    pub(crate) path_outcomes: Vec<PathOutcome>,
+    pub(crate) changes: Vec<Change>,
+    /// Whether one of the path outcomes is a refusal.
+    pub(crate) is_refused: bool,
+}
+
+impl Planned {
+    /// What the plans tell.
+    pub(crate) fn of(alloc: Global, plans: Vec<PathPlan>) -> Result<Planned, AllocError>
+        ensures path_outcomes { IfOk result (λ planned. planned.path_outcomes.items ≡ map path_outcome_planned plans.items) }
+        ensures changes { IfOk result (λ planned. planned.changes.items ≡ changes_planned plans.items) }
+        ensures refused { IfOk result (λ planned. planned.is_refused ≡ list_any is_refusal plans.items) }
+    {
+        let mut planned = Planned {
+            path_outcomes: Vec::with_capacity(alloc, plans.len())?,
+            changes: Vec::new(alloc),
+            is_refused: false,
+        };
+        for plan in plans {
+            planned.push(alloc, plan)?;
+        }
+        Ok(planned)
+    }
+
+    // Adds what a plan tells.
+    fn push(&mut self, alloc: Global, plan: PathPlan) -> Result<(), AllocError>
+        ensures path_outcomes { OnOk result (self.new.path_outcomes.items ≡ self.old.path_outcomes.items ++ path_outcome_planned plan ∷ []) }
+        ensures changes { OnOk result (self.new.changes.items ≡ self.old.changes.items ++ option_to_list (change_planned plan)) }
+        ensures refused { OnOk result (self.new.is_refused ≡ (self.old.is_refused || is_refusal plan)) }
+    {
+        let path_outcome = match plan {
+            PathPlan::Change(change) => {
+                let path = change.path().try_clone(alloc)?;
+                self.changes.push(change)?;
+                PathOutcome::Changes(path)
+            }
+            PathPlan::Unchanged(path) => PathOutcome::Unchanged(path),
+            PathPlan::Skipped(path) => PathOutcome::Skipped(path),
+            PathPlan::Refused(refusal) => {
+                self.is_refused = true;
+                PathOutcome::Refused(refusal)
+            }
+        };
+        self.path_outcomes.push(path_outcome)?;
+        Ok(())
+    }
+}
+
+/// The changes among the plans.
+pub(crate) fn changes_planned(
+    alloc: Global,
+    plans: Vec<PathPlan>,
+) -> Result<Vec<Change>, AllocError>
+    ensures { IfOk result (λ changes. changes.items ≡ changes_planned plans.items) }
+{
+    plans.into_iter().filter_map(change_planned).collect(alloc)
+}
+
+fn change_planned(plan: PathPlan) -> Option<Change>
+    ensures { result ≡ change_planned plan }
+{
+    match plan {
+        PathPlan::Change(change) => Some(change),
+        _ => None,
+    }
+}
+
+/// How many of the plans skip their file.
+pub(crate) fn skipped_planned(plans: &[PathPlan]) -> usize
+    ensures { result ≡ skipped_planned plans.now }
+{
+    plans.iter().filter(|plan| is_skip(plan)).count()
+}
+
+fn is_skip(plan: &PathPlan) -> bool
+    ensures { result ≡ is_skip_planned plan.now }
+{
+    matches!(plan, PathPlan::Skipped(_))
+}

@@ -1,0 +1,122 @@
+//! The choice of where the licensing information of a file goes.
+ghost use Rattle.std.specs.Prelude.{◌≡◌, ◌≤◌, IfOk, IfErr, length};
+ghost use Rattle.reuse_header.specs.Names.{kind_in, lookup};
+ghost use Rattle.reuse_tree.specs.Files.{Files};
+ghost use Rattle.reuse_text.specs.declared.TheConstants.{LONGEST_FILE};
+ghost use Rattle.reuse_plan.specs.Annotate.{neighbour_of, is_uncommentable, goes_beside, goes_beside_unread, target_of_unknown, target_by_name, target_by_style};
+ghost use Rattle.reuse_plan.specs.AnnotationPlan.{own_of, place_by};
+ghost use Rattle.reuse_plan.specs.Plan.{AnswersOf};
+ghost use Rattle.reuse_command.specs.Refused.{IsNoFault};
+ghost use Rattle.reuse_plan.specs.Shown.{ShowsPair};
+
+use crate::annotation::Annotation;
+use crate::target::Target;
+use reuse_command::command::Unknown;
+use reuse_command::reply::Refusal;
+use reuse_header::{Kind, StyleTable};
+use reuse_text::{Bytes, is_text};
+use reuse_tree::{PathText, is_among};
+use std::alloc::{AllocError, Global};
+
+/// The bytes of a neighbour's path.
+pub(crate) fn neighbour_of(alloc: Global, path: &PathText) -> Result<Bytes, AllocError>
+    ensures { IfOk result (λ neighbour. neighbour ≡ neighbour_of path.now) }
+{
+    let mut neighbour = Bytes::from_slice(alloc, path.as_bytes())?;
+    neighbour.push_slice(b".license")?;
+    Ok(neighbour)
+}
+
+/// Whether the neighbour is the place, whatever the file holds: it is there, that is asked for, or
+/// the name takes no comment and no style is asked for. `paths` show whether it is there.
+pub(crate) fn goes_beside(
+    alloc: Global,
+    paths: &[PathText],
+    path: &PathText,
+    asked: &Annotation<'_>,
+) -> Result<bool, AllocError>
+    ensures { (tree : Files) → ShowsPair paths.now tree path.now
+        → IfOk result (λ beside. beside ≡ goes_beside asked.now.scope.now (own_of asked.now) tree path.now) }
+{
+    let neighbour = neighbour_of(alloc, path)?;
+    Ok(is_among(paths, neighbour.as_slice()) || goes_beside_unread(path, asked))
+}
+
+/// Whether the neighbour is the place, though it may not be there and whatever the file holds.
+pub(crate) fn goes_beside_unread(path: &PathText, asked: &Annotation<'_>) -> bool
+    ensures { result ≡ goes_beside_unread asked.now.scope.now (own_of asked.now) path.now }
+{
+    asked.scope.force_dot_license
+        || (asked.scope.style.is_none() && is_uncommentable(asked.styles.style_of(path.text())))
+}
+
+fn is_uncommentable(kind: Kind) -> bool
+    ensures { result ≡ is_uncommentable kind }
+{
+    match kind {
+        Kind::Style(_) => false,
+        Kind::Uncommentable => true,
+        Kind::Unknown => false,
+    }
+}
+
+/// The place by the bytes of the file, which are no more than `LONGEST_FILE`.
+pub(crate) fn target_by_bytes(
+    alloc: Global,
+    path: &PathText,
+    bytes: &[u8],
+    asked: &Annotation<'_>,
+) -> Result<Target, Refusal>
+    requires { length bytes.now ≤ LONGEST_FILE }
+    ensures target { AnswersOf (place_by asked.now path.now bytes.now) result }
+    ensures no_fault { IfErr result IsNoFault }
+{
+    if !is_text(bytes) {
+        return Ok(Target::Beside);
+    }
+    target_by_style(alloc, path, asked)
+}
+
+// The place by the style that is asked for, else by the name.
+fn target_by_style(
+    alloc: Global,
+    path: &PathText,
+    asked: &Annotation<'_>,
+) -> Result<Target, Refusal>
+    ensures target { AnswersOf (target_by_style asked.now.scope.now (own_of asked.now) path.now asked.now.scope.now.style) result }
+    ensures no_fault { IfErr result IsNoFault }
+{
+    match asked.scope.style {
+        Some(style) => Ok(Target::Inside(style)),
+        None => target_by_name(alloc, path, asked.scope.unknown, asked.styles),
+    }
+}
+
+// The place by the name.
+fn target_by_name(
+    alloc: Global,
+    path: &PathText,
+    unknown: Unknown,
+    styles: &StyleTable,
+) -> Result<Target, Refusal>
+    ensures target { AnswersOf (target_by_name unknown path.now (kind_in (lookup styles.now) path.now)) result }
+    ensures no_fault { IfErr result IsNoFault }
+{
+    match styles.style_of(path.text()) {
+        Kind::Style(style) => Ok(Target::Inside(style)),
+        Kind::Uncommentable => Ok(Target::Beside),
+        Kind::Unknown => target_of_unknown(alloc, path, unknown),
+    }
+}
+
+// The place where the name has no style.
+fn target_of_unknown(alloc: Global, path: &PathText, unknown: Unknown) -> Result<Target, Refusal>
+    ensures target { AnswersOf (target_of_unknown unknown path.now) result }
+    ensures no_fault { IfErr result IsNoFault }
+{
+    match unknown {
+        Unknown::Refuse => Err(Refusal::Unrecognised(path.try_clone(alloc)?)),
+        Unknown::Neighbour => Ok(Target::Beside),
+        Unknown::Skip => Ok(Target::Nowhere),
+    }
+}

@@ -1,0 +1,112 @@
+//! What of a command's choice of the files beneath folders came to nothing: globs that left nothing
+//! out, and listed paths that are no covered file beneath a place. It is found by what the walk
+//! listed anyway. `tests/notes.sh` shows what is reported of it.
+ghost use Rattle.std.specs.Prelude.{◌≡◌, [], IfOk, map};
+ghost use Rattle.reuse_tree.specs.Listing.{ArePaths};
+ghost use Rattle.reuse_plan.specs.Unused.{is_left_out_by, is_unmet, leaves_none_out, unmet_count};
+
+use crate::covered::is_covered;
+use crate::select::is_listed;
+use reuse_command::choice::{leaves_out, matches_one};
+use reuse_command::command::Scope;
+use reuse_dep5::Glob;
+use reuse_tree::{PathText, is_among};
+use std::alloc::{AllocError, Global};
+
+/// What of a choice came to nothing.
+#[derive(Debug, Drop)]
+pub struct Unused {
+    /// How many paths of the list are no covered file beneath a place, and left out by no glob.
+    pub names: usize,
+    /// Of each glob, in their order, whether it left none of the files out that were found. A file
+    /// beneath a folder that is passed over isn't found.
+    pub globs: Vec<bool>,
+}
+
+impl Unused {
+    /// Of no choice.
+    pub(crate) fn none(alloc: Global) -> Unused
+        ensures names { result.names ≡ 0 }
+        ensures globs { result.globs.items ≡ [] }
+    {
+        Unused {
+            names: 0,
+            globs: Vec::new(alloc),
+        }
+    }
+
+    /// Of the scope's, where these paths were found, and those of them are selected.
+    pub(crate) fn of(
+        alloc: Global,
+        scope: &Scope,
+        selected: &[PathText],
+        found: &[PathText],
+    ) -> Result<Unused, AllocError>
+        requires { ArePaths selected.now }
+        ensures names { IfOk result (λ unused. unused.names ≡ unmet_count scope.now selected.now scope.now.listed) }
+        ensures globs { IfOk result (λ unused. unused.globs.items ≡ map (leaves_none_out scope.now selected.now found.now) scope.now.excluded) }
+    {
+        Ok(Unused {
+            names: unmet_count(scope, selected),
+            globs: idle_globs(alloc, scope, selected, found)?,
+        })
+    }
+}
+
+fn unmet_count(scope: &Scope, selected: &[PathText]) -> usize
+    requires { ArePaths selected.now }
+    ensures { result ≡ unmet_count scope.now selected.now scope.now.listed }
+{
+    match &scope.listed {
+        None => 0,
+        Some(names) => names
+            .as_slice()
+            .iter()
+            .filter(|name| is_unmet(scope, selected, name))
+            .count(),
+    }
+}
+
+fn is_unmet(scope: &Scope, selected: &[PathText], path: &PathText) -> bool
+    requires { ArePaths selected.now }
+    ensures { result ≡ is_unmet scope.now selected.now path.now }
+{
+    !is_among(selected, path.as_bytes()) && !matches_one(&scope.excluded, path)
+}
+
+// Of each glob whether it left none out.
+fn idle_globs(
+    alloc: Global,
+    scope: &Scope,
+    selected: &[PathText],
+    found: &[PathText],
+) -> Result<Vec<bool>, AllocError>
+    requires { ArePaths selected.now }
+    ensures { IfOk result (λ idle. idle.items ≡ map (leaves_none_out scope.now selected.now found.now) scope.now.excluded) }
+{
+    scope
+        .excluded
+        .as_slice()
+        .iter()
+        .map(|glob| leaves_none_out(scope, selected, found, glob))
+        .collect(alloc)
+}
+
+fn leaves_none_out(scope: &Scope, selected: &[PathText], found: &[PathText], glob: &Glob) -> bool
+    requires { ArePaths selected.now }
+    ensures { result ≡ leaves_none_out scope.now selected.now found.now glob.now }
+{
+    !found
+        .iter()
+        .any(|path| is_left_out_by(scope, selected, glob, path))
+}
+
+fn is_left_out_by(scope: &Scope, selected: &[PathText], glob: &Glob, path: &PathText) -> bool
+    requires { ArePaths selected.now }
+    ensures { result ≡ is_left_out_by scope.now selected.now glob.now path.now }
+{
+    leaves_out(glob, path)
+        && is_covered(path.as_bytes())
+        && is_listed(scope, path)
+        && !is_among(selected, path.as_bytes())
+}

@@ -1,0 +1,5 @@
+pub mod Lines
+pub mod Objects
+pub mod Outputs
+pub mod RefusalTexts
+pub mod RowLines

@@ -1,0 +1,93 @@
+-- The lines that an answer is printed as.
+use Rattle.std.specs.Prelude.{◌≡◌, ℕ, List, [], ◌∷◌, ◌++◌, Bool, true, false, codes, count_by, length}
+use Rattle.reuse_tree.specs.Change.{path_of}
+use Rattle.reuse_tree.specs.declared.change.Change.{Change}
+use Rattle.reuse_tree.specs.declared.change.Change.TheVariants.{Make, Drop, Splice}
+use Rattle.reuse_print.specs.RowLines.{AreRowLines, IsRowLine}
+use Rattle.reuse_command.specs.declared.path_outcome.PathOutcome.{PathOutcome}
+use Rattle.reuse_command.specs.declared.path_outcome.PathOutcome.TheVariants.{Changes, Unchanged, Skipped, Refused}
+use Rattle.reuse_command.specs.declared.reply.Response.{Response}
+use Rattle.reuse_command.specs.declared.reply.Response.TheVariants as responses
+use Rattle.reuse_command.specs.declared.reply.Response.TheVariants.{Opened, Changed, NothingChanged, Undone, Redone, Log, Preview}
+use Rattle.reuse_command.specs.declared.reply.Reverted.{Reverted}
+use Rattle.reuse_command.specs.declared.reply.Shown.{Shown}
+use Rattle.reuse_shown.specs.ShownNames.{shown}
+use Rattle.reuse_shown.specs.declared.shown_name.Names.{Names}
+
+-- a word, a space, a path, as names are shown, and a line end
+abbrev pub line_of : Names → List ℕ → List ℕ → List ℕ
+line_of names word path = word ++ 32 ∷ [] ++ shown names path ++ 10 ∷ []
+
+-- the texts of all, one after the other
+abbrev pub joined : {A : Type 0} → (A → List ℕ) → List A → List ℕ
+joined text_of [] = []
+joined text_of (one ∷ others) = text_of one ++ joined text_of others
+
+-- one line for each path
+abbrev pub lines_of : Names → List ℕ → List (List ℕ) → List ℕ
+lines_of names word paths = joined (line_of names word) paths
+
+-- what would become of a path; a refusal is told elsewhere
+abbrev pub path_outcome_line : Names → PathOutcome → List ℕ
+path_outcome_line names (Changes path) = line_of names (codes "would change") path
+path_outcome_line names (Unchanged path) = line_of names (codes "unchanged") path
+path_outcome_line names (Skipped path) = line_of names (codes "skipped") path
+path_outcome_line names (Refused refusal) = []
+
+abbrev pub path_outcome_lines : Names → List PathOutcome → List ℕ
+path_outcome_lines names path_outcomes = joined (path_outcome_line names) path_outcomes
+
+-- what a change made of its path
+abbrev pub kind_word : Change → List ℕ
+kind_word (Make path new after) = codes "made"
+kind_word (Drop path old before) = codes "removed"
+kind_word (Splice path at old new rest seal) = codes "changed"
+
+abbrev pub change_line : Names → Change → List ℕ
+change_line names change = line_of names (kind_word change) (path_of change)
+
+abbrev pub change_lines : Names → List Change → List ℕ
+change_lines names changes = joined (change_line names) changes
+
+-- what a step is printed as: its row of the log, and a line for each path
+abbrev pub IsShownText : Names → Shown → List ℕ → Type 0
+IsShownText names shown text =
+    (line : List ℕ) × IsRowLine shown.row line × (text ≡ line ++ change_lines names shown.changes)
+
+-- the paths at which a step was taken back
+abbrev pub changed_text : Names → List (List ℕ) → List ℕ
+changed_text names [] = codes "nothing changed" ++ 10 ∷ []
+changed_text names (path ∷ paths) = lines_of names (codes "changed") (path ∷ paths)
+
+-- what a revert is printed as: these, and then the paths that were left
+abbrev pub reverted_text : Names → Reverted → List ℕ
+reverted_text names reverted = changed_text names reverted.changed ++ lines_of names (codes "skipped") reverted.skipped
+
+-- what a reply is printed as; that a session was opened is not told
+abbrev pub IsResponseText : Names → Response → List ℕ → Type 0
+IsResponseText names Opened text = text ≡ []
+IsResponseText names (Changed paths) text = text ≡ lines_of names (codes "changed") paths
+IsResponseText names NothingChanged text = text ≡ codes "nothing changed" ++ 10 ∷ []
+IsResponseText names (Undone paths) text = text ≡ lines_of names (codes "undone") paths
+IsResponseText names (Redone paths) text = text ≡ lines_of names (codes "redone") paths
+IsResponseText names (Log rows) text = AreRowLines rows text
+IsResponseText names (Preview path_outcomes) text = text ≡ path_outcome_lines names path_outcomes
+IsResponseText names (responses.Shown shown) text = IsShownText names shown text
+IsResponseText names (responses.Reverted reverted) text = text ≡ reverted_text names reverted
+
+-- whether a path would change
+abbrev pub would_change : PathOutcome → Bool
+would_change (Changes path) = true
+would_change path_outcome = false
+
+-- how many paths a reply tells that changed, or that would change
+abbrev pub path_count : Response → ℕ
+path_count Opened = 0
+path_count (Changed paths) = length paths
+path_count NothingChanged = 0
+path_count (Undone paths) = length paths
+path_count (Redone paths) = length paths
+path_count (Log rows) = 0
+path_count (Preview path_outcomes) = count_by would_change path_outcomes
+path_count (responses.Shown shown) = 0
+path_count (responses.Reverted reverted) = length reverted.changed

@@ -1,6 +1,0 @@
-use Rattle.std.proofs.Common.{◌≡◌, take}
-use Rattle.reuse_tree.specs.Entry.{paths_of}
-use Rattle.reuse_session.proofs.journal.prepare.paths_of.Given as goal
-
-abbrev pub invariant-loop-change : goal.invariant-loop-change
-invariant-loop-change l = l.paths.items ≡ paths_of (take l.change-index l.changes)

@@ -1,7 +1,0 @@
-use Rattle.std.proofs.Common.{sym, subst}
-use Rattle.reuse_notice.proofs.SetLemmas.{sorted-set_of}
-use Rattle.reuse_tree.specs.Listing.{ArePaths}
-use Rattle.reuse_session.proofs.plan.choice.PathList.new.Goals as goal
-
-pub invariant_of-result : goal.invariant_of-result
-invariant_of-result c = subst ArePaths (sym c.sorted.ensures) (sorted-set_of c.args.paths.items)

@@ -1,0 +1,33 @@
+-- Places of files that are written aside or read, and of names in open folders.
+use Rattle.std.specs.Prelude.{◌≡◌, ◌⊎◌, ℕ, List, string_bytes, IsTrue}
+use Rattle.reuse_system.specs.FileStates.{FileKey, Place, place_in}
+use Rattle.reuse_system.specs.FileStates.FileKey.{Made}
+use Rattle.reuse_system.specs.KeptOut.{is_new_name, new_name}
+use Rattle.reuse_system.specs.declared.place.Identity.{Identity}
+use Rattle.reuse_system.specs.declared.handle.OpenFolder.{OpenFolder}
+use Rattle.reuse_system.specs.declared.system.Aside.{Aside}
+use Rattle.reuse_system.specs.declared.system.OpenedFile.{OpenedFile}
+
+-- this name in the folder
+abbrev pub name_in : OpenFolder → List ℕ → Place
+name_in folder name = place_in folder.identity name
+
+-- where the file was made
+abbrev pub place_of : Aside → Place
+place_of aside = place_in aside.folder (string_bytes aside.name)
+
+-- where the file was opened
+abbrev pub opened_at : OpenedFile → Place
+opened_at opened = place_in opened.folder (string_bytes opened.name)
+
+-- which file it is
+abbrev pub key_of : Aside → FileKey
+key_of aside = Made aside.number
+
+-- the name of a new file in this folder
+abbrev pub IsNewIn : Identity → Place → Type 0
+IsNewIn folder place = (name : List ℕ) × IsTrue (is_new_name name) × (place ≡ place_in folder name)
+
+-- where a new file is written: in the folder of new files, or else beside the one that it is to be
+abbrev pub IsNewPlace : Identity → Identity → Place → Type 0
+IsNewPlace new_files target place = IsNewIn new_files place ⊎ (place ≡ place_in target new_name)

@@ -1,0 +1,14 @@
+pub mod Asides
+pub mod FileStates
+pub mod FolderFault
+pub mod FolderPlaces
+pub mod Folders
+pub mod KeptOut
+pub mod NameChanges
+pub mod Names
+pub mod Owners
+pub mod Readings
+pub mod SystemCall
+pub mod SystemCalls
+pub mod SystemLaws
+pub mod Within

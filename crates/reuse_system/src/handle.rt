@@ -1,0 +1,383 @@
+//! A folder that is open. It was looked at before it was opened and after, and is the very folder
+//! that was looked at: a value of this type is made in no other way. Each call on a name in it goes
+//! through its handle, so a folder that is moved or replaced meanwhile is worked where it is, and
+//! no link is followed that has taken its place. Races with other programs are tested by
+//! tests/races.sh.
+ghost use Rattle.std.specs.Prelude.{◌≡◌, ◌++◌, IfOk, string_bytes};
+
+use crate::bare::is_bare_repository;
+use crate::fault::{FolderFault, Obstacle};
+use crate::owner::Owner;
+use crate::place::{FileStatus, Found, Identity, look_at};
+use crate::process::ProcessIds;
+use std::alloc::{AllocError, Global};
+use std::fs::{self, File, Metadata, OpenOptions};
+use std::io::{self, ErrorKind};
+use std::os::fd::AsRawFd;
+use std::os::unix::fs::{MetadataExt, fchown};
+use std::rt::Files;
+
+/// The bits of a folder's mode by which others than its owner may give it names and take them away.
+const WRITTEN_BY_OTHERS: u32 = 0o022;
+
+/// The bit of a folder's mode by which it passes its group on to what is made in it.
+const PASSES_GROUP: u32 = 0o2000;
+
+/// The most bytes that a name can have on Linux.
+const LONGEST_NAME: usize = 255;
+
+/// A folder that is open, and the very one that was looked at.
+#[derive(Drop)]
+pub struct OpenFolder {
+    handle: File,
+    identity: Identity,
+    /// What stands before a name in the folder, where a call takes a path.
+    prefix: String,
+    environment: Environment,
+    /// Whether others than the process' user, and root, may put something else at a name in the
+    /// folder.
+    is_shared: bool,
+    owner: Owner,
+    passes_group: bool,
+}
+
+/// From where a path through an open folder is told.
+#[derive(Clone, Copy)]
+pub enum Start {
+    /// From the root of the file system.
+    Root,
+    /// From where the system shows the handles of the process, which is there.
+    Handles,
+}
+
+/// What holds for all folders of a run.
+#[derive(Clone, Copy)]
+struct Environment {
+    /// Whether the system shows a handle as a path, so that calls go through it.
+    is_shown: bool,
+    process: ProcessIds,
+    start: Start,
+}
+
+/// What stands at a name: a folder, which is opened, or anything else.
+#[derive(Drop)]
+pub enum Below {
+    /// The folder.
+    Folder(OpenFolder),
+    /// What stands there in its place.
+    Other(Found),
+}
+
+impl OpenFolder {
+    /// The root at this path, opened by this process. A root that is a link to a folder will do.
+    ///
+    /// # Errors
+    /// `NoRoot` if the path is empty; `Changing` if another folder took its place; else what the
+    /// system says.
+    pub fn root(
+        rt: &impl Files<File = File>,
+        alloc: Global,
+        root: &str,
+        process: ProcessIds,
+        start: Start,
+    ) -> Result<OpenFolder, FolderFault> {
+        let path = root_path(alloc, root)?;
+        let identity = root_identity(rt, path.as_str())?;
+        let handle = open_folder(rt, path.as_str())?;
+        let environment = Environment {
+            is_shown: true,
+            process,
+            start,
+        };
+        let shown = handle_path(alloc, &handle, environment)?;
+        let environment = Environment {
+            is_shown: identity.is_at(rt, shown.as_str()),
+            ..environment
+        };
+        OpenFolder::of(alloc, handle, path, environment)?.seen_as(identity)
+    }
+
+    /// The folder that was opened at this path, which has a slash at its end.
+    fn of(
+        alloc: Global,
+        handle: File,
+        path: String,
+        environment: Environment,
+    ) -> Result<OpenFolder, FolderFault> {
+        let metadata = handle.metadata()?;
+        let prefix = if environment.is_shown {
+            handle_path(alloc, &handle, environment)?
+        } else {
+            path
+        };
+        Ok(OpenFolder {
+            handle,
+            identity: Identity::of(&metadata),
+            prefix,
+            environment,
+            is_shared: is_shared(&metadata, environment.process.user),
+            owner: Owner::of(&metadata),
+            passes_group: metadata.mode() & PASSES_GROUP != 0,
+        })
+    }
+
+    /// From now on paths through the folder, and through those below it, are told from there. If
+    /// handles aren't shown they stay.
+    pub fn tell_from(&mut self, alloc: Global, start: Start) -> Result<(), AllocError>
+        ensures { self.new.identity ≡ self.old.identity }
+    {
+        if self.environment.is_shown {
+            let environment = Environment {
+                start,
+                ..self.environment
+            };
+            self.prefix = handle_path(alloc, &self.handle, environment)?;
+            self.environment = environment;
+        }
+        Ok(())
+    }
+
+    /// This folder, if it is the one that was looked at.
+    fn seen_as(self, seen: Identity) -> Result<OpenFolder, FolderFault> {
+        if self.identity == seen {
+            Ok(self)
+        } else {
+            Err(FolderFault::Device(Obstacle::Changing))
+        }
+    }
+
+    /// The path of this name in the folder, as the system takes it; of an empty name, the folder's
+    /// own.
+    pub fn path_of(&self, alloc: Global, name: &str) -> Result<String, AllocError>
+        ensures { IfOk result (λ path. string_bytes path ≡ string_bytes self.now.prefix ++ name.now) }
+    {
+        let mut path = String::with_capacity(alloc, self.prefix.len().saturating_add(name.len()))?;
+        path.push_str(self.prefix.as_str())?;
+        path.push_str(name)?;
+        Ok(path)
+    }
+
+    /// The folder's own path, as the system takes it.
+    pub fn path(&self) -> &str {
+        self.prefix.as_str()
+    }
+
+    /// Fails if this open root isn't what stands at its path any more.
+    ///
+    /// # Errors
+    /// `Changing` if another folder stands there; else what the system says.
+    pub fn check_root(
+        &self,
+        rt: &impl Files,
+        alloc: Global,
+        root: &str,
+    ) -> Result<(), FolderFault> {
+        let path = root_path(alloc, root)?;
+        if root_identity(rt, path.as_str())? == self.identity {
+            Ok(())
+        } else {
+            Err(FolderFault::Device(Obstacle::Changing))
+        }
+    }
+
+    /// Which folder it is.
+    pub fn identity(&self) -> Identity
+        ensures { result ≡ self.now.identity }
+    {
+        self.identity
+    }
+
+    /// Whether calls go through the handle, and not by the folder's path.
+    pub fn is_shown(&self) -> bool {
+        self.environment.is_shown
+    }
+
+    /// Whose the folder is.
+    pub fn owner(&self) -> Owner {
+        self.owner
+    }
+
+    /// Whether the folder passes its group on to what is made in it.
+    pub fn passes_group(&self) -> bool {
+        self.passes_group
+    }
+
+    /// Gives the folder to this owner.
+    pub fn give_to(&self, owner: Owner) -> Result<(), FolderFault> {
+        fchown(&self.handle, Some(owner.user), Some(owner.group))?;
+        Ok(())
+    }
+
+    /// What stands at this name. Where it is longer than any name can be, nothing does, though the
+    /// system tells that as a fault.
+    pub fn look(&self, rt: &impl Files, alloc: Global, name: &str) -> Result<Found, FolderFault> {
+        if name.len() > LONGEST_NAME {
+            return Ok(Found::Nothing);
+        }
+        look_at(rt, self.path_of(alloc, name)?.as_str())
+    }
+
+    /// The folder of this name, opened, or what stands there in its place. A bare repository of git
+    /// is no folder of a tree, and is told as a link is.
+    ///
+    /// # Errors
+    /// `Changing` if something took its place while it was opened; else what the system says.
+    pub fn open_below(
+        &self,
+        rt: &impl Files<File = File>,
+        alloc: Global,
+        name: &str,
+    ) -> Result<Below, FolderFault> {
+        let identity = match self.look(rt, alloc, name)? {
+            Found::Folder(identity) => identity,
+            found => return Ok(Below::Other(found)),
+        };
+        let mut path = self.path_of(alloc, name)?;
+        path.push('/')?;
+        let handle = open_folder(rt, path.as_str())?;
+        let folder = OpenFolder::of(alloc, handle, path, self.environment)?.seen_as(identity)?;
+        if is_bare_repository(rt, alloc, &folder)? {
+            return Ok(Below::Other(Found::Other));
+        }
+        Ok(Below::Folder(folder))
+    }
+
+    /// Opens the regular file that was seen at this name just before, or gives nothing if something
+    /// else has taken its place. That is closed again, and nothing of it is read.
+    ///
+    /// Opening a pipe for reading would wait for a writer, and opening it for reading and writing
+    /// doesn't wait. So where others may put a pipe there, the file is opened for both, if the
+    /// system allows it.
+    pub fn open_file(
+        &self,
+        rt: &impl Files<File = File>,
+        alloc: Global,
+        name: &str,
+        seen: FileStatus,
+    ) -> Result<Option<File>, FolderFault> {
+        let path = self.path_of(alloc, name)?;
+        if self.is_shared {
+            match OpenOptions::new()
+                .read(true)
+                .write(true)
+                .open(rt, path.as_str())
+            {
+                Err(error) if is_of_writing(&error) => {
+                    let Found::File(_) = look_at(rt, path.as_str())? else {
+                        return Ok(None);
+                    };
+                }
+                opened => return seen_file(opened, seen),
+            }
+        }
+        seen_file(fs::open(rt, path.as_str()), seen)
+    }
+
+    /// A second handle of this folder.
+    pub fn try_clone(&self, alloc: Global) -> Result<OpenFolder, FolderFault> {
+        let handle = self.handle.try_clone()?;
+        let path = String::from_str(alloc, self.prefix.as_str())?;
+        OpenFolder::of(alloc, handle, path, self.environment)
+    }
+
+    /// Makes lasting which names the folder has. A file system that can't sync folders does that in
+    /// its own way.
+    pub fn sync(&self) -> Result<(), FolderFault> {
+        match self.handle.sync_all() {
+            Err(error) if !is_without_sync(&error) => {
+                Err(FolderFault::Device(Obstacle::System(error)))
+            }
+            Ok(()) | Err(_) => Ok(()),
+        }
+    }
+}
+
+/// The path of the root with a slash at its end, which leads to a folder or nowhere.
+fn root_path(alloc: Global, root: &str) -> Result<String, FolderFault> {
+    if root.is_empty() {
+        return Err(FolderFault::Device(Obstacle::NoRoot));
+    }
+    let mut path = String::from_str(alloc, root)?;
+    path.push('/')?;
+    Ok(path)
+}
+
+/// The identity of the folder at this path, which has a slash at its end. The root may be a link to
+/// a folder.
+fn root_identity(rt: &impl Files, path: &str) -> Result<Identity, FolderFault> {
+    Ok(Identity::of(&fs::metadata(rt, path)?))
+}
+
+/// Opens the folder at this path. The slash at the end of the path keeps anything else from being
+/// opened, such as a pipe, which would wait.
+fn open_folder(rt: &impl Files<File = File>, path: &str) -> Result<File, FolderFault> {
+    match fs::open(rt, path) {
+        Ok(handle) => Ok(handle),
+        Err(error) if is_of_change(&error) => Err(FolderFault::Device(Obstacle::Changing)),
+        Err(error) => Err(error.into()),
+    }
+}
+
+/// Whether this tells that what was seen isn't there any more.
+fn is_of_change(error: &io::Error) -> bool {
+    matches!(
+        error.kind(),
+        ErrorKind::NotFound
+            | ErrorKind::NotADirectory
+            | ErrorKind::IsADirectory
+            | ErrorKind::FilesystemLoop
+    )
+}
+
+/// Whether this tells that a file can't be opened for writing.
+fn is_of_writing(error: &io::Error) -> bool {
+    matches!(
+        error.kind(),
+        ErrorKind::PermissionDenied | ErrorKind::ReadOnlyFilesystem | ErrorKind::ExecutableFileBusy
+    )
+}
+
+/// The file that was opened, if it is the regular file that was seen.
+fn seen_file(opened: io::Result<File>, seen: FileStatus) -> Result<Option<File>, FolderFault> {
+    match opened {
+        Ok(file) => {
+            if seen.is_of(&file.metadata()?) {
+                Ok(Some(file))
+            } else {
+                Ok(None)
+            }
+        }
+        Err(error) if is_of_change(&error) => Ok(None),
+        Err(error) => Err(error.into()),
+    }
+}
+
+/// Whether others than this user, and root, may put something else at a name in this folder.
+fn is_shared(folder: &Metadata, user: u32) -> bool {
+    let owner = folder.uid();
+    let is_of_other = owner != 0 && owner != user;
+    is_of_other || folder.mode() & WRITTEN_BY_OTHERS != 0
+}
+
+/// The path at which the system shows an open folder of this process. By the number of the process
+/// the system comes there sooner than by `self`, which is a link.
+fn handle_path(
+    alloc: Global,
+    handle: &File,
+    environment: Environment,
+) -> Result<String, AllocError> {
+    let handle = handle.as_raw_fd();
+    match (environment.start, environment.process.number) {
+        (Start::Handles, _) => format!(in alloc; "{handle}/"),
+        (Start::Root, Some(number)) => format!(in alloc; "/proc/{number}/fd/{handle}/"),
+        (Start::Root, None) => format!(in alloc; "/proc/self/fd/{handle}/"),
+    }
+}
+
+/// Whether folders can't be synced there at all, as on some file systems.
+fn is_without_sync(error: &io::Error) -> bool {
+    matches!(
+        error.kind(),
+        ErrorKind::InvalidInput | ErrorKind::Unsupported
+    )
+}

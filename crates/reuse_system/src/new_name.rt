@@ -1,0 +1,63 @@
+//! Names of new files in the journal's folder.
+ghost use Rattle.std.specs.Prelude.{◌≡◌, IsTrue, string_bytes, true};
+ghost use Rattle.reuse_system.specs.KeptOut.{is_new_name};
+
+use crate::fault::FolderFault;
+use crate::handle::OpenFolder;
+use crate::kept_out::{NEW, is_new_name};
+use std::alloc::{AllocError, Global};
+use std::fs::{self, File};
+use std::rt::Files;
+
+/// The name of a new file.
+#[derive(Drop)]
+pub struct NewName {
+    name: String,
+    ghost is_new: { is_new_name (string_bytes name) ≡ true },
+}
+
+impl NewName {
+    /// This name, if it is one of a new file.
+    fn of(alloc: Global, name: &str) -> Result<Option<NewName>, AllocError> {
+        if !is_new_name(name) {
+            return Ok(None);
+        }
+        let name = String::from_str(alloc, name)?;
+        Ok(Some(NewName { name }))
+    }
+
+    /// That of the file of this number.
+    pub fn of_number(alloc: Global, number: usize) -> Result<NewName, AllocError> {
+        let name = if number == 0 {
+            String::from_str(alloc, NEW)?
+        } else {
+            format!(in alloc; "{NEW}.{number}")?
+        };
+        Ok(NewName { name })
+    }
+
+    pub fn as_str(&self) -> &str
+        ensures value { result.now ≡ string_bytes self.now.name }
+        ensures is_new { IsTrue (is_new_name result.now) }
+    {
+        self.name.as_str()
+    }
+}
+
+/// The names of the new files that a stopped run has left in this folder.
+pub fn new_names<R: Files<File = File> + AllocGlobal + Clone + Drop>(
+    rt: &R,
+    alloc: Global,
+    folder: &OpenFolder,
+) -> Result<Vec<NewName>, FolderFault> {
+    let mut names = Vec::new(alloc);
+    for entry in fs::read_dir(rt, folder.path())? {
+        let entry = entry?;
+        if let Some(name) = NewName::of(alloc, entry.file_name())?
+            && entry.file_type()?.is_file()
+        {
+            names.push(name).map_err(AllocError::from)?;
+        }
+    }
+    Ok(names)
+}

@@ -1,0 +1,240 @@
+//! What stands at a path below a root. No link is followed.
+ghost use Rattle.std.specs.Prelude.{◌≡◌, IsTrue};
+ghost use Rattle.reuse_system.specs.Owners.{rights_of_mode};
+ghost use Rattle.reuse_system.specs.Names.{IsNameOf, IsSplit};
+
+use crate::fault::FolderFault;
+use crate::owner::{Owner, Rights};
+use std::fs::{self, Metadata};
+use std::io::ErrorKind;
+use std::os::unix::fs::{MetadataExt, PermissionsExt};
+use std::rt::Files;
+use std::time::Duration;
+
+/// The bits of a file's mode that a rewritten file keeps: who may read, write and run it.
+const KEPT_BITS: u32 = 0o777;
+
+/// A device, and a number on it: no two files or folders have both.
+#[derive(Clone, Copy, PartialEq, Eq)]
+pub struct Identity {
+    device: u64,
+    number: u64,
+}
+
+impl Identity {
+    /// That of the file or folder of which the system tells this.
+    pub fn of(metadata: &Metadata) -> Identity {
+        Identity {
+            device: metadata.dev(),
+            number: metadata.ino(),
+        }
+    }
+
+    /// Whether the file or folder of this identity is found at this path.
+    pub fn is_at(self, rt: &impl Files, path: &str) -> bool {
+        match fs::metadata(rt, path) {
+            Ok(metadata) => Identity::of(&metadata) == self,
+            Err(_) => false,
+        }
+    }
+}
+
+impl Owner {
+    /// That of the file or folder of which the system tells this.
+    pub fn of(metadata: &Metadata) -> Owner {
+        Owner {
+            user: metadata.uid(),
+            group: metadata.gid(),
+        }
+    }
+}
+
+/// When something was done with a file, as the system tells it.
+#[derive(Clone, Copy, PartialEq, Eq)]
+struct Stamp {
+    seconds: i64,
+    nanos: i64,
+}
+
+/// How many milliseconds the system's stamps may lie behind its clock: it takes them at its ticks.
+const TICKS: u64 = 50;
+
+/// The same of a file system whose stamps are of whole seconds, or of two.
+const WHOLE_SECONDS: u64 = 3_000;
+
+impl Stamp {
+    /// Whether what is done at this time since 1970 or later has another stamp.
+    fn is_settled_at(&self, since: Duration) -> bool {
+        let (Ok(seconds), Ok(nanos)) = (u64::try_from(self.seconds), u64::try_from(self.nanos))
+        else {
+            return false;
+        };
+        let behind = if nanos == 0 { WHOLE_SECONDS } else { TICKS };
+        let stamp = Duration::from_secs(seconds).saturating_add(Duration::from_nanos(nanos));
+        stamp.saturating_add(Duration::from_millis(behind)) < since
+    }
+}
+
+/// Which file it is, how long, and when it was written and changed last. As long as these stay, so
+/// do its bytes.
+#[derive(Clone, Copy, PartialEq, Eq)]
+pub struct FileVersion {
+    identity: Identity,
+    len: u64,
+    written: Stamp,
+    changed: Stamp,
+}
+
+impl FileVersion {
+    fn of(metadata: &Metadata) -> FileVersion {
+        FileVersion {
+            identity: Identity::of(metadata),
+            len: metadata.len(),
+            written: Stamp {
+                seconds: metadata.mtime(),
+                nanos: metadata.mtime_nsec(),
+            },
+            changed: Stamp {
+                seconds: metadata.ctime(),
+                nanos: metadata.ctime_nsec(),
+            },
+        }
+    }
+
+    /// Whether a file that is changed at this time since 1970 or later has another version.
+    pub fn is_settled_at(&self, since: Duration) -> bool {
+        self.written.is_settled_at(since) && self.changed.is_settled_at(since)
+    }
+}
+
+/// What the system tells of a regular file.
+#[derive(Clone, Copy)]
+pub struct FileStatus {
+    /// How many bytes it has.
+    pub len: u64,
+    /// The bits of its mode that a rewritten file keeps.
+    pub mode: u32,
+    /// Whose it is.
+    pub owner: Owner,
+    /// How many names it has.
+    pub links: u64,
+    version: FileVersion,
+}
+
+impl FileStatus {
+    /// What the system tells here.
+    pub fn of(metadata: &Metadata) -> FileStatus {
+        FileStatus {
+            len: metadata.len(),
+            mode: kept_bits(metadata),
+            owner: Owner::of(metadata),
+            links: metadata.nlink(),
+            version: FileVersion::of(metadata),
+        }
+    }
+
+    /// What its owner, its group and all others may do with it.
+    pub fn rights(&self) -> Rights
+        ensures { result ≡ rights_of_mode self.now.mode }
+    {
+        Rights::of_mode(self.mode)
+    }
+
+    /// Whether the system tells this of the same regular file.
+    pub fn is_of(&self, metadata: &Metadata) -> bool {
+        metadata.is_file() && Identity::of(metadata) == self.version.identity
+    }
+
+    /// Whether the system tells this of the same file with the same bytes.
+    pub fn is_same(&self, other: &FileStatus) -> bool
+        ensures { IsTrue result → self.now.version ≡ other.now.version }
+    {
+        self.version == other.version
+    }
+
+    /// Which file it is, and which bytes it has.
+    pub fn version(&self) -> FileVersion
+        ensures { result ≡ self.now.version }
+    {
+        self.version
+    }
+}
+
+/// The bits of a file's mode that a rewritten file keeps.
+pub fn kept_bits(metadata: &Metadata) -> u32 {
+    metadata.permissions().mode() & KEPT_BITS
+}
+
+/// What stands at a path whose folders are all there.
+#[derive(Clone, Copy)]
+pub enum Found {
+    /// Nothing.
+    Nothing,
+    /// A regular file.
+    File(FileStatus),
+    /// A folder.
+    Folder(Identity),
+    /// A link, a device or a pipe.
+    Other,
+}
+
+/// What a path is, with the parts above it.
+#[derive(Drop)]
+pub enum Place {
+    /// Nothing; folders above it may be missing too.
+    Nothing,
+    /// Nothing, since a part above the path is a regular file.
+    BelowFile,
+    /// A regular file.
+    File(FileStatus),
+    /// A folder.
+    Folder,
+    /// A link, a device or a pipe stands there or above it.
+    Other,
+}
+
+impl Found {
+    ghost use Rattle.reuse_system.specs.FolderPlaces.{place_of_found, place_below};
+
+    /// What a path is at which this stands.
+    pub fn into_place(self) -> Place
+        ensures { result ≡ place_of_found self }
+    {
+        match self {
+            Found::Nothing => Place::Nothing,
+            Found::File(status) => Place::File(status),
+            Found::Folder(_) => Place::Folder,
+            Found::Other => Place::Other,
+        }
+    }
+
+    /// What a path is that lies below one at which this stands.
+    pub fn into_place_below(self) -> Place
+        ensures { result ≡ place_below self }
+    {
+        match self {
+            Found::Nothing | Found::Folder(_) => Place::Nothing,
+            Found::File(_) => Place::BelowFile,
+            Found::Other => Place::Other,
+        }
+    }
+}
+
+/// The folder that the path lies in, which is empty for the root, and the name there.
+pub fn folder_and_name(path: &str) -> (&str, &str)
+    ensures name { IsNameOf path.now result.1.now }
+    ensures split { IsSplit path.now result.0.now result.1.now }
+{
+    path.rsplit_once('/').unwrap_or(("", path))
+}
+
+/// What stands at this place, as the system takes it.
+pub fn look_at(rt: &impl Files, path: &str) -> Result<Found, FolderFault> {
+    match fs::symlink_metadata(rt, path) {
+        Ok(metadata) if metadata.is_file() => Ok(Found::File(FileStatus::of(&metadata))),
+        Ok(metadata) if metadata.is_dir() => Ok(Found::Folder(Identity::of(&metadata))),
+        Ok(_) => Ok(Found::Other),
+        Err(error) if error.kind() == ErrorKind::NotFound => Ok(Found::Nothing),
+        Err(error) => Err(error.into()),
+    }
+}

@@ -1,0 +1,235 @@
+//! The calls of the system that make, remove and open folders, and those that change regular files,
+//! look at them or read them: what they make of these, and what they tell of them. What is told
+//! holds as long as nobody else writes in the folders.
+ghost use Rattle.std.specs.Prelude.{◌≡◌, ◌∷◌, List, Option, Some, is_ok, IfOk, IfSome, MatchResult};
+ghost use Rattle.reuse_system.specs.FileStates.{FileState};
+ghost use Rattle.reuse_system.specs.Folders.{Folders};
+ghost use Rattle.reuse_system.specs.NameChanges.{Look, NameChange};
+
+mod host;
+mod make_file;
+mod open_file;
+mod record;
+
+use crate::fault::FolderFault;
+use crate::handle::{Below, OpenFolder, Start};
+use crate::owner::Owner;
+use crate::place::{FileStatus, Found, Identity, kept_bits};
+use crate::process::ProcessIds;
+pub use host::HostSystem;
+use reuse_tree::Reading;
+use std::alloc::Global;
+use std::fs::{File, Permissions};
+use std::io;
+use std::os::unix::fs::{PermissionsExt, fchown};
+
+/// A new file that is written aside and has no name of its own yet.
+#[derive(Drop)]
+pub struct Aside {
+    file: File,
+    /// Where it was made, as the system takes it.
+    path: String,
+    /// The folder in which it was made, and its name there.
+    folder: Identity,
+    name: String,
+    /// How many files were made before.
+    number: u64,
+}
+
+impl Aside {
+    /// Whose it is.
+    pub fn owner(&self) -> io::Result<Owner> {
+        Ok(Owner::of(&self.file.metadata()?))
+    }
+
+    /// The bits of its mode that a rewritten file keeps.
+    pub fn mode(&self) -> io::Result<u32> {
+        Ok(kept_bits(&self.file.metadata()?))
+    }
+
+    /// Gives it these bits.
+    pub fn set_mode(&self, mode: u32) -> io::Result<()> {
+        self.file.set_permissions(Permissions::from_mode(mode))
+    }
+
+    /// Gives it to this user and group.
+    pub fn give_to(&self, user: Option<u32>, group: Option<u32>) -> io::Result<()> {
+        fchown(&self.file, user, group)
+    }
+}
+
+/// A regular file that is open for reading.
+#[derive(Drop)]
+pub struct OpenedFile {
+    file: File,
+    /// The folder in which it was opened, and its name there.
+    folder: Identity,
+    name: String,
+}
+
+/// The calls of the system on folders and files. What a call tells of them holds if the system is
+/// honest after the call; what is said of `holds` and `folders` holds always.
+pub trait System {
+    ghost use Rattle.reuse_system.specs.SystemLaws.{IsAlikeBut, IsAlikeButFile, IsMade, IsAppended, IsSynced, IsRenamed, IsRemoved, IsLinked, MayBeLinked, MayBeRenamed, IsFolderMade, IsFolderRemoved, IsSeen, IsReadOf, IsOpenedBelow};
+    ghost use Rattle.reuse_system.specs.Asides.{name_in, place_of, opened_at, key_of};
+    ghost use Rattle.reuse_system.specs.NameChanges.{change_at, change_of_free};
+    ghost use Rattle.reuse_system.specs.Within.{IsWithin};
+
+    /// The regular file that each name in a folder leads to.
+    ghost holds: { Self → FileState };
+
+    /// The root, and what else names lead to.
+    ghost folders: { Self → Folders };
+
+    /// What the last call told, if it was a look.
+    ghost looked: { Self → Option Look };
+
+    /// The names that files were given or lost so far, the newest first, each with what a look
+    /// directly before told of it. It tells what was there, whoever has written it.
+    ghost changes: { Self → List NameChange };
+
+    /// So far nobody else has written in the folders, and what was told of a file is what it is. A
+    /// call can lose this, and never gain it.
+    ghost honest: { Self → Type 0 };
+
+    /// Makes an empty file of this name, and of this mode where one is given. It fails where
+    /// anything has the name.
+    fn make(&mut self, folder: &OpenFolder, name: &str, mode: Option<u32>) -> io::Result<Aside>
+        ensures made { MatchResult result
+            (λ aside. (place_of aside ≡ name_in folder.now name.now)
+            × IsMade (name_in folder.now name.now) (key_of aside) (holds self.old) (holds self.new))
+            (λ _. IsAlikeBut (name_in folder.now name.now) (holds self.old) (holds self.new)) }
+        ensures still { folders self.new ≡ folders self.old }
+        ensures earlier { honest self.new → honest self.old }
+        ensures changes { changes self.new ≡ changes self.old };
+
+    /// Writes these bytes to the end of the file. Where that fails, any may be written.
+    fn append(&mut self, aside: &Aside, bytes: &[u8]) -> io::Result<()>
+        ensures appended { MatchResult result
+            (λ _. IsAppended (key_of aside.now) bytes.now (holds self.old) (holds self.new))
+            (λ _. IsAlikeButFile (key_of aside.now) (holds self.old) (holds self.new)) }
+        ensures still { folders self.new ≡ folders self.old }
+        ensures earlier { honest self.new → honest self.old }
+        ensures changes { changes self.new ≡ changes self.old };
+
+    /// Makes the bytes of the file lasting.
+    fn sync_data(&mut self, aside: &Aside) -> io::Result<()>
+        ensures synced { MatchResult result
+            (λ _. IsSynced (key_of aside.now) (holds self.old) (holds self.new))
+            (λ _. IsAlikeButFile (key_of aside.now) (holds self.old) (holds self.new)) }
+        ensures still { folders self.new ≡ folders self.old }
+        ensures earlier { honest self.new → honest self.old }
+        ensures changes { changes self.new ≡ changes self.old };
+
+    /// Gives the file another name, in place of what has it. Where that fails, it may be done.
+    fn rename(&mut self, aside: &Aside, folder: &OpenFolder, name: &str) -> io::Result<()>
+        ensures renamed { MatchResult result
+            (λ _. IsRenamed (place_of aside.now) (name_in folder.now name.now) (holds self.old) (holds self.new))
+            (λ _. MayBeRenamed (place_of aside.now) (name_in folder.now name.now) (holds self.old) (holds self.new)) }
+        ensures still { folders self.new ≡ folders self.old }
+        ensures earlier { honest self.new → honest self.old }
+        ensures changes { changes self.new ≡ change_at (looked self.old) (name_in folder.now name.now) ∷ changes self.old };
+
+    /// Gives the file this name too. It fails where anything has the name; where it fails otherwise,
+    /// it may be done.
+    fn link(&mut self, aside: &Aside, folder: &OpenFolder, name: &str) -> io::Result<()>
+        ensures linked { MatchResult result
+            (λ _. IsLinked (place_of aside.now) (name_in folder.now name.now) (holds self.old) (holds self.new))
+            (λ _. MayBeLinked (place_of aside.now) (name_in folder.now name.now) (holds self.old) (holds self.new)) }
+        ensures still { folders self.new ≡ folders self.old }
+        ensures earlier { honest self.new → honest self.old }
+        ensures changes { changes self.new ≡ change_of_free (name_in folder.now name.now) ∷ changes self.old };
+
+    /// Removes what stands where the file was made. A fault of that tells no more.
+    fn discard(&mut self, aside: &Aside)
+        ensures others { IsAlikeBut (place_of aside.now) (holds self.old) (holds self.new) }
+        ensures still { folders self.new ≡ folders self.old }
+        ensures earlier { honest self.new → honest self.old }
+        ensures changes { changes self.new ≡ change_at (looked self.old) (place_of aside.now) ∷ changes self.old };
+
+    /// Removes the file of this name. Where that fails, it may be done.
+    fn remove(&mut self, folder: &OpenFolder, name: &str) -> io::Result<()>
+        ensures removed { MatchResult result
+            (λ _. IsRemoved (name_in folder.now name.now) (holds self.old) (holds self.new))
+            (λ _. IsAlikeBut (name_in folder.now name.now) (holds self.old) (holds self.new)) }
+        ensures still { folders self.new ≡ folders self.old }
+        ensures earlier { honest self.new → honest self.old }
+        ensures changes { changes self.new ≡ change_at (looked self.old) (name_in folder.now name.now) ∷ changes self.old };
+
+    /// Makes a folder of this name. Where that fails, it may be done.
+    fn make_folder(&mut self, above: &OpenFolder, name: &str) -> io::Result<()>
+        ensures kept { holds self.new ≡ holds self.old }
+        ensures made { IsFolderMade (name_in above.now name.now) (folders self.old) (folders self.new) (is_ok result) }
+        ensures earlier { honest self.new → honest self.old }
+        ensures changes { changes self.new ≡ changes self.old };
+
+    /// Removes the empty folder of this name. Where that fails, it may be done.
+    fn remove_folder(&mut self, above: &OpenFolder, name: &str) -> io::Result<()>
+        ensures kept { holds self.new ≡ holds self.old }
+        ensures removed { IsFolderRemoved (name_in above.now name.now) (folders self.old) (folders self.new) (is_ok result) }
+        ensures earlier { honest self.new → honest self.old }
+        ensures changes { changes self.new ≡ changes self.old };
+
+    /// Opens the root, which is at this path.
+    fn open_root(
+        &mut self,
+        alloc: Global,
+        path: &str,
+        process: ProcessIds,
+        start: Start,
+    ) -> Result<OpenFolder, FolderFault>
+        ensures kept { holds self.new ≡ holds self.old }
+        ensures still { folders self.new ≡ folders self.old }
+        ensures earlier { honest self.new → honest self.old }
+        ensures root { honest self.new → IfOk result (λ folder. folder.identity ≡ (folders self.new).root) }
+        ensures changes { changes self.new ≡ changes self.old };
+
+    /// The folder of this name, opened, or what stands there in its place.
+    fn open_below(
+        &mut self,
+        alloc: Global,
+        above: &OpenFolder,
+        name: &str,
+    ) -> Result<Below, FolderFault>
+        ensures kept { holds self.new ≡ holds self.old }
+        ensures still { folders self.new ≡ folders self.old }
+        ensures earlier { honest self.new → honest self.old }
+        ensures opened { honest self.new
+            → IsOpenedBelow (folders self.new) (holds self.new) above.now.identity name.now result }
+        ensures changes { changes self.new ≡ changes self.old };
+
+    /// What stands at this name. No link is followed.
+    fn look(&mut self, folder: &OpenFolder, name: &str) -> Result<Found, FolderFault>
+        ensures kept { holds self.new ≡ holds self.old }
+        ensures still { folders self.new ≡ folders self.old }
+        ensures earlier { honest self.new → honest self.old }
+        ensures seen { honest self.new → IsSeen (holds self.new (name_in folder.now name.now)) result }
+        ensures changes { changes self.new ≡ changes self.old }
+        ensures looked { IfOk result (λ found. looked self.new ≡ Some (record { place = name_in folder.now name.now; told = found })) };
+
+    /// Opens the regular file that was seen at this name just before, or gives nothing if something
+    /// else has taken its place.
+    fn open(
+        &self,
+        folder: &OpenFolder,
+        name: &str,
+        seen: FileStatus,
+    ) -> Result<Option<OpenedFile>, FolderFault>
+        ensures { IfOk result (λ opened. IfSome opened (λ file. opened_at file ≡ name_in folder.now name.now)) };
+
+    /// The bytes of a file that was opened just now and is said to have so many, where they are at
+    /// most `limit`.
+    fn read(
+        &mut self,
+        alloc: Global,
+        opened: OpenedFile,
+        said: u64,
+        limit: usize,
+    ) -> Result<Reading, FolderFault>
+        ensures kept { holds self.new ≡ holds self.old }
+        ensures still { folders self.new ≡ folders self.old }
+        ensures earlier { honest self.new → honest self.old }
+        ensures within { IfOk result (IsWithin limit) }
+        ensures read { honest self.new → IsReadOf said limit (holds self.new (opened_at opened)) result }
+        ensures changes { changes self.new ≡ changes self.old };
+}

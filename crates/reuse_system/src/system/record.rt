@@ -1,0 +1,120 @@
+//! The calls of the system, which only contracts see.
+ghost use Rattle.std.specs.Prelude.{◌≡◌, ℕ, Bool, List, [], ◌∷◌};
+ghost use Rattle.std.specs.Borrow.{ftrue};
+ghost use Rattle.std.specs.Coded.{coded_list, coded_ℕ, coded_bool, coded×};
+ghost use Rattle.reuse_system.specs.FileStates.{Place, place_in};
+ghost use Rattle.reuse_system.specs.SystemCall.{SystemCall};
+ghost use Rattle.reuse_system.specs.SystemCall.SystemCall.{ReadCall};
+
+use crate::fault::FolderFault;
+use crate::place::{Found, Identity};
+use reuse_tree::Reading;
+use std::marker::{Model, PhantomData};
+
+/// Which call was made, on which folders or on which of the files that were made, and whether it
+/// answered that it was done.
+#[derive(Clone, Copy)]
+pub enum CallKind {
+    /// A file was to be made in this folder.
+    Make(Identity, bool),
+    /// Bytes were to be written to the end of this file.
+    Append(u64, bool),
+    /// The bytes of this file were to be made lasting.
+    Sync(u64, bool),
+    /// A name in the first folder was to become one in the second.
+    Rename(Identity, Identity, bool),
+    /// The file that has a name in the first folder was to get one in the second, too.
+    Link(Identity, Identity, bool),
+    /// A name in this folder was to be removed.
+    Remove(Identity, bool),
+    /// A name in this folder was looked at, and this was told of it.
+    Look(Identity, Result<Found, FolderFault>),
+    /// A file in this folder was read, which was said to have so many bytes, up to a limit.
+    Read(Identity, u64, usize, ReadKind),
+    /// The root was opened, and it is this folder.
+    Root(Identity),
+    /// A name in the first folder was opened, and it is the second one.
+    Open(Identity, Identity),
+    /// A name in this folder was to be opened, and this was told in place of a folder.
+    NoFolder(Identity, Found),
+    /// A folder was to be made in this one.
+    MakeFolder(Identity, bool),
+    /// A folder in this one was to be removed.
+    RemoveFolder(Identity, bool),
+}
+
+/// What a reading answered, but for the bytes.
+#[derive(Clone, Copy)]
+pub enum ReadKind {
+    Absent,
+    Found,
+    TooLong,
+    Failed(FolderFault),
+}
+
+/// The folders and the files at the start, the fates of the calls to come, and the calls since then with their
+/// answers, the newest first. It takes no bytes, and nothing runs.
+#[derive(Drop)]
+pub struct SystemRecord {
+    marker: PhantomData<u8>,
+    pub ghost folders: { (ℕ × ℕ) × (List (Place × (ℕ × ℕ)) × List Place) } by { coded× (coded× coded_ℕ coded_ℕ) (coded× (coded_list (coded× (coded_list coded_ℕ) (coded× coded_ℕ coded_ℕ))) (coded_list (coded_list coded_ℕ))) },
+    pub ghost files: { List (Place × (ℕ × (List ℕ × Bool))) } by { coded_list (coded× (coded_list coded_ℕ) (coded× coded_ℕ (coded× (coded_list coded_ℕ) coded_bool))) },
+    pub ghost fates: { List ℕ } by { coded_list coded_ℕ },
+    pub ghost calls: { List SystemCall },
+}
+
+impl Model for SystemRecord {
+    ghost also_owns = { λ _. ftrue };
+}
+
+impl SystemRecord {
+    ghost use Rattle.reuse_system.specs.SystemCalls.{SystemStart, call_of};
+
+    /// A record of no calls, with any folders and files at the start and any fates of the calls to
+    /// come.
+    pub fn new() -> SystemRecord
+        ghost start: { SystemStart }
+        ensures { (result.folders ≡ start.folders) × (result.files ≡ start.files) × (result.fates ≡ start.fates) × (result.calls ≡ []) }
+    {
+        SystemRecord {
+            marker: PhantomData,
+        }
+    }
+
+    /// Notes a call by its kind, and the names or the bytes that this kind has.
+    pub fn note(&mut self, _kind: &CallKind, _first: &[u8], _second: &[u8])
+        ensures { self.new ≡ record self.old { calls = call_of _kind.now _first.now _second.now ∷ self.old.calls } }
+    {}
+
+    /// Notes that a file of this name was read, and the answer.
+    pub fn note_read(
+        &mut self,
+        folder: Identity,
+        name: &str,
+        said: u64,
+        limit: usize,
+        answer: &Result<Reading, FolderFault>,
+    )
+        ensures { self.new ≡ record self.old { calls = ReadCall (place_in folder name.now) said limit answer.now ∷ self.old.calls } }
+    {
+        let name = name.as_bytes();
+        match answer {
+            Ok(Reading::Absent) => {
+                let kind = CallKind::Read(folder, said, limit, ReadKind::Absent);
+                self.note(&kind, name, b"")
+            }
+            Ok(Reading::Found(bytes)) => {
+                let kind = CallKind::Read(folder, said, limit, ReadKind::Found);
+                self.note(&kind, name, bytes.as_slice())
+            }
+            Ok(Reading::TooLong) => {
+                let kind = CallKind::Read(folder, said, limit, ReadKind::TooLong);
+                self.note(&kind, name, b"")
+            }
+            Err(fault) => {
+                let kind = CallKind::Read(folder, said, limit, ReadKind::Failed(*fault));
+                self.note(&kind, name, b"")
+            }
+        }
+    }
+}

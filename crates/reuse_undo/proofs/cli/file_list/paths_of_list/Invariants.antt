@@ -1,7 +1,0 @@
-use Rattle.std.proofs.Common.{◌≡◌, ℕ, List, map, Bor}
-use Rattle.std.specs.Prelude.{filter_map}
-use Rattle.reuse_undo.specs.cli.FileLists.{path_listed, separator_of}
-use Rattle.reuse_undo.proofs.cli.file_list.paths_of_list.Given as goal
-
-abbrev pub invariant-loop-word : goal.invariant-loop-word
-invariant-loop-word l = l.paths.items ≡ filter_map (path_listed (separator_of l.list)) (map (λ (word : Bor (List ℕ)). word.now) l.yielded)

@@ -1,7 +1,0 @@
-use Rattle.reuse_undo.specs.cli.FileWords.{globs_of}
-use Rattle.reuse_undo.proofs.lemmas.cli.WordListLemmas.{HasRead}
-use Rattle.reuse_undo.proofs.cli.words.file_words.globs_in.Given as goal
-
--- the words so far were read
-abbrev pub invariant-loop-word : goal.invariant-loop-word
-invariant-loop-word l = HasRead globs_of l.words l.word-index l.globs.items

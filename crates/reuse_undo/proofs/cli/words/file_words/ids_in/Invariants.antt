@@ -1,7 +1,0 @@
-use Rattle.std.proofs.Common.{◌≡◌, take}
-use Rattle.reuse_undo.proofs.lemmas.cli.WordListLemmas.{texts_in}
-use Rattle.reuse_undo.proofs.cli.words.file_words.ids_in.Given as goal
-
--- the ids so far were taken
-abbrev pub invariant-loop-word : goal.invariant-loop-word
-invariant-loop-word l = l.ids.items ≡ texts_in (take l.word-index l.words)

@@ -1,8 +1,0 @@
-use Rattle.std.proofs.Common.{take, Ok}
-use Rattle.reuse_tree.specs.Asked.{AreWrites}
-use Rattle.reuse_undo.proofs.lemmas.disk.NotedWrites.{noted}
-use Rattle.reuse_undo.proofs.disk.DiskStore.note_made.Given as goal
-
--- the writes so far are noted
-abbrev pub invariant-loop-write : goal.invariant-loop-write
-invariant-loop-write g l = AreWrites (noted (λ store. store.calls)) (take l.write-index l.writes) l.fn.self l.self (Ok tt)

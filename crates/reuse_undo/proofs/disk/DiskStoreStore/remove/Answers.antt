@@ -1,4 +1,0 @@
-use Rattle.reuse_undo.proofs.disk.DiskStoreStore.remove.Goals as goal
-
-pub returns-clause-place : goal.returns-clause-place
-returns-clause-place g c honest = rw c.note_removal.ensures.folder (c.remove-answer.ensures.place (rw c.note_removal.ensures.folder at honest))

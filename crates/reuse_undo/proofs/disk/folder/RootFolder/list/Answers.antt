@@ -1,4 +1,0 @@
-use Rattle.reuse_undo.proofs.disk.folder.RootFolder.list.Goals as goal
-
-pub invariant_of-self-2 : goal.invariant_of-self-2
-invariant_of-self-2 g c = record { opened = c.walk.ensures.opened c.loop-index.self.opened }

@@ -1,4 +1,0 @@
-use Rattle.reuse_undo.proofs.disk.note_listing.Given as goal
-
-abbrev pub ghost-note_list : goal.ghost-note_list
-ghost-note_list g a = g.pruned

@@ -1,4 +1,0 @@
-use Rattle.reuse_undo.proofs.disk.system.host.HostSystem.new.Given as goal
-
-abbrev pub ghost-new : goal.ghost-new
-ghost-new g a = g.start

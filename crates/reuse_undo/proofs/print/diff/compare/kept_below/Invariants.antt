@@ -1,7 +1,0 @@
-use Rattle.std.proofs.Common.{◌≡◌, ◌+◌, ◌-◌, take, length}
-use Rattle.std.specs.List.{suffix_len}
-use Rattle.reuse_undo.specs.print.Hunks.{is_kept}
-use Rattle.reuse_undo.proofs.print.diff.compare.kept_below.Given as goal
-
-abbrev pub invariant-loop-count : goal.invariant-loop-count
-invariant-loop-count l = suffix_len is_kept l.pieces ≡ l.count + suffix_len is_kept (take (length l.pieces - l.count) l.pieces)

@@ -1,6 +1,0 @@
-use Rattle.std.proofs.Common.{◌≡◌, ◌≤◌, take, length}
-use Rattle.reuse_undo.specs.print.Hunks.{new_lines}
-use Rattle.reuse_undo.proofs.print.diff.pieces.new_count.Given as goal
-
-abbrev pub invariant-loop-piece : goal.invariant-loop-piece
-invariant-loop-piece l = (l.count ≤ l.piece-index) × (l.count ≡ length (new_lines (take l.piece-index l.pieces)))

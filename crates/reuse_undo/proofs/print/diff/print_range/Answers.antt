@@ -1,6 +1,0 @@
-use Rattle.std.specs.Option.{option_copied}
-use Rattle.reuse_undo.proofs.lemmas.print.DiffTextLemmas.{range-body}
-use Rattle.reuse_undo.proofs.print.diff.print_range.Goals as goal
-
-pub returns : goal.returns
-returns g c = range-body c.args.turn.path.now (option_copied c.args.turn.before) (option_copied c.args.turn.after) c.args.at _ _ _ c.in_ok-print_head.ensures c.in_ok-print_range_body.ensures

@@ -1,8 +1,0 @@
-use Rattle.std.proofs.Common.{take}
-use Rattle.std.specs.Io.KnownBytes.{Appends}
-use Rattle.reuse_undo.specs.print.Lines.{change_lines}
-use Rattle.reuse_undo.proofs.print.lines.print_changes.Given as goal
-
--- the lines of the changes so far were written
-abbrev pub invariant-loop-change : goal.invariant-loop-change
-invariant-loop-change g l = Appends (g.W.Write.contents l.initial.out) (g.W.Write.contents l.out) (change_lines l.names (take l.change-index l.changes))

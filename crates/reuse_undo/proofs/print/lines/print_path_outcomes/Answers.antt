@@ -1,8 +1,0 @@
-use Rattle.std.proofs.Common.{arith}
-use Rattle.reuse_undo.specs.print.Lines.{path_outcome_line}
-use Rattle.reuse_undo.proofs.lemmas.print.LineLemmas.{Appends-joined}
-use Rattle.reuse_undo.proofs.print.lines.print_path_outcomes.Goals as goal
-
-pub loop-path_outcome-preserved : goal.loop-path_outcome-preserved
-loop-path_outcome-preserved g c =
-    Appends-joined (path_outcome_line c.args.names) _ _ _ c.args.path_outcomes.now c.loop-path_outcome.path_outcome-index c.path_outcome-item.result (omega arith) c.path_outcome-item.is c.loop-path_outcome.invariant c.in_ok-print_path_outcome.ensures

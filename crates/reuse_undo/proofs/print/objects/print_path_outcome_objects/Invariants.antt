@@ -1,8 +1,0 @@
-use Rattle.std.proofs.Common.{take}
-use Rattle.reuse_undo.specs.print.Objects.{ArePathOutcomeObjects}
-use Rattle.reuse_undo.specs.print.RowLines.{AppendsSome}
-use Rattle.reuse_undo.proofs.print.objects.print_path_outcome_objects.Given as goal
-
--- the objects of the paths so far were written
-abbrev pub invariant-loop-path_outcome : goal.invariant-loop-path_outcome
-invariant-loop-path_outcome g l = AppendsSome (g.W.Write.contents l.initial.out) (g.W.Write.contents l.out) (ArePathOutcomeObjects (take l.path_outcome-index l.path_outcomes))

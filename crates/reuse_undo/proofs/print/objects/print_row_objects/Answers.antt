@@ -1,8 +1,0 @@
-use Rattle.std.proofs.Common.{arith}
-use Rattle.reuse_undo.specs.print.Objects.{IsRowObject}
-use Rattle.reuse_undo.proofs.lemmas.print.RowLemmas.{AppendsSome-row}
-use Rattle.reuse_undo.proofs.print.objects.print_row_objects.Goals as goal
-
-pub loop-row-preserved : goal.loop-row-preserved
-loop-row-preserved g c =
-    AppendsSome-row IsRowObject _ _ _ c.args.rows.now c.loop-row.row-index c.row-item.result (omega arith) c.row-item.is c.loop-row.invariant c.in_ok-print_row_object.ensures

@@ -1,8 +1,0 @@
-use Rattle.std.proofs.Common.{arith}
-use Rattle.reuse_undo.specs.print.RowLines.{IsRowLine}
-use Rattle.reuse_undo.proofs.lemmas.print.RowLemmas.{AppendsSome-row}
-use Rattle.reuse_undo.proofs.print.rows.print_rows.Goals as goal
-
-pub loop-row-preserved : goal.loop-row-preserved
-loop-row-preserved g c =
-    AppendsSome-row IsRowLine _ _ _ c.args.rows.now c.loop-row.row-index c.row-item.result (omega arith) c.row-item.is c.loop-row.invariant c.in_ok-print_row.ensures
