@@ -2,7 +2,7 @@
 use Rattle.std.specs.Prelude.{ℕ, ◌-◌, Bool, not, List, [], ◌∷◌, Option, None, Some, filter, length, nat_eq, ◌==◌, if◌then◌else◌, take, codes}
 use Rattle.std.specs.List.{ends_with, join_with_byte}
 use Rattle.std.specs.Str.{bytes_eq}
-use Rattle.reuse_tree.specs.Path.{is_path}
+use Rattle.reuse_change.specs.Path.{is_path}
 use Rattle.reuse_system.specs.Names.{between_slashes}
 use Rattle.reuse_command.specs.declared.command.Place.{Place}
 use Rattle.reuse_command.specs.declared.command.Place.TheVariants.{Root, Path}

@@ -9,9 +9,9 @@ ghost use Rattle.reuse_arguments.specs.FileLists.{has_nul, separator_of, path_of
 use crate::line::{Line, LineFault};
 use crate::place_word::place_of_word;
 use crate::request::set_listed;
+use reuse_change::PathText;
 use reuse_session::{PathList, Place};
 use reuse_system::reading::read_front;
-use reuse_tree::PathText;
 use std::alloc::{AllocError, Global};
 use std::fs;
 use std::io::{self, ErrorKind, Read};

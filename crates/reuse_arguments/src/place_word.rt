@@ -4,8 +4,8 @@ ghost use Rattle.std.specs.Option.{option_map};
 ghost use Rattle.reuse_arguments.specs.Places.{without_end_slash, parts_of, path_along, is_named, place_at, place_of_word};
 ghost use Rattle.reuse_system.specs.Names.{between_slashes};
 
+use reuse_change::{PathError, PathText};
 use reuse_session::Place;
-use reuse_tree::{PathError, PathText};
 use std::alloc::{AllocError, Global};
 
 /// The place that the word names: parts `.` and a slash at the end are dropped, and `.` is the

@@ -1,10 +1,10 @@
 -- Calls that only read a store: what they tell of a fault, by what they were told.
 use Rattle.std.proofs.Common.{◌≡◌, ◌<◌, List, ℕ, Result, Ok, Err, IfErr, IsErrAnd, refl, sym, subst, arith}
-use Rattle.reuse_tree.specs.Asked.{FailsAsRead, OnlyReads}
-use Rattle.reuse_tree.specs.declared.fault.StoreFault.{StoreFault}
-use Rattle.reuse_tree.specs.declared.fault.StoreFault.TheVariants as stores
-use Rattle.reuse_tree.specs.declared.store.Store.{Ghosts}
-use Rattle.reuse_tree.proofs.AskedLemmas.{reads_more, reads_none}
+use Rattle.reuse_store.specs.Asked.{FailsAsRead, OnlyReads}
+use Rattle.reuse_store.specs.declared.fault.StoreFault.{StoreFault}
+use Rattle.reuse_store.specs.declared.fault.StoreFault.TheVariants as stores
+use Rattle.reuse_store.specs.declared.store.Store.{Ghosts}
+use Rattle.reuse_store.proofs.AskedLemmas.{reads_more, reads_none}
 use Rattle.reuse_command.specs.Answer.{HasCause, IsNoClash, IsOfPlan, IsOpenRefusal, IsReadRefusal, RefusedAsRead, IsEarlyFailure}
 use Rattle.reuse_command.specs.Cause.{refusal_of}
 use Rattle.reuse_command.specs.Reading.{ReadsAlone}

@@ -2,11 +2,11 @@
 use Rattle.std.proofs.Common.{◌≡◌, Result, Ok, Err, IfErr, IsErrAnd, ap, subst, ◌∙◌}
 use Rattle.std.proofs.lemmas.Result.{err_from_is_err_and}
 use Rattle.reuse_command.specs.declared.failure.Fault.TheVariants as faults
-use Rattle.reuse_tree.specs.declared.store.Store.{Ghosts}
-use Rattle.reuse_tree.specs.Asked.{OnlyReads}
+use Rattle.reuse_store.specs.declared.store.Store.{Ghosts}
+use Rattle.reuse_store.specs.Asked.{OnlyReads}
 use Rattle.reuse_command.specs.Answer.{IsEarly, IsOfPlan, IsReadRefusal, IsStop, IsTestRefusal, HasCause, IsEarlyFailure}
-use Rattle.reuse_tree.specs.declared.cause.Cause.{Cause}
-use Rattle.reuse_tree.specs.declared.cause.Cause.TheVariants as causes
+use Rattle.reuse_store.specs.declared.cause.Cause.{Cause}
+use Rattle.reuse_store.specs.declared.cause.Cause.TheVariants as causes
 use Rattle.reuse_command.specs.declared.reply.Refusal.{Refusal}
 use Rattle.reuse_command.specs.declared.failure.Failure.TheVariants.{Fault, Interrupted}
 use Rattle.reuse_command.specs.declared.reply.Refusal.TheVariants.{Failed}

@@ -1,16 +1,16 @@
 -- What kind of refusal an answer tells, and when each may be told.
 use Rattle.std.specs.Prelude.{◌≡◌, ◌≢◌, ℕ, ◌<◌, Bool, false, List, ◌∷◌, Result, Ok, Err}
-use Rattle.reuse_tree.specs.declared.store.Store.{Ghosts}
+use Rattle.reuse_store.specs.declared.store.Store.{Ghosts}
 use Rattle.reuse_command.specs.declared.reply.Response.{Response}
 use Rattle.reuse_command.specs.declared.reply.Response.TheVariants.{Changed, NothingChanged}
 use Rattle.reuse_command.specs.declared.failure.Failure.TheVariants.{Interrupted, Fault, Memory}
 use Rattle.reuse_command.specs.declared.failure.Fault.TheVariants as faults
 use Rattle.reuse_command.specs.declared.reply.Refusal.{Refusal}
 use Rattle.reuse_command.specs.declared.reply.Refusal.TheVariants.{Broken, JournalFull, NothingToUndo, NothingToRedo, NoSuchStep, Moved, BadJournal, Failed}
-use Rattle.reuse_tree.specs.declared.cause.Cause.{Cause}
-use Rattle.reuse_tree.specs.declared.cause.Cause.TheVariants as causes
-use Rattle.reuse_tree.specs.declared.journal.fault.DecodeFault.{DecodeFault}
-use Rattle.reuse_tree.specs.declared.journal.fault.DecodeFault.TheVariants as decoding
+use Rattle.reuse_store.specs.declared.cause.Cause.{Cause}
+use Rattle.reuse_store.specs.declared.cause.Cause.TheVariants as causes
+use Rattle.reuse_json.specs.declared.fault.DecodeFault.{DecodeFault}
+use Rattle.reuse_json.specs.declared.fault.DecodeFault.TheVariants as decoding
 
 -- ---- failures
 

@@ -6,8 +6,8 @@ use Rattle.std.specs.Str.{chars}
 use Rattle.reuse_dep5.specs.declared.glob.GlobPiece.{GlobPiece}
 use Rattle.reuse_dep5.specs.GlobMatch.{matches_glob}
 use Rattle.reuse_command.specs.Covered.{is_covered}
-use Rattle.reuse_tree.specs.Listing.{is_among, is_folder_of}
-use Rattle.reuse_tree.specs.Path.{folders_above}
+use Rattle.reuse_change.specs.Listing.{is_among, is_folder_of}
+use Rattle.reuse_change.specs.Path.{folders_above}
 use Rattle.reuse_command.specs.declared.command.Scope.{Scope}
 
 -- the path is listed, where there is a list

@@ -2,12 +2,12 @@
 -- docs/RULES.md).
 use Rattle.std.specs.Prelude.{ℕ, Bool, true, false, List, Option, None, Some, filter_map, codes}
 use Rattle.std.specs.List.{list_any}
-use Rattle.reuse_tree.specs.Entry.{IsEntry}
-use Rattle.reuse_tree.specs.EntryText.{HavePaths}
+use Rattle.reuse_change.specs.Entry.{IsEntry}
+use Rattle.reuse_json.specs.EntryText.{HavePaths}
 use Rattle.reuse_command.specs.declared.command.Command.{Command}
 use Rattle.reuse_command.specs.declared.command.Command.TheVariants.{Annotate, Amend, ConvertDep5, Download, Revert}
-use Rattle.reuse_tree.specs.declared.command_name.CommandName.{CommandName}
-use Rattle.reuse_tree.specs.declared.command_name.CommandName.TheVariants as names
+use Rattle.reuse_change.specs.declared.command_name.CommandName.{CommandName}
+use Rattle.reuse_change.specs.declared.command_name.CommandName.TheVariants as names
 use Rattle.reuse_command.specs.declared.command.Place.{Place}
 use Rattle.reuse_command.specs.declared.command.Place.TheVariants.{Root, Path}
 

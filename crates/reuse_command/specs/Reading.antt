@@ -1,11 +1,11 @@
 -- The words by which calls that only read a store say what they found of its tree.
 use Rattle.std.specs.Prelude.{Result, IfErr}
-use Rattle.reuse_tree.specs.declared.store.Store.{Ghosts}
+use Rattle.reuse_store.specs.declared.store.Store.{Ghosts}
 use Rattle.reuse_command.specs.declared.reply.Refusal.{Refusal}
 pub use Rattle.std.specs.FinMap.{get, keys}
-pub use Rattle.reuse_tree.specs.Asked.{OnlyReads}
-pub use Rattle.reuse_tree.specs.Files.{Files, tree_of}
-pub use Rattle.reuse_tree.specs.Store.{reading_of}
+pub use Rattle.reuse_store.specs.Asked.{OnlyReads}
+pub use Rattle.reuse_change.specs.Files.{Files, tree_of}
+pub use Rattle.reuse_store.specs.Store.{reading_of}
 pub use Rattle.reuse_command.specs.Answer.{IsOfPlan, RefusedAsRead}
 
 -- the store is read alone, and a refusal is one of these and tells of a fault as a reading does

@@ -5,11 +5,11 @@ ghost use Rattle.std.specs.Str.{chars};
 ghost use Rattle.reuse_dep5.specs.GlobMatch.{matches_glob};
 ghost use Rattle.reuse_notice.specs.Sets.{set_of};
 ghost use Rattle.reuse_command.specs.Choice.{leaves_out, matches_folder, matches_one};
-ghost use Rattle.reuse_tree.specs.Path.{folders_above};
-ghost use Rattle.reuse_tree.specs.Listing.{is_among, is_folder_of};
+ghost use Rattle.reuse_change.specs.Path.{folders_above};
+ghost use Rattle.reuse_change.specs.Listing.{is_among, is_folder_of};
 
+use reuse_change::{Items, PathText, is_among};
 use reuse_dep5::{Glob, glob_matches};
-use reuse_tree::{Items, PathText, is_among};
 use std::marker::Model;
 
 /// Paths in byte order, without repeats.
@@ -20,7 +20,7 @@ pub struct PathList {
 
 impl Model for PathList {
     ghost use Rattle.std.specs.Prelude.{List, ℕ};
-    ghost use Rattle.reuse_tree.specs.Listing.{ArePaths};
+    ghost use Rattle.reuse_change.specs.Listing.{ArePaths};
 
     ghost Value = { List (List ℕ) };
 

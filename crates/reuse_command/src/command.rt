@@ -3,9 +3,10 @@ ghost use Rattle.std.specs.Prelude.{◌≡◌, IfOk};
 
 use crate::choice::{Globs, PathList};
 use crate::licence::{Ids, LicenceTexts};
+use reuse_change::{CommandName, Items, PathText};
 use reuse_header::{How, Style};
+use reuse_json::EntryChanges;
 use reuse_notice::{Additions, Amendments};
-use reuse_tree::{CommandName, EntryChanges, Items, PathText};
 use std::alloc::{AllocError, Global};
 
 /// A place of a tree that a command is given.

@@ -2,7 +2,7 @@
 ghost use Rattle.std.specs.Prelude.{Some};
 ghost use Rattle.reuse_command.specs.RefusalTexts.{failure_text};
 
-use reuse_tree::Cause;
+use reuse_store::Cause;
 use std::error::Error;
 use std::fmt;
 

@@ -1,8 +1,8 @@
 //! Paths whose texts are known to be good.
 ghost use Rattle.std.specs.Prelude.{◌≡◌, IfOk, IsTrue};
-ghost use Rattle.reuse_tree.specs.Path.{is_path};
+ghost use Rattle.reuse_change.specs.Path.{is_path};
 
-use reuse_tree::{PathError, PathText};
+use reuse_change::{PathError, PathText};
 use std::alloc::{AllocError, Global};
 
 /// The path of a text that its caller knows to be a good path, such as one that is fixed.

@@ -1,6 +1,6 @@
 //! What a download is given: ids of licences, and the texts that were found for them.
+use reuse_change::Items;
 use reuse_text::Bytes;
-use reuse_tree::Items;
 
 /// What was found for the id of a licence: its text, or none.
 #[derive(Debug, Drop)]

@@ -4,7 +4,8 @@ ghost use Rattle.reuse_command.specs.Answer.{IsFailure};
 ghost use Rattle.reuse_command.specs.Answer.{IsTold};
 
 use crate::reply::Refusal;
-use reuse_tree::{Changes, Items, PathText};
+use reuse_change::{Items, PathText};
+use reuse_json::Changes;
 
 /// What a call would do at a path.
 #[derive(Debug, Drop)]

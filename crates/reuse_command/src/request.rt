@@ -1,7 +1,7 @@
 //! What a session is asked for.
 
 use crate::command::Command;
-use reuse_tree::Moment;
+use reuse_change::Moment;
 
 /// A call that changes the tree, and that can be looked at before it is made.
 #[derive(Debug, Drop)]

@@ -3,9 +3,9 @@ use Rattle.std.specs.Prelude.{◌≡◌, ◌≢◌, ℕ, ◌+◌, ◌/◌, ◌%�
 use Rattle.std.specs.Fmt.{decimal}
 use Rattle.std.specs.List.{flat_map, list_any}
 use Rattle.std.specs.Str.{bytes_eq}
-use Rattle.reuse_tree.specs.Change.{path_of}
-use Rattle.reuse_tree.specs.declared.change.Change.{Change}
-use Rattle.reuse_tree.specs.declared.change.Change.TheVariants.{Make, Drop, Splice}
+use Rattle.reuse_change.specs.Change.{path_of}
+use Rattle.reuse_change.specs.declared.change.Change.{Change}
+use Rattle.reuse_change.specs.declared.change.Change.TheVariants.{Make, Drop, Splice}
 use Rattle.reuse_diff.specs.declared.hunk.Hunk.{Hunk}
 use Rattle.reuse_diff.specs.declared.hunk.Piece.{Piece}
 use Rattle.reuse_diff.specs.Hunks.{IsHunk, KeepsEnds, hunk_text, old_lines, new_lines, piece_text}

@@ -8,7 +8,7 @@
 ghost use Rattle.std.specs.Prelude.{◌≡◌, OnOk, ◌++◌, unwrap_or, []};
 ghost use Rattle.std.specs.Option.{option_copied};
 ghost use Rattle.std.specs.Io.KnownBytes.{Appends};
-ghost use Rattle.reuse_tree.specs.Change.{path_of};
+ghost use Rattle.reuse_change.specs.Change.{path_of};
 ghost use Rattle.reuse_diff.specs.DiffText.{head_text, title_text, both_text, mode_text, names_text, side_text, end_text, binary_text, old_binary_text, new_binary_text, is_binary, is_either_binary, part_before, part_after, same_side, IsDiff, IsBody, IsTextBody, IsRange, IsRangeBody, IsRangeLines, IsRecord};
 ghost use Rattle.reuse_diff.specs.Hunks.{hunk_text};
 ghost use Rattle.reuse_shown.specs.JoinedTexts.{AppendsSome};
@@ -23,7 +23,7 @@ use compare::{hunk_between, pieces_of};
 use hunk::Hunk;
 use name::{is_name_spaced, print_name};
 use pieces::{print_hunk, print_pieces};
-use reuse_tree::{Change, PathText};
+use reuse_change::{Change, PathText};
 use std::alloc::Global;
 use std::io::{self, Write};
 

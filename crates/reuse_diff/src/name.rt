@@ -4,7 +4,7 @@ ghost use Rattle.std.specs.List.{flat_map, list_any};
 ghost use Rattle.std.specs.Io.KnownBytes.{Appends};
 ghost use Rattle.reuse_diff.specs.DiffText.{escape_letter, is_printable, is_quoted, name_text, plain_text, quoted_text};
 
-use reuse_tree::PathText;
+use reuse_change::PathText;
 use std::io::{self, Write};
 
 /// Prints a path behind `a/` or `b/`, quoted as git quotes it.

@@ -1,11 +1,11 @@
 -- What an honest folder holds are files: a put where there is room and a removal keep them so.
 use Rattle.std.proofs.Common.{◌≡◌, IsTrue, Bool, true, false, if◌then◌else◌, List, ℕ, Result, Ok, Err, refl}
 use Rattle.std.specs.FinMap.{insert, remove}
-use Rattle.reuse_tree.specs.Files.{Files, AreFiles}
-use Rattle.reuse_tree.specs.Path.{is_path}
-use Rattle.reuse_tree.specs.Store.{Puts}
-use Rattle.reuse_tree.specs.declared.fault.StoreFault.{StoreFault}
-use Rattle.reuse_tree.specs.declared.fault.StoreFault.TheVariants.{Device, Clash, Memory}
+use Rattle.reuse_change.specs.Files.{Files, AreFiles}
+use Rattle.reuse_change.specs.Path.{is_path}
+use Rattle.reuse_store.specs.Store.{Puts}
+use Rattle.reuse_store.specs.declared.fault.StoreFault.{StoreFault}
+use Rattle.reuse_store.specs.declared.fault.StoreFault.TheVariants.{Device, Clash, Memory}
 use Rattle.reuse_folder.specs.Honesty.{HasRoom, MayAnswerPut, has_effect}
 
 -- a put keeps files good

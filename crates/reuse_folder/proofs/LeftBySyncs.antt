@@ -1,11 +1,11 @@
 -- What a barrier leaves to a loss of power.
 use Rattle.std.proofs.Common.{List, ◌∷◌, Result, Ok, Err, OnOk}
-use Rattle.reuse_tree.specs.Calls.{Call}
-use Rattle.reuse_tree.specs.Calls.Call.{SyncCall}
-use Rattle.reuse_tree.specs.Files.{Files}
-use Rattle.reuse_tree.specs.Lasting.{IsCertain}
-use Rattle.reuse_tree.specs.declared.change.Change.{Change}
-use Rattle.reuse_tree.specs.declared.fault.StoreFault.{StoreFault}
+use Rattle.reuse_store.specs.Calls.{Call}
+use Rattle.reuse_store.specs.Calls.Call.{SyncCall}
+use Rattle.reuse_change.specs.Files.{Files}
+use Rattle.reuse_store.specs.Lasting.{IsCertain}
+use Rattle.reuse_change.specs.declared.change.Change.{Change}
+use Rattle.reuse_store.specs.declared.fault.StoreFault.{StoreFault}
 use Rattle.reuse_folder.specs.Honesty.{files_of, MayBeLeft}
 
 module _ (start : Files) (doubts : List Files) (calls : List Call) (changes : List Change) where

@@ -1,13 +1,13 @@
 -- Writes that a store notes whose members are read off its record of calls.
 use Rattle.std.specs.Prelude.{◌==◌}
 use Rattle.std.proofs.Common.{◌≡◌, inl, inr, ℕ, false, List, [], ◌∷◌, length, Option, Some, None, Result, Ok, subst}
-use Rattle.reuse_tree.specs.Asked.{IsWrite, AreWrites}
-use Rattle.reuse_tree.specs.Calls.{failures_of, written_of, mutations_of}
-use Rattle.reuse_tree.specs.declared.fault.StoreFault.{StoreFault}
-use Rattle.reuse_tree.specs.declared.file_write.FileWrite.{FileWrite}
-use Rattle.reuse_tree.specs.declared.parts.Parts.{Parts}
-use Rattle.reuse_tree.specs.declared.record.CallRecord.{CallRecord}
-use Rattle.reuse_tree.specs.declared.store.Store.{Ghosts}
+use Rattle.reuse_store.specs.Asked.{IsWrite, AreWrites}
+use Rattle.reuse_store.specs.Calls.{failures_of, written_of, mutations_of}
+use Rattle.reuse_store.specs.declared.fault.StoreFault.{StoreFault}
+use Rattle.reuse_store.specs.declared.file_write.FileWrite.{FileWrite}
+use Rattle.reuse_change.specs.declared.parts.Parts.{Parts}
+use Rattle.reuse_store.specs.declared.record.CallRecord.{CallRecord}
+use Rattle.reuse_store.specs.declared.store.Store.{Ghosts}
 use Rattle.reuse_folder.specs.Honesty.{files_of, IsHonest, MayBeLeft}
 
 -- the members of such a store

@@ -9,15 +9,15 @@ use Rattle.std.proofs.lemmas.List.Folds.{list_any-append}
 use Rattle.std.proofs.lemmas.List.Elements.{All-cons, All-head, All-tail, filter_passes}
 use Rattle.std.proofs.lemmas.Slice.Eq.{bytes_eq-Decides}
 use Rattle.std.specs.Result.{MatchResult, result_map_both}
-use Rattle.reuse_tree.specs.Calls.{Call}
-use Rattle.reuse_tree.specs.Calls.Call.{ListCall}
-use Rattle.reuse_tree.specs.declared.fault.StoreFault.{StoreFault}
-use Rattle.reuse_tree.specs.declared.fault.StoreFault.TheVariants.{Clash}
+use Rattle.reuse_store.specs.Calls.{Call}
+use Rattle.reuse_store.specs.Calls.Call.{ListCall}
+use Rattle.reuse_store.specs.declared.fault.StoreFault.{StoreFault}
+use Rattle.reuse_store.specs.declared.fault.StoreFault.TheVariants.{Clash}
 use Rattle.reuse_folder.specs.Honesty.{files_of, IsHonest}
-use Rattle.reuse_tree.specs.Files.{Files}
-use Rattle.reuse_tree.specs.Listing.{is_among, is_pruned, is_wanted, listed_paths}
-use Rattle.reuse_tree.specs.Path.{folders_above}
-use Rattle.reuse_tree.proofs.NeedLemmas.{above_from, above_some, listed_by_need}
+use Rattle.reuse_change.specs.Files.{Files}
+use Rattle.reuse_change.specs.Listing.{is_among, is_pruned, is_wanted, listed_paths}
+use Rattle.reuse_change.specs.Path.{folders_above}
+use Rattle.reuse_change.proofs.NeedLemmas.{above_from, above_some, listed_by_need}
 
 abbrev pub folders_of : List (List ℕ) → List (List ℕ)
 folders_of [] = []

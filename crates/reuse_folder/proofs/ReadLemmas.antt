@@ -1,9 +1,9 @@
 -- What was read of a file that was looked at, and where a path leads.
 use Rattle.std.proofs.Common.{◌≡◌, ◌⊎◌, inl, inr, ℕ, List, [], ◌∷◌, ◌++◌, length, Option, None, Some, Result, Ok, Err, IfOk, IfSome, MatchResult, option_map, refl, sym, ◌∙◌, ap, subst, arith}
-use Rattle.reuse_tree.specs.Store.{reading_of}
-use Rattle.reuse_tree.specs.declared.store.Reading.{Reading}
-use Rattle.reuse_tree.specs.declared.store.Reading.TheVariants as readings
-use Rattle.reuse_tree.specs.declared.store.Reading.TheVariants.{Absent}
+use Rattle.reuse_store.specs.Store.{reading_of}
+use Rattle.reuse_store.specs.declared.store.Reading.{Reading}
+use Rattle.reuse_store.specs.declared.store.Reading.TheVariants as readings
+use Rattle.reuse_store.specs.declared.store.Reading.TheVariants.{Absent}
 use Rattle.reuse_folder.specs.declared.rolled_back.Foreign.TheVariants as foreign
 use Rattle.reuse_folder.specs.FolderReads.{IsPlaceAt, IsReadAt, IsReadIn, IsReadWith, LiesIn, StandsIn}
 use Rattle.reuse_system.specs.FileStates.{StateFile, FileState, Place as FilePlace, place_in}

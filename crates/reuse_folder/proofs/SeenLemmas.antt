@@ -9,7 +9,7 @@ use Rattle.reuse_system.specs.Names.{IsNameOf}
 use Rattle.reuse_system.specs.SystemLaws.{IsAlikeUnless}
 use Rattle.reuse_system.specs.declared.place.FileStatus.{FileStatus}
 use Rattle.reuse_system.specs.declared.place.Identity.{Identity}
-use Rattle.reuse_tree.specs.declared.file_write.FileWrite.{FileWrite}
+use Rattle.reuse_store.specs.declared.file_write.FileWrite.{FileWrite}
 use Rattle.reuse_folder.specs.Seen.{expected_of, IsUnread, IsToldBy, IsSeenBefore, IsSeenAs, IsKnown, IsKnownAside, AreKnown, IsNewFile, IsChangeOfSome, LosesNoEdit, LosesNoEditAfter, LoseNoEdits}
 use Rattle.reuse_folder.specs.declared.folder.batch.NewContent.{NewContent}
 use Rattle.reuse_folder.specs.declared.folder.seen.Expected.{Expected}

@@ -1,9 +1,9 @@
 -- What a folder tells of a path.
 use Rattle.std.specs.Prelude.{◌≡◌, ◌⊎◌, ◌-◌, ℕ, List, length, Option, None, Some, IsTrue, slice_get}
 use Rattle.std.specs.Option.{option_map, option_or}
-use Rattle.reuse_tree.specs.Store.{reading_of}
-use Rattle.reuse_tree.specs.declared.store.Reading.{Reading}
-use Rattle.reuse_tree.specs.declared.store.Reading.TheVariants as reading
+use Rattle.reuse_store.specs.Store.{reading_of}
+use Rattle.reuse_store.specs.declared.store.Reading.{Reading}
+use Rattle.reuse_store.specs.declared.store.Reading.TheVariants as reading
 use Rattle.reuse_system.specs.FileStates.{StateFile, FileState, place_in}
 use Rattle.reuse_system.specs.Folders.{Folders, folder_above, file_at, IsBarred}
 use Rattle.reuse_system.specs.KeptOut.{is_kept_out}

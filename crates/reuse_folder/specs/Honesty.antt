@@ -3,16 +3,16 @@
 use Rattle.std.specs.Prelude.{◌≡◌, ◌≢◌, ◌⊎◌, ℕ, Bool, true, false, IsTrue, List, [], ◌∷◌, Result, Ok, Err, MatchResult, if◌then◌else◌, cond, refl}
 use Rattle.std.specs.List.{Contains}
 use Rattle.std.specs.FinMap.{get, insert, remove}
-use Rattle.reuse_tree.specs.Calls.{Call}
-use Rattle.reuse_tree.specs.Calls.Call.{ListCall, ReadCall, PutCall, RemoveCall, SyncCall}
-use Rattle.reuse_tree.specs.Files.{Files, Clashes, AreFiles}
-use Rattle.reuse_tree.specs.Lasting.{IsCertain}
-use Rattle.reuse_tree.specs.Listing.{is_among, listed_paths}
-use Rattle.reuse_tree.specs.Path.{is_path}
+use Rattle.reuse_store.specs.Calls.{Call}
+use Rattle.reuse_store.specs.Calls.Call.{ListCall, ReadCall, PutCall, RemoveCall, SyncCall}
+use Rattle.reuse_change.specs.Files.{Files, Clashes, AreFiles}
+use Rattle.reuse_store.specs.Lasting.{IsCertain}
+use Rattle.reuse_change.specs.Listing.{is_among, listed_paths}
+use Rattle.reuse_change.specs.Path.{is_path}
 use Rattle.std.proofs.Common.{inl, inr}
-use Rattle.reuse_tree.specs.Store.{reading_of}
-use Rattle.reuse_tree.specs.declared.fault.StoreFault.{StoreFault}
-use Rattle.reuse_tree.specs.declared.fault.StoreFault.TheVariants.{Device, Clash, Memory}
+use Rattle.reuse_store.specs.Store.{reading_of}
+use Rattle.reuse_store.specs.declared.fault.StoreFault.{StoreFault}
+use Rattle.reuse_store.specs.declared.fault.StoreFault.TheVariants.{Device, Clash, Memory}
 
 -- whether a put or a removal took effect: a good answer says so, a clash that it didn't, and of another fault it is
 -- left open

@@ -7,7 +7,7 @@ use Rattle.reuse_system.specs.NameChanges.{NameChange, AreEach, IsExpected, IsGu
 use Rattle.reuse_system.specs.Names.{IsNameOf}
 use Rattle.reuse_system.specs.declared.place.FileStatus.{FileStatus}
 use Rattle.reuse_system.specs.declared.place.Identity.{Identity}
-use Rattle.reuse_tree.specs.declared.file_write.FileWrite.{FileWrite}
+use Rattle.reuse_store.specs.declared.file_write.FileWrite.{FileWrite}
 use Rattle.reuse_folder.specs.declared.folder.seen.Expected.{Expected}
 use Rattle.reuse_folder.specs.declared.folder.seen.Expected.TheVariants as expected
 use Rattle.reuse_folder.specs.declared.folder.seen.ReadPath.{ReadPath}

@@ -1,6 +1,6 @@
 //! What the last call of a store that failed was.
+use reuse_store::Asked;
 use reuse_system::fault::{FolderFault, Obstacle};
-use reuse_tree::Asked;
 use std::alloc::Global;
 use std::fmt;
 

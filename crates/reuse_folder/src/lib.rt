@@ -8,17 +8,17 @@
 
 ghost use Rattle.std.specs.Prelude.{◌≡◌, ◌≢◌, ◌<◌, ℕ, [], ◌∷◌, List, IfErr, IfOk, MatchResult, is_ok, length};
 ghost use Rattle.std.specs.FinMap as map;
-ghost use Rattle.reuse_tree.specs.Store.{reading_of};
+ghost use Rattle.reuse_store.specs.Store.{reading_of};
 ghost use Rattle.reuse_folder.specs.FolderReads.{IsReadWith};
 ghost use Rattle.reuse_folder.specs.FolderWrites.{IsGone, IsPutIn, IsRemovedIn, IsStoredAt};
 ghost use Rattle.reuse_folder.specs.RolledBack.{foreign_of};
 ghost use Rattle.reuse_folder.specs.Written.{is_kept};
 ghost use Rattle.std.specs.Result.{result_map_both};
-ghost use Rattle.reuse_tree.specs.Calls.Call.{ListCall};
-ghost use Rattle.reuse_tree.specs.Asked.{FailsAsRead, OnlyReads, IsLater, IsPut, IsRemoval, IsWrite, AreWrites};
-ghost use Rattle.reuse_tree.specs.Parts.{joined};
-ghost use Rattle.reuse_tree.specs.Calls.{Start};
-ghost use Rattle.reuse_tree.specs.Files.{AreFiles};
+ghost use Rattle.reuse_store.specs.Calls.Call.{ListCall};
+ghost use Rattle.reuse_store.specs.Asked.{FailsAsRead, OnlyReads, IsLater, IsPut, IsRemoval, IsWrite, AreWrites};
+ghost use Rattle.reuse_change.specs.Parts.{joined};
+ghost use Rattle.reuse_store.specs.Calls.{Start};
+ghost use Rattle.reuse_change.specs.Files.{AreFiles};
 ghost use Rattle.reuse_system.specs.FolderFault.{fault_of_store};
 ghost use Rattle.reuse_folder.specs.Honesty.{files_of, IsHonest};
 
@@ -41,15 +41,14 @@ use failure::LastFailure;
 use folder::{RootFolder, Stop};
 use keeping::Keeping;
 pub use keeping::Kept;
+use reuse_change::{Change, Parts, PathText, Pruning};
 use reuse_lock::{LockedFolders, RootLock};
+use reuse_store::laws::files_stay_good;
+use reuse_store::{Asked, CallRecord, FileWrite, Reading, Store, StoreFault};
 use reuse_system::fault::FolderFault;
 use reuse_system::owner::{OwnerChange, Process};
 use reuse_system::syncs::Syncs;
 use reuse_system::system::{HostSystem, System};
-use reuse_tree::laws::files_stay_good;
-use reuse_tree::{
-    Asked, CallRecord, Change, FileWrite, Parts, PathText, Pruning, Reading, Store, StoreFault,
-};
 use rolled_back::RolledBack;
 use std::alloc::Global;
 use std::fs::File;
@@ -293,7 +292,7 @@ fn note_listing<P: Pruning>(
 }
 
 impl<R: Files<File = File> + AllocGlobal + Clone + Drop> Store for DiskStore<R> {
-    ghost use Rattle.reuse_tree.specs.Calls.{failures_of, written_of, mutations_of};
+    ghost use Rattle.reuse_store.specs.Calls.{failures_of, written_of, mutations_of};
     ghost use Rattle.reuse_folder.specs.Honesty.{files_of, files_may_be_left, IsHonest, MayBeLeft};
 
     ghost files = { λ store. files_of store.calls.start store.calls.calls };

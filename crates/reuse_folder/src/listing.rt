@@ -8,10 +8,10 @@ ghost use Rattle.reuse_folder.specs.Trails.{AreOpenedIf};
 
 use crate::empty_folders::path_in;
 use crate::trail::Trail;
+use reuse_change::{NoPruning, PathText, Pruning};
 use reuse_system::fault::{FolderFault, Obstacle};
 use reuse_system::kept_out::{is_folder_kept_out, is_kept_out};
 use reuse_system::system::{HostSystem, System};
-use reuse_tree::{NoPruning, PathText, Pruning};
 use std::alloc::{AllocError, Global};
 use std::fs::{self, DirEntry, File};
 use std::rt::Files;

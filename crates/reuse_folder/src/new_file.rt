@@ -1,7 +1,7 @@
 //! Writing a file as a whole or not at all: a new one is written aside, and its data is synced
 //! before it is given its name.
 ghost use Rattle.std.specs.Prelude.{◌≡◌, ℕ, Bool, List, MatchResult, None, Some, false, is_ok, IfOk};
-ghost use Rattle.reuse_tree.specs.Parts.{joined};
+ghost use Rattle.reuse_change.specs.Parts.{joined};
 ghost use Rattle.reuse_system.specs.NameChanges.{IsExpected, IsGuarded, OnlyChanges};
 ghost use Rattle.reuse_system.specs.SystemLaws.{IsAlikeBut, IsAlikeButFile, IsAlikeUnless, IsFilled, IsRemoved, IsRenamed, MayBeRenamed};
 ghost use Rattle.reuse_system.specs.Asides.{name_in, place_of, key_of, IsNewIn, IsNewPlace};
@@ -9,6 +9,7 @@ ghost use Rattle.reuse_system.specs.FileStates.{file};
 ghost use Rattle.reuse_folder.specs.Written.{StandsAlone, IsWritten, is_kept, is_named};
 
 use crate::syncs::Unsynced;
+use reuse_change::Parts;
 use reuse_system::fault::{FolderFault, Obstacle};
 use reuse_system::handle::OpenFolder;
 use reuse_system::kept_out::{NEW, NEW_BESIDE, is_in_journal};
@@ -17,7 +18,6 @@ use reuse_system::owner::{Owner, Process};
 use reuse_system::parts_writer::write_parts;
 use reuse_system::place::{FileStatus, Found, folder_and_name};
 use reuse_system::system::{Aside, System};
-use reuse_tree::Parts;
 use std::alloc::Global;
 use std::io::{self, ErrorKind};
 

@@ -7,9 +7,9 @@
 //! could be the same, since the system's stamps go by ticks.
 ghost use Rattle.std.specs.Prelude.{◌≡◌, [], None};
 
+use reuse_change::PathText;
 use reuse_system::place::{FileStatus, FileVersion};
 use reuse_text::Bytes;
-use reuse_tree::PathText;
 use std::alloc::Global;
 use std::time::Duration;
 

@@ -1,18 +1,18 @@
 -- Where no change of a pending step can be rolled back, its head alone is put.
 use Rattle.std.proofs.Common.{◌≡◌, ◌⊎◌, inl, inr, ⊎_elim, List, [], ℕ, Some, Result, Ok, Err, IfErr, OnOk, refl, sym, ap, subst, ◌∙◌}
 use Rattle.std.specs.FinMap.{get}
-use Rattle.reuse_tree.specs.Asked.{OnlyReads, Leaves}
-use Rattle.reuse_tree.specs.Entry.{opposite, touches, ArePartlyMade, SomeMade}
-use Rattle.reuse_tree.specs.Files.{Files, tree_of}
-use Rattle.reuse_tree.specs.Lasting.{IsCertain}
-use Rattle.reuse_tree.specs.Tree.{undo_folder_of, Sets}
-use Rattle.reuse_tree.specs.declared.cause.Cause.{Cause}
-use Rattle.reuse_tree.specs.declared.change.Change.{Change}
-use Rattle.reuse_tree.specs.declared.store.Store.{Ghosts}
-use Rattle.reuse_tree.specs.declared.direction.Direction.{Direction}
-use Rattle.reuse_tree.proofs.FileMaps.{same_files}
-use Rattle.reuse_tree.proofs.Lasting.{certain_tree}
-use Rattle.reuse_tree.proofs.MadeLemmas.{back_none, made_none}
+use Rattle.reuse_store.specs.Asked.{OnlyReads, Leaves}
+use Rattle.reuse_change.specs.Entry.{opposite, touches, ArePartlyMade, SomeMade}
+use Rattle.reuse_change.specs.Files.{Files, tree_of}
+use Rattle.reuse_store.specs.Lasting.{IsCertain}
+use Rattle.reuse_change.specs.Tree.{undo_folder_of, Sets}
+use Rattle.reuse_store.specs.declared.cause.Cause.{Cause}
+use Rattle.reuse_change.specs.declared.change.Change.{Change}
+use Rattle.reuse_store.specs.declared.store.Store.{Ghosts}
+use Rattle.reuse_change.specs.declared.direction.Direction.{Direction}
+use Rattle.reuse_change.proofs.FileMaps.{same_files}
+use Rattle.reuse_store.proofs.Lasting.{certain_tree}
+use Rattle.reuse_store.proofs.MadeLemmas.{back_none, made_none}
 use Rattle.reuse_command.specs.Answer.{IsEarly}
 use Rattle.reuse_journal.specs.Carried.{IsRolledBack, StopsBack}
 use Rattle.reuse_journal.specs.JournalFiles.{head_path}

@@ -2,8 +2,8 @@
 use Rattle.std.proofs.Common.{◌≡◌, ◌⊎◌, inl, inr, ℕ, false, List, [], Some, None, Result, Err, MatchResult, codes, refl, sym, ap, subst, ◌∙◌}
 use Rattle.std.specs.FinMap.{get}
 use Rattle.std.proofs.lemmas.List.Elements.{All-cons, All-nil}
-use Rattle.reuse_tree.specs.Path.{lies_under, journal_folder}
-use Rattle.reuse_tree.specs.Files.{Files, AreFiles, tree_of}
+use Rattle.reuse_change.specs.Path.{lies_under, journal_folder}
+use Rattle.reuse_change.specs.Files.{Files, AreFiles, tree_of}
 use Rattle.reuse_command.specs.Answer.{IsFailure}
 use Rattle.reuse_journal.specs.History.{Memory}
 use Rattle.reuse_journal.specs.Journal.{Recorded, Journal, State}
@@ -11,14 +11,14 @@ use Rattle.reuse_journal.specs.JournalFiles.{entry_path, number_of, entry_in}
 use Rattle.reuse_journal.specs.Opening.{IsReadable, IsFirstBad, IsRead, IsSettled, OpensOn}
 use Rattle.reuse_journal.specs.Remembered.{Remembers}
 use Rattle.reuse_journal.specs.Standing.{IsStanding, IsStep, IsUnderWay, InDoubt}
-use Rattle.reuse_tree.specs.Tree.{undo_folder_of}
+use Rattle.reuse_change.specs.Tree.{undo_folder_of}
 use Rattle.reuse_tree.specs.declared.journal.head.Pending.{Pending}
 use Rattle.reuse_tree.specs.declared.journal.head.PendingDirection.{PendingDirection}
 use Rattle.reuse_command.specs.declared.reply.Refusal.{Refusal}
 use Rattle.reuse_journal.proofs.JournalLemmas.{entry_good}
 use Rattle.reuse_journal.proofs.OpeningLemmas.{same_journal, none_bad}
 use Rattle.reuse_journal.proofs.PendingRecovery.{none_in_files, is_tree}
-use Rattle.reuse_tree.proofs.Walk.{none_outside}
+use Rattle.reuse_change.proofs.Walk.{none_outside}
 
 no_folder_file : (files tree : Files) (path : List ℕ) → lies_under path journal_folder ≡ false → get (tree_of files) path ≡ get tree path → get tree path ≡ None → get files path ≡ None
 no_folder_file files tree path outside same none = none_in_files files path outside (same ∙ none)

@@ -1,15 +1,15 @@
 -- Puts of the journal's head beside the changes of a tree.
 use Rattle.std.proofs.Common.{◌≡◌, ℕ, Bool, true, false, cond, not, List, Option, Some, None, is_some, refl, sym, ap, subst, ◌∙◌}
 use Rattle.std.specs.FinMap.{get}
-use Rattle.reuse_tree.specs.Path.{lies_under, journal_folder}
-use Rattle.reuse_tree.specs.Files.{Files, Clashes, AreFiles, tree_of}
-use Rattle.reuse_tree.specs.declared.change.Change.{Change}
-use Rattle.reuse_tree.specs.Entry.{touches, IsEntry}
+use Rattle.reuse_change.specs.Path.{lies_under, journal_folder}
+use Rattle.reuse_change.specs.Files.{Files, Clashes, AreFiles, tree_of}
+use Rattle.reuse_change.specs.declared.change.Change.{Change}
+use Rattle.reuse_change.specs.Entry.{touches, IsEntry}
 use Rattle.reuse_journal.specs.JournalFiles.{head_path}
-use Rattle.reuse_tree.specs.Tree.{is_of_tree, undo_folder_of, Sets}
-use Rattle.reuse_tree.proofs.Differ.{touching}
-use Rattle.reuse_tree.proofs.TreeLemmas.{tree_file}
-use Rattle.reuse_tree.proofs.OfTree.{get-folder, apart_from_journal}
+use Rattle.reuse_change.specs.Tree.{is_of_tree, undo_folder_of, Sets}
+use Rattle.reuse_change.proofs.Differ.{touching}
+use Rattle.reuse_store.proofs.TreeLemmas.{tree_file}
+use Rattle.reuse_store.proofs.OfTree.{get-folder, apart_from_journal}
 use Rattle.reuse_journal.proofs.JournalLemmas.{head_in_folder, sets_in_folder}
 use Rattle.std.proofs.Math.Bool.{or_comm}
 

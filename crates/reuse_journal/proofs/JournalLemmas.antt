@@ -5,26 +5,26 @@ use Rattle.std.proofs.lemmas.Bool.{false≢true, or_from}
 use Rattle.std.proofs.lemmas.Bool.Decides.{nat_tests}
 use Rattle.std.proofs.lemmas.List.Elements.{All-cons, All-tail, All-nil}
 use Rattle.std.specs.FinMap.{get}
-use Rattle.reuse_tree.specs.Path.{lies_under, journal_folder}
-use Rattle.reuse_tree.specs.Files.{Files, Clashes, tree_of}
-use Rattle.reuse_tree.proofs.FileMaps.{same_files, same_or_other}
-use Rattle.reuse_tree.specs.Entry.{IsEntry}
+use Rattle.reuse_change.specs.Path.{lies_under, journal_folder}
+use Rattle.reuse_change.specs.Files.{Files, Clashes, tree_of}
+use Rattle.reuse_change.proofs.FileMaps.{same_files, same_or_other}
+use Rattle.reuse_change.specs.Entry.{IsEntry}
 use Rattle.reuse_tree.specs.Head.{IsGoodHead, IsSoundHead}
 use Rattle.reuse_journal.specs.Journal.{Recorded, Journal}
 use Rattle.reuse_journal.specs.JournalFiles.{digit, six_digits, head_path, entry_path, IsJournalPath, IsFree, HeadSays, EntrySays, entry_in, number_of, IsKeptIn, empty_head, head_of, KeepsJournal}
 use Rattle.reuse_journal.specs.Remembered.{IsSameBut}
 use Rattle.reuse_journal.specs.Standing.{IsTree, Mutations}
-use Rattle.reuse_tree.specs.Tree.{undo_folder_of, Sets}
-use Rattle.reuse_tree.specs.declared.journal.entry.Entry.{Entry}
+use Rattle.reuse_change.specs.Tree.{undo_folder_of, Sets}
+use Rattle.reuse_json.specs.declared.entry.Entry.{Entry}
 use Rattle.reuse_tree.specs.declared.journal.head.Pending.{Pending}
 use Rattle.reuse_tree.specs.declared.journal.head.PendingDirection.{PendingDirection}
 use Rattle.reuse_tree.specs.declared.journal.head.PendingDirection.TheVariants.{Do, Undo, Redo}
 use Rattle.reuse_tree.specs.declared.journal.head.Head.{Head}
-use Rattle.reuse_tree.proofs.TreeLemmas.{tree_file}
-use Rattle.reuse_tree.proofs.ListingLemmas.{under_from_test, test_from_under}
+use Rattle.reuse_store.proofs.TreeLemmas.{tree_file}
+use Rattle.reuse_change.proofs.ListingLemmas.{under_from_test, test_from_under}
 use Rattle.reuse_tree.proofs.EntryParts.{one_entry}
 use Rattle.reuse_journal.proofs.HeadMutations.{each_listed}
-use Rattle.reuse_tree.proofs.OfTree.{fronts, slash_inside, above_journal, get-folder}
+use Rattle.reuse_store.proofs.OfTree.{fronts, slash_inside, above_journal, get-folder}
 
 -- ---- their paths
 

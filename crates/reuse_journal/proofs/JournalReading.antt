@@ -1,17 +1,17 @@
 -- What was read and put of the journal's files.
 use Rattle.std.proofs.Common.{◌≡◌, ⊎_elim, ℕ, ◌≤◌, Bool, true, false, cond, List, length, Some, None, sym, ap, ◌∙◌, subst, arith}
 use Rattle.std.specs.FinMap.{get}
-use Rattle.reuse_tree.specs.Files.{Files}
-use Rattle.reuse_tree.specs.Path.{lies_under, journal_folder}
-use Rattle.reuse_tree.specs.Store.{counted, Puts, PutFails}
-use Rattle.reuse_tree.specs.declared.fault.StoreFault.{StoreFault}
-use Rattle.reuse_tree.specs.EntryText.{IsGoodEntry}
+use Rattle.reuse_change.specs.Files.{Files}
+use Rattle.reuse_change.specs.Path.{lies_under, journal_folder}
+use Rattle.reuse_store.specs.Store.{counted, Puts, PutFails}
+use Rattle.reuse_store.specs.declared.fault.StoreFault.{StoreFault}
+use Rattle.reuse_json.specs.EntryText.{IsGoodEntry}
 use Rattle.reuse_journal.specs.JournalFiles.{head_path, entry_path, EntrySays}
 use Rattle.reuse_journal.specs.Remembered.{IsSameBut}
-use Rattle.reuse_tree.specs.Tree.{undo_folder_of}
-use Rattle.reuse_tree.specs.declared.journal.entry.Entry.{Entry}
-use Rattle.reuse_tree.proofs.OfTree.{get-folder}
-use Rattle.reuse_tree.proofs.ApplyLemmas.{put_sets, put_doubt}
+use Rattle.reuse_change.specs.Tree.{undo_folder_of}
+use Rattle.reuse_json.specs.declared.entry.Entry.{Entry}
+use Rattle.reuse_store.proofs.OfTree.{get-folder}
+use Rattle.reuse_store.proofs.ApplyLemmas.{put_sets, put_doubt}
 
 -- a file of the folder, read at a path that is its
 pub file_in_folder : (files : Files) (path place : List ℕ) → path ≡ place → lies_under place journal_folder ≡ true → get files path ≡ get (undo_folder_of files) place

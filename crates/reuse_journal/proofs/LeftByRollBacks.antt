@@ -1,24 +1,24 @@
 -- What a loss of power may leave while a step is rolled back.
 use Rattle.std.proofs.Common.{◌≡◌, ◌⊎◌, inl, inr, ⊎_elim, ℕ, ◌<◌, Bool, cond, not, List, [], length, get_or, take, Option, Some, None, sym, ap, subst, ◌∙◌, refl}
 use Rattle.std.specs.FinMap.{get}
-use Rattle.reuse_tree.specs.Asked.{OnlyReads}
-use Rattle.reuse_tree.specs.Change.{path_of, IsProper}
-use Rattle.reuse_tree.specs.Entry.{IsEntry, IsReady, AppliesBy, SomeMade, ArePartlyMade, opposite}
-use Rattle.reuse_tree.specs.Files.{Files, tree_of}
-use Rattle.reuse_tree.specs.Lasting.{IsCertain, IsMidway, WithOrWithout}
-use Rattle.reuse_tree.specs.Path.{lies_under, journal_folder}
-use Rattle.reuse_tree.specs.Tree.{Sets, undo_folder_of}
-use Rattle.reuse_tree.specs.Apply.{NotesMutations}
-use Rattle.reuse_tree.specs.declared.change.Change.{Change}
-use Rattle.reuse_tree.specs.declared.store.Store.{Ghosts}
-use Rattle.reuse_tree.specs.declared.direction.Direction.{Direction}
-use Rattle.reuse_tree.proofs.AskedLemmas.{reads_more}
-use Rattle.reuse_tree.proofs.AtChange.{at_change, of_entry}
-use Rattle.reuse_tree.proofs.Lasting.{certain_all, midway_set}
-use Rattle.reuse_tree.proofs.MadeLemmas.{ready_once, returned, stood, applied}
-use Rattle.reuse_tree.proofs.OfTree.{tree_at}
-use Rattle.reuse_tree.proofs.TreeLemmas.{tree_file}
-use Rattle.reuse_tree.proofs.Walk.{applies_once_by}
+use Rattle.reuse_store.specs.Asked.{OnlyReads}
+use Rattle.reuse_change.specs.Change.{path_of, IsProper}
+use Rattle.reuse_change.specs.Entry.{IsEntry, IsReady, AppliesBy, SomeMade, ArePartlyMade, opposite}
+use Rattle.reuse_change.specs.Files.{Files, tree_of}
+use Rattle.reuse_store.specs.Lasting.{IsCertain, IsMidway, WithOrWithout}
+use Rattle.reuse_change.specs.Path.{lies_under, journal_folder}
+use Rattle.reuse_change.specs.Tree.{Sets, undo_folder_of}
+use Rattle.reuse_store.specs.Apply.{NotesMutations}
+use Rattle.reuse_change.specs.declared.change.Change.{Change}
+use Rattle.reuse_store.specs.declared.store.Store.{Ghosts}
+use Rattle.reuse_change.specs.declared.direction.Direction.{Direction}
+use Rattle.reuse_store.proofs.AskedLemmas.{reads_more}
+use Rattle.reuse_store.proofs.AtChange.{at_change, of_entry}
+use Rattle.reuse_store.proofs.Lasting.{certain_all, midway_set}
+use Rattle.reuse_store.proofs.MadeLemmas.{ready_once, returned, stood, applied}
+use Rattle.reuse_store.proofs.OfTree.{tree_at}
+use Rattle.reuse_store.proofs.TreeLemmas.{tree_file}
+use Rattle.reuse_change.proofs.Walk.{applies_once_by}
 use Rattle.reuse_journal.specs.JournalFiles.{head_path}
 
 -- a change that may have been made, and is taken back, leads to the file that was there at the start

@@ -5,8 +5,8 @@ use Rattle.reuse_journal.specs.History.{Memory, head_listing, row_listing, rows_
 use Rattle.reuse_journal.specs.Journal.{Recorded, Journal, ahead, rows_in}
 use Rattle.reuse_journal.specs.JournalFiles.{head_of}
 use Rattle.reuse_journal.specs.Remembered.{listed_as, Remembers, listed_count}
-use Rattle.reuse_tree.specs.declared.direction.Direction.{Direction}
-use Rattle.reuse_tree.specs.declared.direction.Direction.TheVariants.{Forward, Backward}
+use Rattle.reuse_change.specs.declared.direction.Direction.{Direction}
+use Rattle.reuse_change.specs.declared.direction.Direction.TheVariants.{Forward, Backward}
 use Rattle.reuse_journal.specs.declared.history.ListedEntry.{ListedEntry}
 use Rattle.reuse_tree.specs.declared.journal.head.Head.{Head}
 use Rattle.reuse_tree.specs.declared.journal.head.Pending.{Pending}

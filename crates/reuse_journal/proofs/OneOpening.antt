@@ -4,27 +4,27 @@ use Rattle.std.specs.List.{All}
 use Rattle.std.specs.FinMap.{get}
 use Rattle.std.proofs.lemmas.Bool.{false≢true, cases_lt}
 use Rattle.std.proofs.lemmas.List.Elements.{All-cons, All-head, All-nil, All-tail}
-use Rattle.reuse_tree.specs.Path.{journal_folder}
-use Rattle.reuse_tree.specs.Change.{path_of}
-use Rattle.reuse_tree.specs.Files.{Files, tree_of}
-use Rattle.reuse_tree.specs.declared.change.Change.{Change}
+use Rattle.reuse_change.specs.Path.{journal_folder}
+use Rattle.reuse_change.specs.Change.{path_of}
+use Rattle.reuse_change.specs.Files.{Files, tree_of}
+use Rattle.reuse_change.specs.declared.change.Change.{Change}
 use Rattle.reuse_command.specs.Answer.{TellsNoFault, IsOpenRefusal}
-use Rattle.reuse_tree.specs.Entry.{CanBeRolledBack, IsFirstWithout}
+use Rattle.reuse_change.specs.Entry.{CanBeRolledBack, IsFirstWithout}
 use Rattle.reuse_tree.specs.Head.{direction_of}
 use Rattle.reuse_journal.specs.Journal.{Recorded, Journal, State}
 use Rattle.reuse_journal.specs.JournalFiles.{head_path, entry_path, entry_in, number_of, EntrySays, IsKeptIn, KeepsJournal}
 use Rattle.reuse_journal.specs.Opening.{named, IsReadable, IsLeastUnreadable, IsFirstUnreadable, IsFirstBadIn, IsFirstBad, IsStuckAt, CanOpenOn, OpensAs, OpensOn}
 use Rattle.reuse_journal.specs.Standing.{IsUnderWay}
-use Rattle.reuse_tree.specs.Tree.{undo_folder_of}
+use Rattle.reuse_change.specs.Tree.{undo_folder_of}
 use Rattle.reuse_tree.specs.declared.journal.head.Pending.{Pending}
 use Rattle.reuse_tree.specs.declared.journal.head.PendingDirection.{PendingDirection}
 use Rattle.reuse_command.specs.declared.reply.Refusal.{Refusal}
 use Rattle.reuse_command.specs.declared.reply.Refusal.TheVariants.{BadJournal, Moved, Failed}
 use Rattle.reuse_journal.proofs.FilesInDoubt.{standing_bad, under_way_bad}
 use Rattle.reuse_journal.proofs.JournalLemmas.{same_entry, entry_good}
-use Rattle.reuse_tree.proofs.MadeLemmas.{back_at_start, settles_from}
+use Rattle.reuse_store.proofs.MadeLemmas.{back_at_start, settles_from}
 use Rattle.reuse_journal.proofs.OpeningLemmas.{same_head, same_step, same_journal, no_file_there, none_bad}
-use Rattle.reuse_tree.proofs.Walk.{none_without}
+use Rattle.reuse_change.proofs.Walk.{none_without}
 
 -- ---- one path is the first at fault
 

@@ -1,17 +1,17 @@
 -- What a loss of power may leave, where files in doubt between two standings are opened.
 use Rattle.std.proofs.Common.{◌≡◌, ◌⊎◌, inl, inr, ⊎_elim, ℕ, ◌+◌, List, ◌∷◌, length, Some, None, Result, Ok, Err, IfErr, OnOk, MatchResult, refl, sym, ap, subst, ◌∙◌, arith}
-use Rattle.reuse_tree.specs.Asked.{OnlyReads, Leaves, IsSynced}
-use Rattle.reuse_tree.specs.Entry.{SomeMade}
-use Rattle.reuse_tree.specs.Files.{Files, tree_of}
+use Rattle.reuse_store.specs.Asked.{OnlyReads, Leaves, IsSynced}
+use Rattle.reuse_change.specs.Entry.{SomeMade}
+use Rattle.reuse_change.specs.Files.{Files, tree_of}
 use Rattle.reuse_tree.specs.Head.{direction_of}
-use Rattle.reuse_tree.specs.Lasting.{IsMidway}
-use Rattle.reuse_tree.specs.Tree.{undo_folder_of, Sets}
-use Rattle.reuse_tree.specs.declared.cause.Cause.{Cause}
+use Rattle.reuse_store.specs.Lasting.{IsMidway}
+use Rattle.reuse_change.specs.Tree.{undo_folder_of, Sets}
+use Rattle.reuse_store.specs.declared.cause.Cause.{Cause}
 use Rattle.reuse_tree.specs.declared.journal.head.Pending.{Pending}
 use Rattle.reuse_tree.specs.declared.journal.head.PendingDirection.{PendingDirection}
 use Rattle.reuse_tree.specs.declared.journal.head.PendingDirection.TheVariants.{Do, Undo, Redo}
-use Rattle.reuse_tree.specs.declared.store.Store.{Ghosts}
-use Rattle.reuse_tree.proofs.MadeLemmas.{made_all, made_none}
+use Rattle.reuse_store.specs.declared.store.Store.{Ghosts}
+use Rattle.reuse_store.proofs.MadeLemmas.{made_all, made_none}
 use Rattle.reuse_command.specs.Answer.{IsEarly}
 use Rattle.reuse_journal.specs.Carried.{SetsHead}
 use Rattle.reuse_journal.specs.History.{Memory}

@@ -5,17 +5,17 @@ use Rattle.std.specs.FinMap.{get}
 use Rattle.std.proofs.lemmas.Bool.{false≢true}
 use Rattle.std.proofs.lemmas.List.{reverse-reverse, reverse-append, length-append, length-map, length-reverse}
 use Rattle.std.proofs.lemmas.List.Elements.{All-nil, All-cons, All-head, All-tail, All-push, All-append, All-map, All-weaker, All-contains, Contains-get_or, Contains-append_right}
-use Rattle.reuse_tree.specs.Path.{journal_folder}
-use Rattle.reuse_tree.specs.Files.{Files}
+use Rattle.reuse_change.specs.Path.{journal_folder}
+use Rattle.reuse_change.specs.Files.{Files}
 use Rattle.reuse_tree.specs.Head.{listed}
 use Rattle.reuse_journal.specs.History.{Memory}
 use Rattle.reuse_journal.specs.Journal.{Recorded, Journal}
 use Rattle.reuse_journal.specs.JournalFiles.{head_path, entry_path, head_of, number_of, entry_in, HeadSays, EntrySays, IsKeptIn, KeepsJournal}
 use Rattle.reuse_journal.specs.Opening.{named, pending_numbers, IsReadable, IsListedIn, IsFirstBad, IsRead}
 use Rattle.reuse_journal.specs.Remembered.{listed_as, listed_count, Remembers}
-use Rattle.reuse_tree.specs.Tree.{undo_folder_of}
+use Rattle.reuse_change.specs.Tree.{undo_folder_of}
 use Rattle.reuse_journal.specs.declared.history.ListedEntry.{ListedEntry}
-use Rattle.reuse_tree.specs.declared.journal.entry.Entry.{Entry}
+use Rattle.reuse_json.specs.declared.entry.Entry.{Entry}
 use Rattle.reuse_tree.specs.declared.journal.head.Head.{Head}
 use Rattle.reuse_tree.specs.declared.journal.head.Pending.{Pending}
 use Rattle.reuse_tree.proofs.HeadParts.{one_head}

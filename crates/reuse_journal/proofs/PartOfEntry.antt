@@ -10,10 +10,10 @@ use Rattle.std.proofs.lemmas.List.Elements.{All-cons, All-head, All-nil, All-tai
 use Rattle.std.proofs.lemmas.List.Filters.{sum_by-filter_both}
 use Rattle.std.proofs.lemmas.List.Kept.{IsStrictlySortedBy-filter}
 use Rattle.std.proofs.lemmas.Slice.Eq.{bytes_eq-Decides}
-use Rattle.reuse_tree.specs.Change.{path_of, is_sealed, IsProper}
-use Rattle.reuse_tree.specs.Entry.{change_size, paths_of, touches, HasOwnDigest, IsEntry, IsSmall}
-use Rattle.reuse_tree.specs.Tree.{is_of_tree}
-use Rattle.reuse_tree.specs.declared.change.Change.{Change}
+use Rattle.reuse_change.specs.Change.{path_of, is_sealed, IsProper}
+use Rattle.reuse_change.specs.Entry.{change_size, paths_of, touches, HasOwnDigest, IsEntry, IsSmall}
+use Rattle.reuse_change.specs.Tree.{is_of_tree}
+use Rattle.reuse_change.specs.declared.change.Change.{Change}
 use Rattle.reuse_journal.specs.Recovery.{ArePart}
 
 module _ {X : Type 0} (test : X → Bool) where

@@ -2,12 +2,12 @@
 use Rattle.std.proofs.Common.{◌≡◌, ◌⊎◌, inl, inr, ⊎_elim, ℕ, Bool, true, false, not, cond, List, [], Option, Some, None, IsSome, is_some, Result, Ok, Err, IfErr, OnOk, MatchResult, codes, refl, sym, ap, subst, ◌∙◌}
 use Rattle.std.specs.FinMap.{get}
 use Rattle.std.proofs.lemmas.List.Elements.{All-head}
-use Rattle.reuse_tree.specs.Path.{lies_under, journal_folder}
-use Rattle.reuse_tree.specs.Files.{Files, AreFiles, Clashes, tree_of}
-use Rattle.reuse_tree.specs.declared.change.Change.{Change}
+use Rattle.reuse_change.specs.Path.{lies_under, journal_folder}
+use Rattle.reuse_change.specs.Files.{Files, AreFiles, Clashes, tree_of}
+use Rattle.reuse_change.specs.declared.change.Change.{Change}
 use Rattle.reuse_command.specs.Answer.{IsEarly, IsFailure, IsReadRefusal, IsRollBackRefusal}
 use Rattle.reuse_journal.specs.Carried.{SetsHead, IsRolledBack, StopsRollingBack}
-use Rattle.reuse_tree.specs.Entry.{IsEntry, SomeMade, ArePartlyMade, CanBeRolledBack, IsFirstWithout}
+use Rattle.reuse_change.specs.Entry.{IsEntry, SomeMade, ArePartlyMade, CanBeRolledBack, IsFirstWithout}
 use Rattle.reuse_tree.specs.Head.{direction_of, IsGoodHead, IsSoundHead}
 use Rattle.reuse_journal.specs.History.{Memory, head_listing}
 use Rattle.reuse_journal.specs.Journal.{Recorded, Journal, State}
@@ -15,24 +15,24 @@ use Rattle.reuse_journal.specs.JournalFiles.{head_path, entry_path, head_of, num
 use Rattle.reuse_journal.specs.Opening.{IsReadable, IsRead, IsSettled, IsStuckAt}
 use Rattle.reuse_journal.specs.Remembered.{Remembers}
 use Rattle.reuse_journal.specs.Standing.{IsTree, IsStanding, IsUnderWay}
-use Rattle.reuse_tree.specs.Lasting.{IsMidway}
-use Rattle.reuse_tree.specs.Tree.{is_of_tree, undo_folder_of}
-use Rattle.reuse_tree.specs.declared.direction.Direction.{Direction}
-use Rattle.reuse_tree.specs.declared.journal.entry.Entry.{Entry}
+use Rattle.reuse_store.specs.Lasting.{IsMidway}
+use Rattle.reuse_change.specs.Tree.{is_of_tree, undo_folder_of}
+use Rattle.reuse_change.specs.declared.direction.Direction.{Direction}
+use Rattle.reuse_json.specs.declared.entry.Entry.{Entry}
 use Rattle.reuse_tree.specs.declared.journal.head.Pending.{Pending}
 use Rattle.reuse_tree.specs.declared.journal.head.PendingDirection.{PendingDirection}
-use Rattle.reuse_tree.specs.declared.cause.Cause.{Cause}
+use Rattle.reuse_store.specs.declared.cause.Cause.{Cause}
 use Rattle.reuse_command.specs.declared.reply.Refusal.{Refusal}
 use Rattle.reuse_command.specs.declared.failure.Failure.TheVariants as failures
 use Rattle.reuse_command.specs.declared.reply.Refusal.TheVariants as refusals
-use Rattle.reuse_tree.proofs.TreeLemmas.{tree_file, tree_are_files}
+use Rattle.reuse_store.proofs.TreeLemmas.{tree_file, tree_are_files}
 use Rattle.reuse_journal.proofs.HeadMutations.{sound_unpended}
 use Rattle.reuse_journal.proofs.JournalLemmas.{head_in_folder, same_entry, entry_good, sound_head, keeps_again}
-use Rattle.reuse_tree.proofs.MadeLemmas.{back_at_start}
+use Rattle.reuse_store.proofs.MadeLemmas.{back_at_start}
 use Rattle.reuse_journal.proofs.MemoryLemmas.{listing_of}
-use Rattle.reuse_tree.proofs.OfTree.{get-folder}
+use Rattle.reuse_store.proofs.OfTree.{get-folder}
 use Rattle.reuse_journal.proofs.OpeningLemmas.{recorded, same_journal}
-use Rattle.reuse_tree.proofs.Walk.{none_outside}
+use Rattle.reuse_change.proofs.Walk.{none_outside}
 
 -- ---- the folders above the journal
 

@@ -3,19 +3,19 @@ use Rattle.std.proofs.Common.{◌≡◌, ◌⊎◌, inl, inr, ⊎_elim, ℕ, ◌
 use Rattle.std.specs.FinMap.{get}
 use Rattle.std.specs.List.{All}
 use Rattle.std.proofs.lemmas.Bool.{false≢true}
-use Rattle.reuse_tree.specs.Path.{journal_folder}
-use Rattle.reuse_tree.specs.Change.{path_of, IsProper}
-use Rattle.reuse_tree.specs.Entry.{opposite, touches, AppliesBy, IsEntry, IsReady, SomeMade, ArePartlyMade, CanBeMade, CanBeRolledBack}
-use Rattle.reuse_tree.specs.Files.{Files, AreFiles, tree_of}
+use Rattle.reuse_change.specs.Path.{journal_folder}
+use Rattle.reuse_change.specs.Change.{path_of, IsProper}
+use Rattle.reuse_change.specs.Entry.{opposite, touches, AppliesBy, IsEntry, IsReady, SomeMade, ArePartlyMade, CanBeMade, CanBeRolledBack}
+use Rattle.reuse_change.specs.Files.{Files, AreFiles, tree_of}
 use Rattle.reuse_tree.specs.Head.{direction_of, IsGoodHead}
-use Rattle.reuse_tree.specs.Listing.{ArePaths, is_among}
-use Rattle.reuse_tree.specs.Tree.{is_of_tree, undo_folder_of}
-use Rattle.reuse_tree.specs.declared.change.Change.{Change}
-use Rattle.reuse_tree.specs.declared.journal.entry.Entry.{Entry}
+use Rattle.reuse_change.specs.Listing.{ArePaths, is_among}
+use Rattle.reuse_change.specs.Tree.{is_of_tree, undo_folder_of}
+use Rattle.reuse_change.specs.declared.change.Change.{Change}
+use Rattle.reuse_json.specs.declared.entry.Entry.{Entry}
 use Rattle.reuse_tree.specs.declared.journal.head.Pending.{Pending}
-use Rattle.reuse_tree.proofs.MadeLemmas.{ready_once, applied}
-use Rattle.reuse_tree.proofs.TreeLemmas.{tree_are_files}
-use Rattle.reuse_tree.proofs.Walk.{none_outside}
+use Rattle.reuse_store.proofs.MadeLemmas.{ready_once, applied}
+use Rattle.reuse_store.proofs.TreeLemmas.{tree_are_files}
+use Rattle.reuse_change.proofs.Walk.{none_outside}
 use Rattle.reuse_journal.specs.Carried.{IsRolledBack, StopsBack}
 use Rattle.reuse_journal.specs.History.{Memory}
 use Rattle.reuse_journal.specs.Journal.{Journal}

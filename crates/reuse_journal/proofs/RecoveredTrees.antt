@@ -5,16 +5,16 @@ use Rattle.std.specs.List.{All}
 use Rattle.std.specs.Str.{bytes_eq}
 use Rattle.std.proofs.lemmas.Bool.{false≢true}
 use Rattle.std.proofs.lemmas.Slice.Eq.{bytes_eq-Decides}
-use Rattle.reuse_tree.specs.Change.{path_of, IsProper}
-use Rattle.reuse_tree.specs.Entry.{makes, opposite, touches, AppliesBy, IsEntry, IsReady, SomeMade, ArePartlyMade, CanBeRolledBack}
-use Rattle.reuse_tree.specs.Files.{Files, AreFiles, Clashes}
-use Rattle.reuse_tree.specs.Path.{lies_under}
-use Rattle.reuse_tree.specs.declared.change.Change.{Change}
-use Rattle.reuse_tree.specs.declared.direction.Direction.{Direction}
-use Rattle.reuse_tree.proofs.Differ.{touching}
-use Rattle.reuse_tree.proofs.FileMaps.{same_files}
-use Rattle.reuse_tree.proofs.MadeLemmas.{ready_once, returned, settles_from, applied}
-use Rattle.reuse_tree.proofs.Walk.{made_is_file, touched, applies_once_by}
+use Rattle.reuse_change.specs.Change.{path_of, IsProper}
+use Rattle.reuse_change.specs.Entry.{makes, opposite, touches, AppliesBy, IsEntry, IsReady, SomeMade, ArePartlyMade, CanBeRolledBack}
+use Rattle.reuse_change.specs.Files.{Files, AreFiles, Clashes}
+use Rattle.reuse_change.specs.Path.{lies_under}
+use Rattle.reuse_change.specs.declared.change.Change.{Change}
+use Rattle.reuse_change.specs.declared.direction.Direction.{Direction}
+use Rattle.reuse_change.proofs.Differ.{touching}
+use Rattle.reuse_change.proofs.FileMaps.{same_files}
+use Rattle.reuse_store.proofs.MadeLemmas.{ready_once, returned, settles_from, applied}
+use Rattle.reuse_change.proofs.Walk.{made_is_file, touched, applies_once_by}
 use Rattle.reuse_journal.specs.Recovery.{RecoversAt, RecoversTree}
 use Rattle.reuse_journal.proofs.PartOfEntry.{all_left, left_all, none_left, none_more}
 

@@ -13,15 +13,15 @@ use Rattle.std.proofs.lemmas.List.{append-nil}
 use Rattle.std.proofs.lemmas.List.Elements.{All-cons, All-head, All-nil, All-tail}
 use Rattle.std.proofs.lemmas.Map.Keys.{sorted_head, sorted_tail}
 use Rattle.std.proofs.lemmas.Slice.Eq.{bytes_eq-Decides}
-use Rattle.reuse_tree.specs.Change.{path_of, IsProper}
-use Rattle.reuse_tree.specs.Entry.{paths_of, IsReady, IsFirstWithout}
-use Rattle.reuse_tree.specs.Files.{Files, tree_of}
-use Rattle.reuse_tree.specs.Listing.{ArePaths, is_among}
-use Rattle.reuse_tree.specs.Tree.{is_of_tree}
-use Rattle.reuse_tree.specs.declared.change.Change.{Change}
-use Rattle.reuse_tree.specs.declared.direction.Direction.{Direction}
-use Rattle.reuse_tree.proofs.MadeLemmas.{ready_once}
-use Rattle.reuse_tree.proofs.OfTree.{tree_at}
+use Rattle.reuse_change.specs.Change.{path_of, IsProper}
+use Rattle.reuse_change.specs.Entry.{paths_of, IsReady, IsFirstWithout}
+use Rattle.reuse_change.specs.Files.{Files, tree_of}
+use Rattle.reuse_change.specs.Listing.{ArePaths, is_among}
+use Rattle.reuse_change.specs.Tree.{is_of_tree}
+use Rattle.reuse_change.specs.declared.change.Change.{Change}
+use Rattle.reuse_change.specs.declared.direction.Direction.{Direction}
+use Rattle.reuse_store.proofs.MadeLemmas.{ready_once}
+use Rattle.reuse_store.proofs.OfTree.{tree_at}
 use Rattle.reuse_journal.specs.Recovery.{Picks, AreMade, AreStuck, AreFound, FindsNext}
 
 -- ---- what is found of one change

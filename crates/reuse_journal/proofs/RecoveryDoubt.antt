@@ -4,24 +4,24 @@ use Rattle.std.specs.FinMap.{get}
 use Rattle.std.specs.List.{All}
 use Rattle.std.proofs.lemmas.Bool.{false≢true}
 use Rattle.std.proofs.lemmas.Result.{IfErr-weaker}
-use Rattle.reuse_tree.specs.Asked.{OnlyReads, Leaves}
-use Rattle.reuse_tree.specs.Change.{path_of}
-use Rattle.reuse_tree.specs.Entry.{IsEntry, IsReady, SomeMade, ArePartlyMade, CanBeRolledBack}
-use Rattle.reuse_tree.specs.Files.{Files, AreFiles, tree_of}
+use Rattle.reuse_store.specs.Asked.{OnlyReads, Leaves}
+use Rattle.reuse_change.specs.Change.{path_of}
+use Rattle.reuse_change.specs.Entry.{IsEntry, IsReady, SomeMade, ArePartlyMade, CanBeRolledBack}
+use Rattle.reuse_change.specs.Files.{Files, AreFiles, tree_of}
 use Rattle.reuse_tree.specs.Head.{direction_of, IsGoodHead}
-use Rattle.reuse_tree.specs.Lasting.{IsMidway}
-use Rattle.reuse_tree.specs.Listing.{is_among}
-use Rattle.reuse_tree.specs.Path.{lies_under, journal_folder}
-use Rattle.reuse_tree.specs.Tree.{is_of_tree, undo_folder_of, Sets}
-use Rattle.reuse_tree.specs.declared.cause.Cause.{Cause}
-use Rattle.reuse_tree.specs.declared.change.Change.{Change}
-use Rattle.reuse_tree.specs.declared.journal.entry.Entry.{Entry}
+use Rattle.reuse_store.specs.Lasting.{IsMidway}
+use Rattle.reuse_change.specs.Listing.{is_among}
+use Rattle.reuse_change.specs.Path.{lies_under, journal_folder}
+use Rattle.reuse_change.specs.Tree.{is_of_tree, undo_folder_of, Sets}
+use Rattle.reuse_store.specs.declared.cause.Cause.{Cause}
+use Rattle.reuse_change.specs.declared.change.Change.{Change}
+use Rattle.reuse_json.specs.declared.entry.Entry.{Entry}
 use Rattle.reuse_tree.specs.declared.journal.head.Pending.{Pending}
 use Rattle.reuse_tree.specs.declared.journal.head.PendingDirection.{PendingDirection}
-use Rattle.reuse_tree.specs.declared.store.Store.{Ghosts}
-use Rattle.reuse_tree.proofs.AskedLemmas.{reads_more}
-use Rattle.reuse_tree.proofs.MadeLemmas.{made_none}
-use Rattle.reuse_tree.proofs.Walk.{none_outside}
+use Rattle.reuse_store.specs.declared.store.Store.{Ghosts}
+use Rattle.reuse_store.proofs.AskedLemmas.{reads_more}
+use Rattle.reuse_store.proofs.MadeLemmas.{made_none}
+use Rattle.reuse_change.proofs.Walk.{none_outside}
 use Rattle.reuse_command.specs.Answer.{IsEarly, IsStop}
 use Rattle.reuse_journal.specs.Carried.{IsRolledBack}
 use Rattle.reuse_journal.specs.History.{Memory}

@@ -3,17 +3,17 @@ use Rattle.std.proofs.Common.{◌≡◌, ◌⊎◌, inl, inr, ⊎_elim, ℕ, ◌
 use Rattle.std.specs.Prelude.{IfOk}
 use Rattle.std.specs.FinMap.{get}
 use Rattle.std.proofs.lemmas.List.Elements.{All-cons, All-nil}
-use Rattle.reuse_tree.specs.Change.{path_of}
-use Rattle.reuse_tree.specs.Entry.{opposite, AppliesBy, IsEntry, IsReady, SomeMade, ArePartlyMade, CanBeMade, CanBeRolledBack, IsFirstWithout}
-use Rattle.reuse_tree.specs.Files.{AreFiles, Files, tree_of}
+use Rattle.reuse_change.specs.Change.{path_of}
+use Rattle.reuse_change.specs.Entry.{opposite, AppliesBy, IsEntry, IsReady, SomeMade, ArePartlyMade, CanBeMade, CanBeRolledBack, IsFirstWithout}
+use Rattle.reuse_change.specs.Files.{AreFiles, Files, tree_of}
 use Rattle.reuse_tree.specs.Head.{direction_of}
-use Rattle.reuse_tree.specs.Tree.{undo_folder_of}
-use Rattle.reuse_tree.specs.declared.change.Change.{Change}
+use Rattle.reuse_change.specs.Tree.{undo_folder_of}
+use Rattle.reuse_change.specs.declared.change.Change.{Change}
 use Rattle.reuse_tree.specs.declared.journal.head.PendingDirection.{PendingDirection}
-use Rattle.reuse_tree.specs.declared.cause.Cause.{Cause}
-use Rattle.reuse_tree.specs.declared.direction.Direction.{Direction}
-use Rattle.reuse_tree.proofs.MadeLemmas.{back_at_start, ready_once, returned, settles_from, applied}
-use Rattle.reuse_tree.proofs.Walk.{none_without, applies_once_by}
+use Rattle.reuse_store.specs.declared.cause.Cause.{Cause}
+use Rattle.reuse_change.specs.declared.direction.Direction.{Direction}
+use Rattle.reuse_store.proofs.MadeLemmas.{back_at_start, ready_once, returned, settles_from, applied}
+use Rattle.reuse_change.proofs.Walk.{none_without, applies_once_by}
 use Rattle.reuse_command.specs.Answer.{TellsNoFault, IsEarly, IsFailure, IsOpenRefusal}
 use Rattle.reuse_journal.specs.Journal.{Journal, Recorded, State}
 use Rattle.reuse_journal.specs.JournalFiles.{entry_in, entry_path, number_of, IsKeptIn, KeepsJournal}

@@ -1,21 +1,21 @@
 -- How the standing of files changes when a step is carried out.
 use Rattle.std.proofs.Common.{◌≡◌, ◌⊎◌, inl, inr, ⊎_elim, ℕ, ◌+◌, ◌<◌, List, Some, None, codes, refl, sym, subst, ◌∙◌}
-use Rattle.reuse_tree.specs.Path.{journal_folder}
-use Rattle.reuse_tree.specs.Files.{Files, AreFiles, tree_of}
+use Rattle.reuse_change.specs.Path.{journal_folder}
+use Rattle.reuse_change.specs.Files.{Files, AreFiles, tree_of}
 use Rattle.reuse_journal.specs.Carried.{IsCarriedOut, IsStopped}
-use Rattle.reuse_tree.specs.Entry.{IsEntry, LeadsBy, SomeMade}
+use Rattle.reuse_change.specs.Entry.{IsEntry, LeadsBy, SomeMade}
 use Rattle.reuse_tree.specs.Head.{direction_of, IsGoodHead}
 use Rattle.reuse_journal.specs.Journal.{Recorded, State}
 use Rattle.reuse_journal.specs.JournalFiles.{entry_path, head_of, number_of, IsKeptIn}
 use Rattle.reuse_journal.specs.Remembered.{IsSameBut}
 use Rattle.reuse_journal.specs.Standing.{IsTree, IsStanding, IsStep, IsUnderWay, InDoubt}
-use Rattle.reuse_tree.specs.Tree.{undo_folder_of}
+use Rattle.reuse_change.specs.Tree.{undo_folder_of}
 use Rattle.reuse_tree.specs.declared.journal.head.PendingDirection.{PendingDirection}
-use Rattle.reuse_tree.specs.declared.change.Change.{Change}
-use Rattle.reuse_tree.proofs.TreeLemmas.{tree_are_files}
-use Rattle.reuse_tree.proofs.Walk.{leads_once, none_outside}
+use Rattle.reuse_change.specs.declared.change.Change.{Change}
+use Rattle.reuse_store.proofs.TreeLemmas.{tree_are_files}
+use Rattle.reuse_change.proofs.Walk.{leads_once, none_outside}
 use Rattle.reuse_journal.proofs.JournalLemmas.{entry_in_folder, same_but_in_folder, keeps_beside, keeps_pending, keeps_settled, kept_stays}
-use Rattle.reuse_tree.proofs.MadeLemmas.{reach_ready}
+use Rattle.reuse_store.proofs.MadeLemmas.{reach_ready}
 
 -- the entry's file of the next number changes no standing
 pub after_entry : (files after : Files) (held : State) → IsStanding files held → held.journal.used < 999_999 → IsSameBut (entry_path (held.journal.used + 1)) files after → IsStanding after held

@@ -3,31 +3,31 @@ use Rattle.std.proofs.Common.{◌≡◌, ◌⊎◌, inl, inr, ⊎_elim, ℕ, zer
 use Rattle.std.specs.List.{All}
 use Rattle.std.specs.FinMap.{get}
 use Rattle.std.proofs.Math.Seq.{take-length}
-use Rattle.reuse_tree.specs.Path.{is_path, journal_folder}
-use Rattle.reuse_tree.specs.Files.{Files, AreFiles, Clashes, tree_of}
-use Rattle.reuse_tree.specs.declared.change.Change.{Change}
-use Rattle.reuse_tree.specs.declared.change.Change.TheVariants as change
-use Rattle.reuse_tree.specs.Change.{path_of, IsProper}
-use Rattle.reuse_tree.proofs.GoodFiles.{put_keeps, remove_keeps}
-use Rattle.reuse_tree.specs.declared.direction.Direction.{Direction}
-use Rattle.reuse_tree.specs.declared.direction.Direction.TheVariants.{Forward, Backward}
-use Rattle.reuse_tree.specs.Entry.{IsEntry, ArePartlyMade, IsReady, AppliesBy, CanBeMade, CanBeRolledBack, opposite, makes}
-use Rattle.reuse_tree.specs.EntryText.{HavePaths}
+use Rattle.reuse_change.specs.Path.{is_path, journal_folder}
+use Rattle.reuse_change.specs.Files.{Files, AreFiles, Clashes, tree_of}
+use Rattle.reuse_change.specs.declared.change.Change.{Change}
+use Rattle.reuse_change.specs.declared.change.Change.TheVariants as change
+use Rattle.reuse_change.specs.Change.{path_of, IsProper}
+use Rattle.reuse_store.proofs.GoodFiles.{put_keeps, remove_keeps}
+use Rattle.reuse_change.specs.declared.direction.Direction.{Direction}
+use Rattle.reuse_change.specs.declared.direction.Direction.TheVariants.{Forward, Backward}
+use Rattle.reuse_change.specs.Entry.{IsEntry, ArePartlyMade, IsReady, AppliesBy, CanBeMade, CanBeRolledBack, opposite, makes}
+use Rattle.reuse_json.specs.EntryText.{HavePaths}
 use Rattle.reuse_tree.specs.Head.{direction_of}
 use Rattle.reuse_journal.specs.History.{Memory}
 use Rattle.reuse_journal.specs.Journal.{Journal, State}
 use Rattle.reuse_journal.specs.JournalFiles.{entry_path, EntrySays}
 use Rattle.reuse_journal.specs.Opening.{IsRead}
 use Rattle.reuse_journal.specs.Standing.{IsTree, IsUnderWay}
-use Rattle.reuse_tree.specs.Tree.{is_of_tree, undo_folder_of}
-use Rattle.reuse_tree.specs.declared.journal.entry.Entry.{Entry}
+use Rattle.reuse_change.specs.Tree.{is_of_tree, undo_folder_of}
+use Rattle.reuse_json.specs.declared.entry.Entry.{Entry}
 use Rattle.reuse_tree.specs.declared.journal.head.Pending.{Pending}
-use Rattle.reuse_tree.proofs.TreeLemmas.{tree_are_files}
+use Rattle.reuse_store.proofs.TreeLemmas.{tree_are_files}
 use Rattle.reuse_journal.proofs.JournalLemmas.{entry_good}
-use Rattle.reuse_tree.proofs.MadeLemmas.{at_place, back_none, back_more, ready_once, step_with, still_free, stood, with_file}
+use Rattle.reuse_store.proofs.MadeLemmas.{at_place, back_none, back_more, ready_once, step_with, still_free, stood, with_file}
 use Rattle.reuse_journal.proofs.OpeningLemmas.{recorded}
 use Rattle.reuse_journal.proofs.PendingRecovery.{none_in_tree}
-use Rattle.reuse_tree.proofs.Walk.{none_outside}
+use Rattle.reuse_change.proofs.Walk.{none_outside}
 
 -- where a change leaves a file, it makes it or one was there
 there_or_made : (direction : Direction) (c : Change) (old new : Option (List ℕ)) → AppliesBy direction c old new → IsSome new → (makes direction c ≡ true) ⊎ IsSome old

@@ -1,11 +1,11 @@
 -- What carrying a step out leaves, and rolling it back. The heads are given by their texts.
 use Rattle.std.specs.Prelude.{◌≡◌, ◌⊎◌, ℕ, List, Some}
-use Rattle.reuse_tree.specs.Files.{Files, tree_of}
-use Rattle.reuse_tree.specs.declared.change.Change.{Change}
-use Rattle.reuse_tree.specs.Entry.{opposite, LeadsBy, SomeMade, ArePartlyMade}
+use Rattle.reuse_change.specs.Files.{Files, tree_of}
+use Rattle.reuse_change.specs.declared.change.Change.{Change}
+use Rattle.reuse_change.specs.Entry.{opposite, LeadsBy, SomeMade, ArePartlyMade}
 use Rattle.reuse_journal.specs.JournalFiles.{head_path}
-use Rattle.reuse_tree.specs.Tree.{Sets, undo_folder_of}
-use Rattle.reuse_tree.specs.declared.direction.Direction.{Direction}
+use Rattle.reuse_change.specs.Tree.{Sets, undo_folder_of}
+use Rattle.reuse_change.specs.declared.direction.Direction.{Direction}
 
 -- the folder of the journal has this head then, and its other files stay
 abbrev pub SetsHead : List ℕ → Files → Files → Type 0

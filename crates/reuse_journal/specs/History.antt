@@ -1,8 +1,8 @@
 -- What a session remembers of the journal.
 use Rattle.std.specs.Prelude.{ℕ, ◌+◌, ◌==◌, not, take_while, List, [], ◌∷◌, ◌++◌, map, reverse, Bool, true, false, Option}
 use Rattle.reuse_journal.specs.Labels.{row_of}
-use Rattle.reuse_tree.specs.declared.direction.Direction.{Direction}
-use Rattle.reuse_tree.specs.declared.direction.Direction.TheVariants.{Forward, Backward}
+use Rattle.reuse_change.specs.declared.direction.Direction.{Direction}
+use Rattle.reuse_change.specs.declared.direction.Direction.TheVariants.{Forward, Backward}
 use Rattle.reuse_journal.specs.declared.history.ListedEntry.{ListedEntry}
 use Rattle.reuse_tree.specs.declared.journal.head.Head.{Head}
 use Rattle.reuse_tree.specs.declared.journal.head.Pending.{Pending}

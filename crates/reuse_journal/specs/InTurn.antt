@@ -1,8 +1,8 @@
 -- Changes that are made one after the other.
 use Rattle.std.specs.Prelude.{◌≡◌, List, [], ◌∷◌}
-use Rattle.reuse_tree.specs.Files.{Files}
-use Rattle.reuse_tree.specs.Change.{Leads}
-use Rattle.reuse_tree.specs.declared.change.Change.{Change}
+use Rattle.reuse_change.specs.Files.{Files}
+use Rattle.reuse_change.specs.Change.{Leads}
+use Rattle.reuse_change.specs.declared.change.Change.{Change}
 
 -- each change leads on from the tree to which the changes before it lead
 abbrev pub LeadsInTurn : List Change → Files → Files → Type 0

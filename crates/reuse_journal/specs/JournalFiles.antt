@@ -2,14 +2,14 @@
 use Rattle.std.specs.Prelude.{◌≡◌, ◌⊎◌, ◌<◌, ◌≤◌, ℕ, ◌+◌, ◌/◌, ◌%◌, List, [], ◌∷◌, ◌++◌, map, reverse, Option, Some, None, IsSome, IsTrue, codes}
 use Rattle.std.specs.List.{All}
 use Rattle.std.specs.FinMap.{get}
-use Rattle.reuse_tree.specs.Path.{lies_under}
-use Rattle.reuse_tree.specs.Files.{Files}
+use Rattle.reuse_change.specs.Path.{lies_under}
+use Rattle.reuse_change.specs.Files.{Files}
 use Rattle.reuse_tree.specs.Head.{IsGoodHead}
-use Rattle.reuse_tree.specs.EntryText.{IsGoodEntry}
+use Rattle.reuse_json.specs.EntryText.{IsGoodEntry}
 use Rattle.reuse_journal.specs.Journal.{Recorded, Journal}
 use Rattle.reuse_tree.specs.declared.journal.head.Head.{Head}
 use Rattle.reuse_tree.specs.declared.journal.head.Pending.{Pending}
-use Rattle.reuse_tree.specs.declared.journal.entry.Entry.{Entry}
+use Rattle.reuse_json.specs.declared.entry.Entry.{Entry}
 
 -- ---- their paths
 

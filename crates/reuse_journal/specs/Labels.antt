@@ -1,6 +1,6 @@
 -- What names a step, its row of a log, and when a journal takes no further entry.
 use Rattle.std.specs.Prelude.{ℕ, Bool, ◌||◌, nat_le}
-use Rattle.reuse_tree.specs.declared.command_name.CommandName.{CommandName}
+use Rattle.reuse_change.specs.declared.command_name.CommandName.{CommandName}
 use Rattle.reuse_command.specs.declared.reply.Row.{Row}
 
 -- what names a step: its number, its moment and its command

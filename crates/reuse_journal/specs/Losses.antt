@@ -1,15 +1,15 @@
 -- What a loss of power leaves of a tree and its journal.
 use Rattle.std.specs.Prelude.{◌≡◌, ◌⊎◌, List, ℕ, Some, Result, Ok, Err, MatchResult}
-use Rattle.reuse_tree.specs.Asked.{Leaves, IsSynced}
-use Rattle.reuse_tree.specs.Entry.{LeadsBy, SomeMade}
-use Rattle.reuse_tree.specs.Files.{Files, tree_of}
+use Rattle.reuse_store.specs.Asked.{Leaves, IsSynced}
+use Rattle.reuse_change.specs.Entry.{LeadsBy, SomeMade}
+use Rattle.reuse_change.specs.Files.{Files, tree_of}
 use Rattle.reuse_tree.specs.Head.{direction_of}
-use Rattle.reuse_tree.specs.Lasting.{IsMidway}
-use Rattle.reuse_tree.specs.Tree.{undo_folder_of, Sets}
-use Rattle.reuse_tree.specs.declared.change.Change.{Change}
+use Rattle.reuse_store.specs.Lasting.{IsMidway}
+use Rattle.reuse_change.specs.Tree.{undo_folder_of, Sets}
+use Rattle.reuse_change.specs.declared.change.Change.{Change}
 use Rattle.reuse_tree.specs.declared.journal.head.PendingDirection.{PendingDirection}
-use Rattle.reuse_tree.specs.declared.store.Store.{Ghosts}
-use Rattle.reuse_tree.specs.declared.direction.Direction.{Direction}
+use Rattle.reuse_store.specs.declared.store.Store.{Ghosts}
+use Rattle.reuse_change.specs.declared.direction.Direction.{Direction}
 use Rattle.reuse_command.specs.Answer.{IsStop}
 use Rattle.reuse_journal.specs.Carried.{SetsHead, IsStopped}
 use Rattle.reuse_journal.specs.Journal.{Recorded, State}

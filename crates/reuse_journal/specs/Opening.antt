@@ -2,21 +2,21 @@
 use Rattle.std.specs.Prelude.{◌≡◌, ◌⊎◌, ◌↔◌, ℕ, ◌+◌, ◌<◌, ◌≤◌, List, [], ◌∷◌, ◌++◌, length, Option, Some, None, IsSome, Result, Err, IsOk, codes, nat_lt, if◌then◌else◌}
 use Rattle.std.specs.List.{All, Contains}
 use Rattle.std.specs.FinMap.{get}
-use Rattle.reuse_tree.specs.Path.{journal_folder}
-use Rattle.reuse_tree.specs.Files.{Files, tree_of}
-use Rattle.reuse_tree.specs.declared.store.Store.{Ghosts}
-use Rattle.reuse_tree.specs.Entry.{CanBeRolledBack, IsFirstWithout}
+use Rattle.reuse_change.specs.Path.{journal_folder}
+use Rattle.reuse_change.specs.Files.{Files, tree_of}
+use Rattle.reuse_store.specs.declared.store.Store.{Ghosts}
+use Rattle.reuse_change.specs.Entry.{CanBeRolledBack, IsFirstWithout}
 use Rattle.reuse_tree.specs.Head.{listed, direction_of}
 use Rattle.reuse_journal.specs.History.{Memory}
 use Rattle.reuse_journal.specs.Journal.{Recorded, Journal, State}
 use Rattle.reuse_journal.specs.JournalFiles.{head_path, entry_path, number_of, HeadSays, EntrySays, IsKeptIn, KeepsJournal}
 use Rattle.reuse_journal.specs.Remembered.{Remembers}
 use Rattle.reuse_journal.specs.Standing.{IsStanding, IsUnderWay}
-use Rattle.reuse_tree.specs.Tree.{undo_folder_of}
+use Rattle.reuse_change.specs.Tree.{undo_folder_of}
 use Rattle.reuse_tree.specs.declared.journal.head.Head.{Head}
 use Rattle.reuse_tree.specs.declared.journal.head.Pending.{Pending}
 use Rattle.reuse_tree.specs.declared.journal.head.PendingDirection.{PendingDirection}
-use Rattle.reuse_tree.specs.declared.journal.entry.Entry.{Entry}
+use Rattle.reuse_json.specs.declared.entry.Entry.{Entry}
 use Rattle.reuse_journal.specs.declared.history.ListedEntry.{ListedEntry}
 use Rattle.reuse_command.specs.declared.reply.Refusal.{Refusal}
 use Rattle.reuse_command.specs.declared.reply.Refusal.TheVariants.{BadJournal, Moved}

@@ -2,15 +2,15 @@
 use Rattle.std.specs.Prelude.{◌≡◌, ◌⊎◌, ◌↔◌, ℕ, Bool, false, List, [], ◌∷◌, ◌++◌, filter, not, Some, None, Result, Err}
 use Rattle.std.specs.List.{All}
 use Rattle.std.specs.FinMap.{get}
-use Rattle.reuse_tree.specs.Change.{path_of}
-use Rattle.reuse_tree.specs.Entry.{touches, opposite, AppliesBy, IsReady, IsEntry, CanBeMade, CanBeRolledBack}
-use Rattle.reuse_tree.specs.Files.{Files, tree_of}
+use Rattle.reuse_change.specs.Change.{path_of}
+use Rattle.reuse_change.specs.Entry.{touches, opposite, AppliesBy, IsReady, IsEntry, CanBeMade, CanBeRolledBack}
+use Rattle.reuse_change.specs.Files.{Files, tree_of}
 use Rattle.reuse_tree.specs.Head.{direction_of}
-use Rattle.reuse_tree.specs.Listing.{is_among}
-use Rattle.reuse_tree.specs.Tree.{undo_folder_of}
-use Rattle.reuse_tree.specs.declared.change.Change.{Change}
+use Rattle.reuse_change.specs.Listing.{is_among}
+use Rattle.reuse_change.specs.Tree.{undo_folder_of}
+use Rattle.reuse_change.specs.declared.change.Change.{Change}
 use Rattle.reuse_tree.specs.declared.journal.head.PendingDirection.{PendingDirection}
-use Rattle.reuse_tree.specs.declared.direction.Direction.{Direction}
+use Rattle.reuse_change.specs.declared.direction.Direction.{Direction}
 use Rattle.reuse_journal.specs.Journal.{Recorded, Journal, State}
 use Rattle.reuse_journal.specs.JournalFiles.{head_path, number_of, IsKeptIn, KeepsJournal}
 use Rattle.reuse_journal.specs.Opening.{NoFileAbove, IsFirstBad, IsStuckAt}

@@ -1,14 +1,14 @@
 -- What is remembered of a journal, and the texts that its files have.
 use Rattle.std.specs.Prelude.{◌≡◌, ◌≢◌, ℕ, ◌+◌, ◌*◌, List, length, map, reverse, Some, None}
 use Rattle.std.specs.FinMap.{get}
-use Rattle.reuse_tree.specs.Files.{Files}
-use Rattle.reuse_tree.specs.EntryText.{entry_text}
+use Rattle.reuse_change.specs.Files.{Files}
+use Rattle.reuse_json.specs.EntryText.{entry_text}
 use Rattle.reuse_tree.specs.Head.{head_text}
 use Rattle.reuse_journal.specs.History.{Memory, head_listing}
 use Rattle.reuse_journal.specs.Journal.{Recorded, Journal}
 use Rattle.reuse_journal.specs.JournalFiles.{head_path, entry_path}
 use Rattle.reuse_journal.specs.declared.history.ListedEntry.{ListedEntry}
-use Rattle.reuse_tree.specs.declared.journal.entry.Entry.{Entry}
+use Rattle.reuse_json.specs.declared.entry.Entry.{Entry}
 
 -- a step as an entry that the head lists
 abbrev pub listed_as : Recorded → ListedEntry

@@ -3,14 +3,14 @@ use Rattle.std.specs.Prelude.{◌≡◌, true}
 use Rattle.std.specs.Option.{option_map}
 use Rattle.std.specs.FinMap.{get}
 use Rattle.sha2.specs.Sha256.{sha256}
-use Rattle.reuse_tree.specs.Files.{Files, Clashes}
-use Rattle.reuse_tree.specs.Change.{path_of}
-use Rattle.reuse_tree.specs.Apply.{IsReadyByRange}
-use Rattle.reuse_tree.specs.declared.change.Change.{Change}
-use Rattle.reuse_tree.specs.Entry.{makes}
+use Rattle.reuse_change.specs.Files.{Files, Clashes}
+use Rattle.reuse_change.specs.Change.{path_of}
+use Rattle.reuse_store.specs.Apply.{IsReadyByRange}
+use Rattle.reuse_change.specs.declared.change.Change.{Change}
+use Rattle.reuse_change.specs.Entry.{makes}
 use Rattle.reuse_journal.specs.Journal.{State}
-use Rattle.reuse_tree.specs.declared.direction.Direction.{Direction}
-use Rattle.reuse_tree.specs.declared.direction.Direction.TheVariants.{Forward, Backward}
+use Rattle.reuse_change.specs.declared.direction.Direction.{Direction}
+use Rattle.reuse_change.specs.declared.direction.Direction.TheVariants.{Forward, Backward}
 
 -- the tree from which a run's step is gone through this way: that before the run, or that after it
 abbrev pub tree_for : Direction → State → State → Files

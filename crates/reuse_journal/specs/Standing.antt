@@ -1,10 +1,10 @@
 -- Standings: a tree, and the journal beside it, without a pending entry. Files in doubt between two of them.
 use Rattle.std.specs.Prelude.{◌≡◌, ◌⊎◌, ◌+◌, List, [], ◌∷◌, Some, None, codes}
 use Rattle.std.specs.FinMap.{get}
-use Rattle.reuse_tree.specs.Path.{journal_folder}
-use Rattle.reuse_tree.specs.Files.{Files, AreFiles, tree_of}
-use Rattle.reuse_tree.specs.Tree.{undo_folder_of}
-use Rattle.reuse_tree.specs.Entry.{LeadsBy, ArePartlyMade}
+use Rattle.reuse_change.specs.Path.{journal_folder}
+use Rattle.reuse_change.specs.Files.{Files, AreFiles, tree_of}
+use Rattle.reuse_change.specs.Tree.{undo_folder_of}
+use Rattle.reuse_change.specs.Entry.{LeadsBy, ArePartlyMade}
 use Rattle.reuse_journal.specs.Journal.{Recorded, Journal, State}
 use Rattle.reuse_journal.specs.JournalFiles.{KeepsJournal, IsKeptIn, number_of}
 use Rattle.reuse_tree.specs.Head.{direction_of}

@@ -1,8 +1,8 @@
 -- What is tested of each change of an entry, before one of them is made.
-use Rattle.reuse_tree.specs.Files.{Files}
-use Rattle.reuse_tree.specs.declared.change.Change.{Change}
-use Rattle.reuse_tree.specs.Entry.{CanBeMade, CanBeRolledBack}
-use Rattle.reuse_tree.specs.declared.direction.Direction.{Direction}
+use Rattle.reuse_change.specs.Files.{Files}
+use Rattle.reuse_change.specs.declared.change.Change.{Change}
+use Rattle.reuse_change.specs.Entry.{CanBeMade, CanBeRolledBack}
+use Rattle.reuse_change.specs.declared.direction.Direction.{Direction}
 use Rattle.reuse_journal.specs.declared.prepare.Aim.{Aim}
 use Rattle.reuse_journal.specs.declared.prepare.Aim.TheVariants.{Go, RollingBack}
 

@@ -1,32 +1,32 @@
 //! The files of the journal: reads and puts its head and its entries.
 ghost use Rattle.std.specs.Prelude.{◌≡◌, ◌≢◌, ◌⊎◌, ◌<◌, ◌≤◌, ◌+◌, ℕ, List, Option, Some, true, IfOk, IfErr, OnOk, OnErr, IsErrOf, length};
 ghost use Rattle.std.specs.FinMap as map;
-ghost use Rattle.reuse_tree.specs.Files.{Clashes, tree_of};
-ghost use Rattle.reuse_tree.specs.Store.{reading_of};
+ghost use Rattle.reuse_change.specs.Files.{Clashes, tree_of};
+ghost use Rattle.reuse_store.specs.Store.{reading_of};
 ghost use Rattle.reuse_command.specs.declared.failure.Fault.TheVariants as faults;
 ghost use Rattle.reuse_command.specs.Answer.{IsReadRefusal, bad_text, RefusedAsRead, IsEarlyFailure};
-ghost use Rattle.reuse_tree.specs.Entry.{IsEntry, entry_size};
-ghost use Rattle.reuse_tree.specs.EntryText.{entry_text, is_any_sealed, HavePaths};
-ghost use Rattle.reuse_tree.specs.Format.{knows};
+ghost use Rattle.reuse_change.specs.Entry.{IsEntry, entry_size};
+ghost use Rattle.reuse_json.specs.EntryText.{entry_text, is_any_sealed, HavePaths};
+ghost use Rattle.reuse_json.specs.Format.{knows};
 ghost use Rattle.reuse_tree.specs.Head.{IsSoundHead};
 ghost use Rattle.reuse_journal.specs.Remembered.{HasEntryText, IsSameBut};
-ghost use Rattle.reuse_tree.specs.Tree.{Sets, undo_folder_of};
+ghost use Rattle.reuse_change.specs.Tree.{Sets, undo_folder_of};
 ghost use Rattle.reuse_journal.specs.JournalFiles.{digit, head_path, entry_path, HeadSays, EntrySays};
 ghost use Rattle.reuse_tree.specs.declared.journal.head.Head.{Head};
-ghost use Rattle.reuse_tree.specs.declared.journal.entry.Entry.{Entry};
-ghost use Rattle.reuse_tree.specs.Asked.{OnlyReads, IsLater, IsSynced, MaySet};
+ghost use Rattle.reuse_json.specs.declared.entry.Entry.{Entry};
+ghost use Rattle.reuse_store.specs.Asked.{OnlyReads, IsLater, IsSynced, MaySet};
 ghost use Rattle.reuse_journal.specs.Losses.{HaveTree};
 ghost use Rattle.reuse_command.specs.declared.failure.Fault.{Fault};
 ghost use Rattle.reuse_command.specs.declared.failure.Failure.TheVariants as failures;
 
+use reuse_change::{EntryNumbers, PathText};
 use reuse_command::failure::Failure;
 use reuse_command::known_path::known_path;
 use reuse_command::reply::Refusal;
+use reuse_json::{DecodeFault, Entry};
+use reuse_store::{Cause, Reading, Store};
 use reuse_text::LONGEST_FILE;
-use reuse_tree::{
-    Cause, DecodeFault, Entry, EntryNumbers, Head, PathText, Reading, Store, decode_entry,
-    decode_head, encode_entry,
-};
+use reuse_tree::{Head, decode_entry, decode_head, encode_entry};
 use std::alloc::{AllocError, Global};
 use std::marker::Model;
 

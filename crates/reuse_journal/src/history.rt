@@ -9,8 +9,9 @@ ghost use Rattle.reuse_journal.specs.Numbered.{entry_of, row_in};
 ghost use Rattle.reuse_journal.specs.Numbered.{lists};
 ghost use Rattle.reuse_journal.specs.declared.history.ListedEntry.{ListedEntry};
 
+use reuse_change::{CommandName, Direction, EntryNumbers, Moment};
 use reuse_command::reply::{Row, Rows};
-use reuse_tree::{CommandName, Direction, EntryNumbers, Head, Moment, Pending, encode_head};
+use reuse_tree::{Head, Pending, encode_head};
 use std::alloc::{AllocError, Global};
 use std::marker::Model;
 

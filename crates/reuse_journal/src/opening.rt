@@ -3,7 +3,7 @@
 ghost use Rattle.std.specs.Prelude.{◌≡◌, ◌≢◌, ◌⊎◌, ◌<◌, ◌≤◌, ◌+◌, ℕ, List, IfOk, IfErr, OnOk, IsSome, IsTrue, Some, None, length, codes, MatchResult};
 ghost use Rattle.std.specs.FinMap as map;
 ghost use Rattle.std.specs.List.{All, AllZip};
-ghost use Rattle.reuse_tree.specs.Path.{is_path, journal_folder};
+ghost use Rattle.reuse_change.specs.Path.{is_path, journal_folder};
 ghost use Rattle.reuse_command.specs.Answer.{HasCause, IsEarly, IsNoClash, IsFailure, IsReadRefusal, IsOpenRefusal, RefusedAsRead};
 ghost use Rattle.reuse_tree.specs.Head.{listed, IsSoundHead};
 ghost use Rattle.reuse_tree.specs.declared.journal.head.Head.{Head};
@@ -13,10 +13,10 @@ ghost use Rattle.reuse_journal.specs.Opening.{least, listed_entry, named, IsRead
 ghost use Rattle.reuse_journal.specs.Remembered.{head_room, listed_count, HasHeadText, IsSameBut, Remembers};
 ghost use Rattle.reuse_journal.specs.Standing.{IsStanding, IsUnderWay, InDoubt};
 ghost use Rattle.reuse_journal.specs.Losses.{AreSafeOn, AreInDoubt};
-ghost use Rattle.reuse_tree.specs.Tree.{undo_folder_of};
-ghost use Rattle.reuse_tree.specs.declared.cause.Cause.{Cause};
-ghost use Rattle.reuse_tree.specs.declared.cause.Cause.TheVariants as causes;
-ghost use Rattle.reuse_tree.specs.Asked.{OnlyReads, IsLater};
+ghost use Rattle.reuse_change.specs.Tree.{undo_folder_of};
+ghost use Rattle.reuse_store.specs.declared.cause.Cause.{Cause};
+ghost use Rattle.reuse_store.specs.declared.cause.Cause.TheVariants as causes;
+ghost use Rattle.reuse_store.specs.Asked.{OnlyReads, IsLater};
 ghost use Rattle.reuse_command.specs.declared.failure.Failure.TheVariants as failures;
 
 use crate::files::{HeadPath, NewHead, entry_path, read_entry, read_head};
@@ -24,7 +24,9 @@ use crate::history::{History, ListedEntry};
 use crate::roll_back::roll_back;
 use reuse_command::known_path::known_path;
 use reuse_command::reply::Refusal;
-use reuse_tree::{Entry, Head, Pending, Reading, Store};
+use reuse_json::Entry;
+use reuse_store::{Reading, Store};
+use reuse_tree::{Head, Pending};
 use std::alloc::{AllocError, Global};
 
 /// Reads the journal of a store, and rolls back what is pending. It answers what the head lists

@@ -1,18 +1,19 @@
 //! Tests the changes of an entry before they are made.
 ghost use Rattle.std.specs.Prelude.{◌≡◌, ◌↔◌, ℕ, List, map, IsTrue, IfOk, IfErr, OnOk, true};
 ghost use Rattle.std.specs.List.{All};
-ghost use Rattle.reuse_tree.specs.Files.{tree_of};
-ghost use Rattle.reuse_tree.specs.Change.{path_of, IsProper};
+ghost use Rattle.reuse_change.specs.Files.{tree_of};
+ghost use Rattle.reuse_change.specs.Change.{path_of, IsProper};
 ghost use Rattle.reuse_command.specs.Answer.{IsTestRefusal, RefusedAsRead};
-ghost use Rattle.reuse_tree.specs.Tree.{is_of_tree};
-ghost use Rattle.reuse_tree.specs.Entry.{paths_of, IsSmall, IsEntry, CanBeMade, IsFirstStuck, IsFirstWithout};
+ghost use Rattle.reuse_change.specs.Tree.{is_of_tree};
+ghost use Rattle.reuse_change.specs.Entry.{paths_of, IsSmall, IsEntry, CanBeMade, IsFirstStuck, IsFirstWithout};
 ghost use Rattle.reuse_journal.specs.Tested.{Passes};
-ghost use Rattle.reuse_tree.specs.Asked.{OnlyReads, FailsAsRead};
+ghost use Rattle.reuse_store.specs.Asked.{OnlyReads, FailsAsRead};
 
+use reuse_change::{Change, Direction};
 use reuse_command::reply::{Paths, Refusal};
-use reuse_tree::apply_change::can_apply;
-use reuse_tree::apply_changes::can_be_made;
-use reuse_tree::{Change, Direction, Store, StoreFault};
+use reuse_store::apply_change::can_apply;
+use reuse_store::apply_changes::can_be_made;
+use reuse_store::{Store, StoreFault};
 use std::alloc::{AllocError, Global};
 
 /// The paths of the changes.

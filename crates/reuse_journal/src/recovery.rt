@@ -5,15 +5,15 @@
 //! found first, and nothing is put before all are.
 ghost use Rattle.std.specs.Prelude.{◌≡◌, ◌≢◌, ◌<◌, ◌⊎◌, ◌∷◌, [], ℕ, List, not, true, false, Some, None, IfOk, IfErr, OnOk, MatchResult};
 ghost use Rattle.std.specs.FinMap as map;
-ghost use Rattle.reuse_tree.specs.Asked.{OnlyReads, IsLater, IsSynced, Leaves};
-ghost use Rattle.reuse_tree.specs.Change.{path_of, IsProper};
+ghost use Rattle.reuse_store.specs.Asked.{OnlyReads, IsLater, IsSynced, Leaves};
+ghost use Rattle.reuse_change.specs.Change.{path_of, IsProper};
 ghost use Rattle.std.specs.List.{All};
-ghost use Rattle.reuse_tree.specs.Entry.{makes, opposite, IsEntry, IsSmall, SomeMade, ArePartlyMade, CanBeRolledBack};
-ghost use Rattle.reuse_tree.specs.Files.{Files, Clashes, tree_of};
-ghost use Rattle.reuse_tree.specs.Listing.{ArePaths, is_among};
-ghost use Rattle.reuse_tree.specs.Tree.{is_of_tree, undo_folder_of, Sets};
-ghost use Rattle.reuse_tree.specs.declared.cause.Cause.{Cause};
-ghost use Rattle.reuse_tree.specs.declared.cause.Cause.TheVariants as causes;
+ghost use Rattle.reuse_change.specs.Entry.{makes, opposite, IsEntry, IsSmall, SomeMade, ArePartlyMade, CanBeRolledBack};
+ghost use Rattle.reuse_change.specs.Files.{Files, Clashes, tree_of};
+ghost use Rattle.reuse_change.specs.Listing.{ArePaths, is_among};
+ghost use Rattle.reuse_change.specs.Tree.{is_of_tree, undo_folder_of, Sets};
+ghost use Rattle.reuse_store.specs.declared.cause.Cause.{Cause};
+ghost use Rattle.reuse_store.specs.declared.cause.Cause.TheVariants as causes;
 ghost use Rattle.reuse_tree.specs.declared.journal.head.PendingDirection.{PendingDirection};
 ghost use Rattle.reuse_command.specs.Answer.{HasCause, IsEarly, IsFailure, IsRollBackRefusal, IsNoClash, IsOpenRefusal, IsTestRefusal, RefusedAsRead, TellsNoFault, IsEarlyFailure};
 ghost use Rattle.reuse_journal.specs.Carried.{IsRolledBack, StopsBack};
@@ -32,10 +32,12 @@ use crate::files::{HeadPath, NewHead, put_head, read_entry};
 use crate::history::History;
 use crate::opening::read_journal;
 use crate::roll_back::{roll_back, told};
+use reuse_change::{Change, Direction, PathText, is_among};
 use reuse_command::reply::{Paths, Recovered, Refusal};
-use reuse_tree::apply_change::can_apply;
-use reuse_tree::apply_changes::can_be_made;
-use reuse_tree::{Change, Direction, PathText, Pending, Store, is_among};
+use reuse_store::Store;
+use reuse_store::apply_change::can_apply;
+use reuse_store::apply_changes::can_be_made;
+use reuse_tree::Pending;
 use std::alloc::Global;
 
 /// Rolls the step back that is pending in a journal, and clears it there: each path at the state

@@ -1,27 +1,28 @@
 //! Rolls a pending step back: its files are as they were before it, and the head names it no more.
 ghost use Rattle.std.specs.Prelude.{◌≡◌, ◌≢◌, ◌<◌, ◌≤◌, ◌+◌, ℕ, List, IfErr, OnOk, OnErr, IsErrOf, length, true, false};
 ghost use Rattle.std.specs.List.{All};
-ghost use Rattle.reuse_tree.specs.Files.{Files, AreFiles, Clashes, tree_of};
+ghost use Rattle.reuse_change.specs.Files.{Files, AreFiles, Clashes, tree_of};
 ghost use Rattle.reuse_command.specs.Answer.{told_of, HasCause, IsEarly, IsNoClash, IsRollBackRefusal};
 ghost use Rattle.reuse_journal.specs.Carried.{IsRolledBack, StopsBack, StopsRollingBack};
-ghost use Rattle.reuse_tree.specs.Apply.{NotesMutations};
-ghost use Rattle.reuse_tree.specs.Entry.{IsEntry, SomeMade, ArePartlyMade, CanBeRolledBack, IsFirstWithout};
+ghost use Rattle.reuse_store.specs.Apply.{NotesMutations};
+ghost use Rattle.reuse_change.specs.Entry.{IsEntry, SomeMade, ArePartlyMade, CanBeRolledBack, IsFirstWithout};
 ghost use Rattle.reuse_journal.specs.Remembered.{IsSameBut};
-ghost use Rattle.reuse_tree.specs.Tree.{undo_folder_of};
+ghost use Rattle.reuse_change.specs.Tree.{undo_folder_of};
 ghost use Rattle.reuse_journal.specs.JournalFiles.{head_path};
-ghost use Rattle.reuse_tree.specs.declared.cause.Cause.{Cause};
+ghost use Rattle.reuse_store.specs.declared.cause.Cause.{Cause};
 ghost use Rattle.reuse_command.specs.declared.failure.Failure.TheVariants as failures;
 ghost use Rattle.reuse_command.specs.declared.reply.Refusal.TheVariants as refusals;
-ghost use Rattle.reuse_tree.specs.Asked.{OnlyReads, IsLater, IsSynced, Leaves};
-ghost use Rattle.reuse_tree.specs.Lasting.{IsMidway};
+ghost use Rattle.reuse_store.specs.Asked.{OnlyReads, IsLater, IsSynced, Leaves};
+ghost use Rattle.reuse_store.specs.Lasting.{IsMidway};
 ghost use Rattle.reuse_journal.specs.Losses.{StopsBackWithDoubt};
 
 use crate::files::{NewHead, put_head};
 use crate::prepare::{Aim, test_each};
+use reuse_change::{Change, Direction};
 use reuse_command::failure::{Failure, Fault};
 use reuse_command::reply::Refusal;
-use reuse_tree::apply_change::roll_back_change;
-use reuse_tree::{Cause, Change, Direction, Store};
+use reuse_store::apply_change::roll_back_change;
+use reuse_store::{Cause, Store};
 use std::alloc::Global;
 
 /// Tests that each change of a step that is pending this way is made or not, and can be taken back

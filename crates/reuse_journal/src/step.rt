@@ -1,16 +1,17 @@
 //! Carries a step out: its changes are made between two puts of the head.
 ghost use Rattle.std.specs.Prelude.{◌≡◌, ◌≢◌, ◌⊎◌, ◌<◌, ◌≤◌, ◌+◌, OnOk, OnErr, IsErrOf, length};
 ghost use Rattle.std.specs.List.{All};
-ghost use Rattle.reuse_tree.specs.Files.{Clashes, tree_of};
-ghost use Rattle.reuse_tree.specs.Entry.{IsEntry, CanBeMade, CanGo};
+ghost use Rattle.reuse_change.specs.Files.{Clashes, tree_of};
+ghost use Rattle.reuse_change.specs.Entry.{IsEntry, CanBeMade, CanGo};
 ghost use Rattle.reuse_journal.specs.Carried.{IsCarriedOut, IsStopped};
 ghost use Rattle.reuse_journal.specs.JournalFiles.{head_path};
-ghost use Rattle.reuse_tree.specs.Asked.{IsLater, IsSynced};
+ghost use Rattle.reuse_store.specs.Asked.{IsLater, IsSynced};
 ghost use Rattle.reuse_journal.specs.Losses.{HaveTree, StopsWithDoubt};
 
 use crate::files::{HeadPath, put_head};
-use reuse_tree::apply_changes::apply_changes;
-use reuse_tree::{Cause, Change, Direction, Store};
+use reuse_change::{Change, Direction};
+use reuse_store::apply_changes::apply_changes;
+use reuse_store::{Cause, Store};
 use std::alloc::Global;
 
 /// The two heads of a step: where they are put, and their texts.

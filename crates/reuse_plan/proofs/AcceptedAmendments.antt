@@ -14,7 +14,7 @@ use Rattle.reuse_header.specs.declared.style.Style.{Style}
 use Rattle.reuse_header.specs.Amendment.{amended_file, amendment_of, neighbour_amendment_of}
 use Rattle.reuse_header.specs.Names.{kind_in}
 use Rattle.reuse_header.specs.Neighbour.{is_text}
-use Rattle.reuse_tree.specs.Listing.{is_folder}
+use Rattle.reuse_change.specs.Listing.{is_folder}
 use Rattle.reuse_plan.specs.Accepted.{CanNeighbourBeAmended, CanFileBeAmended, CanBeAmended, CanAmend, FitsEntry, CanTableBeAmended, CanCoveredBeAmended}
 use Rattle.reuse_plan.specs.Amend.{style_or_named, style_for, amendment_edit, amend_neighbour, amend_inside, amend_covered, amended_where, amended_at, table_edit, table_amendment, amended_table, amend_table}
 use Rattle.reuse_plan.specs.AmendmentPlan.{Due}

@@ -13,12 +13,12 @@ use Rattle.reuse_header.specs.declared.annotation.How.{How}
 use Rattle.reuse_header.specs.declared.style.Kind.{Kind}
 use Rattle.reuse_header.specs.declared.style.Kind.TheVariants as kind
 use Rattle.reuse_header.specs.declared.style.Style.{Style}
-use Rattle.reuse_tree.specs.Files.{Files, Clashes}
+use Rattle.reuse_change.specs.Files.{Files, Clashes}
 use Rattle.reuse_plan.specs.Accepted.{IsUnread, HasRoomBeside, RulesAccept, CanBeAnnotated}
 use Rattle.reuse_plan.specs.Annotate.{neighbour_of, neighbour_is_tagged, goes_beside, target_of, target_of_unknown, target_by_name, target_by_style, target_by_bytes, edit_by, edit_inside, edit_neighbour, edit_beside, edit_target, annotated_where, annotated_at}
 use Rattle.reuse_plan.specs.Annotated.{Pair, pair_at, HasKind, IsSkipped, IsCommented, IsAccompanied, TakesComment, TakesNeighbour}
 use Rattle.reuse_plan.specs.Annotations.{Due}
-use Rattle.reuse_tree.specs.Clash.{is_clash}
+use Rattle.reuse_change.specs.Clash.{is_clash}
 use Rattle.reuse_command.specs.Covered.{is_covered}
 use Rattle.reuse_plan.specs.Edit.{Edit}
 use Rattle.reuse_plan.specs.TreeStyles.{OwnNames}

@@ -7,9 +7,9 @@ use Rattle.reuse_text.specs.declared.TheConstants.{LONGEST_FILE}
 use Rattle.reuse_notice.specs.Sets.{set_of}
 use Rattle.reuse_notice.proofs.SetLemmas.{In, Contains-from_in, In-set_of}
 use Rattle.reuse_dep5.specs.Conversion.{converted}
-use Rattle.reuse_tree.specs.Files.{Files, Clashes}
+use Rattle.reuse_change.specs.Files.{Files, Clashes}
 use Rattle.reuse_plan.specs.Accepted.{CanBeDownloaded, CanDownload, CanConvert}
-use Rattle.reuse_tree.specs.Clash.{is_clash}
+use Rattle.reuse_change.specs.Clash.{is_clash}
 use Rattle.reuse_plan.specs.Conversion.{dep5_path, toml_path, replaced_by, conversion_where, conversion_edits}
 use Rattle.reuse_plan.specs.Downloads.{text_for, refusal_of_found, id_refusal, ids_refusal, licence_edit, unless_refused}
 use Rattle.reuse_plan.specs.Licence.{is_id, licence_path, licence_id}
@@ -21,7 +21,7 @@ use Rattle.reuse_plan.proofs.Downloading.{IsMade, none_due}
 use Rattle.reuse_plan.proofs.LicenceLemmas.{id_of_path}
 use Rattle.reuse_plan.proofs.Outcomes.{ok_edits, edits_of_tree, edits_unless, held, tree_comes}
 use Rattle.reuse_plan.proofs.Converting.{both, by_file}
-use Rattle.reuse_tree.proofs.Testing.{clashes_keys}
+use Rattle.reuse_store.proofs.Testing.{clashes_keys}
 use Rattle.reuse_plan.proofs.TextsPut.{made_at_id}
 use Rattle.reuse_plan.proofs.CommandEdits.{of_download, of_conversion}
 

@@ -5,11 +5,11 @@ use Rattle.std.specs.FinMap.{get, keys}
 use Rattle.std.proofs.lemmas.Bool.{false≢true, false_from_ne_true, and_from, and_parts}
 use Rattle.std.proofs.lemmas.Slice.Eq.{bytes_eq-Decides}
 use Rattle.reuse_notice.proofs.SetLemmas.{In-from_contains, Contains-from_in}
-use Rattle.reuse_tree.specs.Files.{Files, AreFiles}
-use Rattle.reuse_tree.specs.Listing.{ArePaths, is_folder}
-use Rattle.reuse_tree.specs.Path.{lies_under}
-use Rattle.reuse_tree.proofs.ListingLemmas.{under_from_test}
-use Rattle.reuse_tree.proofs.TreeLemmas.{among_keys}
+use Rattle.reuse_change.specs.Files.{Files, AreFiles}
+use Rattle.reuse_change.specs.Listing.{ArePaths, is_folder}
+use Rattle.reuse_change.specs.Path.{lies_under}
+use Rattle.reuse_change.proofs.ListingLemmas.{under_from_test}
+use Rattle.reuse_store.proofs.TreeLemmas.{among_keys}
 use Rattle.reuse_command.specs.Choice.{is_listed, matches_one}
 use Rattle.reuse_plan.specs.Chosen.{IsNamed, StandsBeneath, IsListed, MatchesNone, IsAskedFor, IsAskedToAmend}
 use Rattle.reuse_command.specs.Command.{has_root, paths_among}

@@ -11,7 +11,7 @@ use Rattle.reuse_header.specs.Amendment.{amendment_of, neighbour_amendment_of}
 use Rattle.reuse_header.specs.Annotation as header
 use Rattle.reuse_header.specs.Neighbour.{is_text}
 use Rattle.reuse_text.specs.declared.TheConstants.{LONGEST_FILE}
-use Rattle.reuse_tree.specs.Listing.{is_folder}
+use Rattle.reuse_change.specs.Listing.{is_folder}
 use Rattle.reuse_plan.specs.Amend.{style_for, amendment_edit, amend_neighbour, amend_inside, amend_covered, table_amendment, amend_table, amended_where, amended_at}
 use Rattle.reuse_plan.specs.Annotate.{neighbour_of, edit_by}
 use Rattle.reuse_plan.specs.Conversion.{toml_path}

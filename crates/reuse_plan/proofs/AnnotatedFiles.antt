@@ -31,10 +31,10 @@ use Rattle.reuse_header.specs.Body.{body_lines, place_in}
 use Rattle.reuse_header.specs.Header.{Header, HeaderSpan, header_of, span_in}
 use Rattle.reuse_header.specs.Laws.{IsInsertion}
 use Rattle.reuse_plan.specs.Annotations.{Due}
-use Rattle.reuse_tree.specs.Clash.{is_clash}
+use Rattle.reuse_change.specs.Clash.{is_clash}
 use Rattle.reuse_command.specs.Covered.{is_covered}
 use Rattle.reuse_plan.specs.Edit.{Edit}
-use Rattle.reuse_tree.specs.Listing.{is_folder}
+use Rattle.reuse_change.specs.Listing.{is_folder}
 use Rattle.reuse_command.specs.declared.command.Place.TheVariants as place
 use Rattle.reuse_plan.proofs.Annotating.{both_err}
 use Rattle.reuse_plan.proofs.Outcomes.{done}

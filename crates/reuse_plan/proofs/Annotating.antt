@@ -7,15 +7,15 @@ use Rattle.std.proofs.lemmas.List.Elements.{filter_map-append}
 use Rattle.reuse_command.specs.Reading.{get, keys, Files}
 use Rattle.std.proofs.lemmas.Bool.{false≢true, false_from_ne_true, or_right}
 use Rattle.std.proofs.lemmas.Slice.Eq.{bytes_eq-Decides}
-use Rattle.reuse_tree.specs.Path.{lies_under, journal_folder}
-use Rattle.reuse_tree.specs.declared.change.Change.{Change}
+use Rattle.reuse_change.specs.Path.{lies_under, journal_folder}
+use Rattle.reuse_change.specs.declared.change.Change.{Change}
 use Rattle.reuse_command.specs.declared.reply.Refusal.{Refusal}
 use Rattle.reuse_command.specs.declared.failure.Failure.TheVariants as failures
 use Rattle.reuse_command.specs.declared.reply.Refusal.TheVariants as refusals
 use Rattle.reuse_command.specs.declared.command.Place.TheVariants as place
-use Rattle.reuse_tree.specs.Tree.{is_of_tree}
+use Rattle.reuse_change.specs.Tree.{is_of_tree}
 use Rattle.reuse_command.specs.Covered.{is_in, is_covered}
-use Rattle.reuse_tree.specs.Listing.{is_among, is_folder_of}
+use Rattle.reuse_change.specs.Listing.{is_among, is_folder_of}
 use Rattle.reuse_plan.specs.Outcome.{Edit, edited, tree_after}
 use Rattle.reuse_plan.specs.Amend.{amended_where, amended_at}
 use Rattle.reuse_plan.specs.Annotate.{annotated_where, annotated_at}
@@ -26,11 +26,11 @@ use Rattle.reuse_notice.specs.declared.amendments.Amendments.{Amendments}
 use Rattle.reuse_command.specs.declared.command.Scope.{Scope}
 use Rattle.reuse_plan.specs.Shown.{ShowsPair}
 use Rattle.reuse_plan.specs.Plan.{IsRefusalOf, MakesEdits}
-use Rattle.reuse_tree.proofs.ListingLemmas.{under_from_test}
+use Rattle.reuse_change.proofs.ListingLemmas.{under_from_test}
 use Rattle.reuse_plan.proofs.Outcomes.{ok_edits}
-use Rattle.reuse_tree.proofs.TreeLemmas.{among_keys}
+use Rattle.reuse_store.proofs.TreeLemmas.{among_keys}
 use Rattle.reuse_plan.proofs.Planning.{same_many}
-use Rattle.reuse_tree.specs.Entry.{entry_size}
+use Rattle.reuse_change.specs.Entry.{entry_size}
 use Rattle.reuse_plan.proofs.Results.{none_from_test}
 use Rattle.reuse_plan.specs.PathEdits.{or_first}
 use Rattle.reuse_plan.proofs.CommandEdits.{edits_at}

@@ -7,7 +7,7 @@ use Rattle.reuse_command.specs.Reading.{get, Files}
 use Rattle.reuse_plan.specs.Annotate.{neighbour_of, annotated_at, neighbour_is_tagged, goes_beside, target_of, edit_neighbour, edit_target, annotated_where}
 use Rattle.reuse_plan.specs.Annotated.{pair_at, IsAnnotated, Annotates, IsSkipped, IsSkippedAt}
 use Rattle.reuse_command.specs.Command.{has_root}
-use Rattle.reuse_tree.specs.Listing.{ArePaths, is_folder}
+use Rattle.reuse_change.specs.Listing.{ArePaths, is_folder}
 use Rattle.reuse_plan.specs.Outcome.{Edit, edited, outcome_of, edits_of, is_too_many, annotation_at, annotations_by}
 use Rattle.reuse_plan.specs.TreeStyles.{OwnNames, styles_in}
 use Rattle.reuse_plan.specs.Selected.{selected_paths}

@@ -1,11 +1,11 @@
 -- What stands at a path of the tree, and of all files with those of the journal.
 use Rattle.std.proofs.Common.{◌≡◌, ℕ, Bool, true, false, List, refl, sym, ◌∙◌}
 use Rattle.std.proofs.lemmas.Bool.{false≢true}
-use Rattle.reuse_tree.specs.Clash.{is_clash}
-use Rattle.reuse_tree.specs.Files.{Files, tree_of}
-use Rattle.reuse_tree.specs.Tree.{is_of_tree}
-use Rattle.reuse_tree.proofs.OfTree.{clash_in_tree, clash_in_files}
-use Rattle.reuse_tree.proofs.Testing.{clashes_keys}
+use Rattle.reuse_change.specs.Clash.{is_clash}
+use Rattle.reuse_change.specs.Files.{Files, tree_of}
+use Rattle.reuse_change.specs.Tree.{is_of_tree}
+use Rattle.reuse_store.proofs.OfTree.{clash_in_tree, clash_in_files}
+use Rattle.reuse_store.proofs.Testing.{clashes_keys}
 
 -- a path that a file of the tree can have clashes with the tree exactly if it does with all files
 pub clash_of_tree : (files : Files) (path : List ℕ) → is_of_tree path ≡ true → is_clash files path ≡ is_clash (tree_of files) path

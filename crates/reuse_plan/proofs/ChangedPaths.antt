@@ -10,20 +10,20 @@ use Rattle.reuse_header.specs.declared.annotation.How.{How}
 use Rattle.reuse_header.specs.Annotation as header
 use Rattle.reuse_header.specs.Header.{header_of}
 use Rattle.reuse_header.specs.Neighbour.{neighbour_annotation_of}
-use Rattle.reuse_tree.specs.Files.{Files}
-use Rattle.reuse_tree.specs.declared.change.Change.{Change}
+use Rattle.reuse_change.specs.Files.{Files}
+use Rattle.reuse_change.specs.declared.change.Change.{Change}
 use Rattle.reuse_text.specs.declared.TheConstants.{LONGEST_FILE}
 use Rattle.reuse_plan.specs.Amend.{amended_at}
 use Rattle.reuse_plan.specs.Annotate.{neighbour_of, neighbour_is_tagged, target_of, edit_by, edit_neighbour, edit_target, annotated_where, annotated_at}
 use Rattle.reuse_plan.specs.Annotations.{Due}
-use Rattle.reuse_tree.specs.Clash.{is_clash}
+use Rattle.reuse_change.specs.Clash.{is_clash}
 use Rattle.reuse_command.specs.Command.{has_root, HoldsEntry}
 use Rattle.reuse_plan.specs.Conversion.{dep5_path, toml_path, replaced_by, conversion_where, conversion_edits}
 use Rattle.reuse_command.specs.Covered.{is_covered}
 use Rattle.reuse_plan.specs.Downloads.{text_for, ids_refusal, licence_edit, download_edits}
 use Rattle.reuse_plan.specs.Edit.{Edit, made, dropped}
 use Rattle.reuse_plan.specs.Licence.{licence_path, licence_id}
-use Rattle.reuse_tree.specs.Listing.{is_folder, is_among}
+use Rattle.reuse_change.specs.Listing.{is_folder, is_among}
 use Rattle.reuse_plan.specs.Outcome.{edits_of, with_file, edited, path_edits_of, outcome_of}
 use Rattle.reuse_plan.specs.Reverting.{taken_back_on, taken_back_unless, stands_as_written, is_short, put_back, taken_back}
 use Rattle.reuse_plan.specs.TreeStyles.{OwnNames, styles_in}
@@ -55,8 +55,8 @@ use Rattle.reuse_plan.specs.PathEdits.{PathEdit, edits_in}
 use Rattle.reuse_command.specs.declared.path_outcome.PathOutcome.{PathOutcome}
 use Rattle.reuse_command.specs.declared.path_outcome.PathOutcome.TheVariants as path_outcome
 use Rattle.reuse_text.specs.Text.{spliced}
-use Rattle.reuse_tree.specs.Change.{path_of, IsProper}
-use Rattle.reuse_tree.specs.declared.change.Change.TheVariants.{Make, Drop, Splice}
+use Rattle.reuse_change.specs.Change.{path_of, IsProper}
+use Rattle.reuse_change.specs.declared.change.Change.TheVariants.{Make, Drop, Splice}
 use Rattle.std.proofs.lemmas.Option.{none-some, same_Some, cond_some}
 use Rattle.reuse_plan.proofs.Planning.{paths_at, with_same, with_other, edited_other}
 use Rattle.reuse_plan.specs.EditBytes.{TakesAndWrites}

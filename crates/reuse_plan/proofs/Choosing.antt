@@ -14,13 +14,13 @@ use Rattle.reuse_dep5.proofs.ReadGlobLemmas.{both_parts, both_true}
 use Rattle.reuse_notice.specs.Sets.{set_of}
 use Rattle.reuse_notice.proofs.ClassLemmas.{In-append, In-left, In-right}
 use Rattle.reuse_notice.proofs.SetLemmas.{In, In-from_contains, Contains-from_in, In-set_of, set_of-has, sorted-set_of}
-use Rattle.reuse_tree.specs.Path.{lies_under, folders_above}
-use Rattle.reuse_tree.specs.Files.{Files, AreFiles}
+use Rattle.reuse_change.specs.Path.{lies_under, folders_above}
+use Rattle.reuse_change.specs.Files.{Files, AreFiles}
 use Rattle.reuse_command.specs.Choice.{leaves_out, is_listed, matches_one, is_chosen, is_passed_over, lists_none, matches_folder}
 use Rattle.reuse_plan.specs.Chosen.{IsNamed, StandsBeneath, IsListed, LeavesIn, MatchesNone, IsAskedFor}
 use Rattle.reuse_command.specs.Command.{has_root, paths_among}
 use Rattle.reuse_command.specs.Covered.{is_covered}
-use Rattle.reuse_tree.specs.Listing.{ArePaths, is_folder, is_among, is_asked, is_folder_of, is_pruned, is_wanted, listed_paths}
+use Rattle.reuse_change.specs.Listing.{ArePaths, is_folder, is_among, is_asked, is_folder_of, is_pruned, is_wanted, listed_paths}
 use Rattle.reuse_plan.specs.Selected.{expanded, selected_paths}
 use Rattle.reuse_command.specs.declared.command.Place.{Place}
 use Rattle.reuse_command.specs.declared.command.Place.TheVariants.{Root, Path}
@@ -29,9 +29,9 @@ use Rattle.reuse_plan.proofs.FoldersAbove.{above_under, under_above}
 use Rattle.reuse_plan.proofs.Members.{In-filter, filter-has, any_has, any_from}
 use Rattle.std.specs.Ordering.{nat_cmp}
 use Rattle.std.proofs.lemmas.List.Kept.{IsStrictlySortedBy-filter}
-use Rattle.reuse_tree.proofs.ListingLemmas.{under_from_test, test_from_under}
-use Rattle.reuse_tree.proofs.NeedLemmas.{above_from, above_some}
-use Rattle.reuse_tree.proofs.TreeLemmas.{keys_ascend}
+use Rattle.reuse_change.proofs.ListingLemmas.{under_from_test, test_from_under}
+use Rattle.reuse_change.proofs.NeedLemmas.{above_from, above_some}
+use Rattle.reuse_store.proofs.TreeLemmas.{keys_ascend}
 use Rattle.reuse_plan.specs.Annotate.{neighbour_of}
 use Rattle.reuse_plan.specs.Shown.{ShowsEach, ShowsPair, ShowsPlace, folders_for, with_neighbours}
 use Rattle.reuse_plan.specs.declared.select.Listing.TheVariants.{Listed}

@@ -7,9 +7,9 @@ use Rattle.reuse_notice.specs.Sets.{set_of}
 use Rattle.reuse_notice.specs.declared.adding.Additions.{Additions}
 use Rattle.reuse_notice.specs.declared.amendments.Amendments.{Amendments}
 use Rattle.reuse_header.specs.declared.annotation.How.{How}
-use Rattle.reuse_tree.specs.Change.{path_of}
-use Rattle.reuse_tree.specs.Files.{Files}
-use Rattle.reuse_tree.specs.declared.change.Change.{Change}
+use Rattle.reuse_change.specs.Change.{path_of}
+use Rattle.reuse_change.specs.Files.{Files}
+use Rattle.reuse_change.specs.declared.change.Change.{Change}
 use Rattle.reuse_plan.specs.Amend.{amended_at}
 use Rattle.reuse_plan.specs.Annotate.{annotated_at}
 use Rattle.reuse_command.specs.Command.{has_root}

@@ -9,23 +9,23 @@ use Rattle.reuse_dep5.specs.declared.refusal.Dep5Refusal.{Dep5Refusal}
 use Rattle.reuse_dep5.specs.declared.refusal.Dep5Refusal.TheVariants as dep5_refusals
 use Rattle.reuse_dep5.specs.Answers as answers
 use Rattle.reuse_dep5.specs.Conversion.{converted}
-use Rattle.reuse_tree.specs.Path.{lies_under}
-use Rattle.reuse_tree.specs.declared.store.Reading.TheVariants.{Absent, TooLong}
-use Rattle.reuse_tree.specs.Change.{sealed_drop, sealed_make}
+use Rattle.reuse_change.specs.Path.{lies_under}
+use Rattle.reuse_store.specs.declared.store.Reading.TheVariants.{Absent, TooLong}
+use Rattle.reuse_change.specs.Change.{sealed_drop, sealed_make}
 use Rattle.sha2.specs.Sha256.{sha256}
 use Rattle.reuse_text.specs.declared.TheConstants.{LONGEST_FILE}
-use Rattle.reuse_tree.specs.Clash.{is_clash, is_clash_of}
+use Rattle.reuse_change.specs.Clash.{is_clash, is_clash_of}
 use Rattle.reuse_plan.specs.Edit.{Edit, made, dropped}
 use Rattle.reuse_plan.specs.Conversion.{dep5_path, toml_path, replaced_by, conversion_where, conversion_edits}
-use Rattle.reuse_tree.specs.Listing.{ArePaths, is_among}
+use Rattle.reuse_change.specs.Listing.{ArePaths, is_among}
 use Rattle.reuse_command.specs.declared.reply.Refusal.{Refusal}
 use Rattle.reuse_command.specs.declared.reply.Refusal.TheVariants as refusals
 use Rattle.reuse_command.specs.Refused.{dep5_refusal}
 use Rattle.reuse_plan.specs.Shown.{Shows}
 use Rattle.reuse_plan.specs.Plan.{IsRefusalOf, MakesEdits}
-use Rattle.reuse_tree.proofs.ReadingLemmas.{absent_is, long_is}
-use Rattle.reuse_tree.proofs.Testing.{clashes_keys}
-use Rattle.reuse_tree.proofs.TreeLemmas.{among_keys}
+use Rattle.reuse_store.proofs.ReadingLemmas.{absent_is, long_is}
+use Rattle.reuse_store.proofs.Testing.{clashes_keys}
+use Rattle.reuse_store.proofs.TreeLemmas.{among_keys}
 use Rattle.reuse_plan.proofs.Outcomes.{ok_edits, edits_of_tree}
 use Rattle.reuse_plan.proofs.Planning.{AreEdits, with_same, with_other}
 use Rattle.reuse_plan.proofs.Results.{err_or, same_Ok, none_from_test}

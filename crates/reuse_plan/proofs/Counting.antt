@@ -1,6 +1,6 @@
 -- What a call counts while it plans.
 use Rattle.std.proofs.Common.{◌≡◌, ◌∙◌, suc, Bool, true, false, cond, List, [], ◌∷◌, ◌++◌, map, Result, Ok, Err, OnOk, refl, sym, ap, subst}
-use Rattle.reuse_tree.specs.Files.{Files}
+use Rattle.reuse_change.specs.Files.{Files}
 use Rattle.reuse_plan.specs.Counted.{skipped_count, skipped_planned}
 use Rattle.reuse_plan.specs.PathOutcomes.{path_outcome_of, path_outcomes_of, limit_path_outcomes}
 use Rattle.reuse_plan.specs.Outcome.{Edit, edits_of, path_edits_of, is_too_many}

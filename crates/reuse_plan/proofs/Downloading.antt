@@ -7,13 +7,13 @@ use Rattle.std.proofs.lemmas.Bool.{false≢true, le-ltb, ltb-false}
 use Rattle.std.proofs.lemmas.Slice.Eq.{bytes_eq-Decides}
 use Rattle.reuse_notice.specs.Sets.{set_of}
 use Rattle.reuse_notice.proofs.SetLemmas.{In, In-set_of, sorted-set_of}
-use Rattle.reuse_tree.specs.Path.{is_path, lies_under}
+use Rattle.reuse_change.specs.Path.{is_path, lies_under}
 use Rattle.reuse_text.specs.declared.TheConstants.{LONGEST_FILE}
-use Rattle.reuse_tree.specs.Tree.{is_of_tree}
-use Rattle.reuse_tree.specs.declared.change.Change.{Change}
-use Rattle.reuse_tree.specs.Clash.{is_clash, is_clash_of}
+use Rattle.reuse_change.specs.Tree.{is_of_tree}
+use Rattle.reuse_change.specs.declared.change.Change.{Change}
+use Rattle.reuse_change.specs.Clash.{is_clash, is_clash_of}
 use Rattle.reuse_plan.specs.Edit.{Edit}
-use Rattle.reuse_tree.specs.Listing.{ArePaths, is_among}
+use Rattle.reuse_change.specs.Listing.{ArePaths, is_among}
 use Rattle.reuse_plan.specs.Licence.{is_id, licence_path, licence_id}
 use Rattle.reuse_plan.specs.Downloads.{text_for, refusal_of_found, id_refusal, ids_refusal, licence_edit, unless_refused, download_of, download_edits, id_refusals}
 use Rattle.reuse_plan.specs.DownloadPlan.{made_at, HasText}
@@ -22,9 +22,9 @@ use Rattle.reuse_plan.specs.Plan.{CarriesOutEdit, MakesEach, MakesEdits, IsRefus
 use Rattle.reuse_command.specs.declared.licence.LicenceText.{LicenceText}
 use Rattle.reuse_command.specs.declared.reply.Refusal.{Refusal}
 use Rattle.reuse_command.specs.declared.reply.Refusal.TheVariants as refusals
-use Rattle.reuse_tree.proofs.Testing.{clashes_keys}
+use Rattle.reuse_store.proofs.Testing.{clashes_keys}
 use Rattle.reuse_plan.proofs.LicenceLemmas.{name_length, id_of_path, id_bytes, path_is_good, path_of_tree, paths_apart}
-use Rattle.reuse_tree.proofs.TreeLemmas.{among_keys}
+use Rattle.reuse_store.proofs.TreeLemmas.{among_keys}
 use Rattle.reuse_plan.proofs.Outcomes.{edits_unless}
 use Rattle.reuse_plan.proofs.Planning.{paths_at, IsFit, AreEdits}
 use Rattle.reuse_plan.proofs.Results.{none_from_test}

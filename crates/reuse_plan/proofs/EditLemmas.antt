@@ -9,14 +9,14 @@ use Rattle.reuse_header.specs.declared.annotation.Splice.{Splice}
 use Rattle.reuse_header.specs.Annotation as header
 use Rattle.reuse_header.specs.Header.{header_of}
 use Rattle.reuse_header.specs.Splices.{answer_of}
-use Rattle.reuse_tree.specs.Change.{sealed_make, sealed_splice}
+use Rattle.reuse_change.specs.Change.{sealed_make, sealed_splice}
 use Rattle.sha2.specs.Sha256.{sha256}
 use Rattle.reuse_text.specs.declared.TheConstants.{LONGEST_FILE}
 use Rattle.reuse_plan.specs.Edit.{Edit}
 use Rattle.reuse_header.specs.Neighbour.{neighbour_annotation_of}
 use Rattle.reuse_plan.specs.Annotate.{neighbour_of, neighbour_is_tagged, goes_beside, target_of, edit_by, annotated_where}
 use Rattle.reuse_plan.specs.AnnotationPlan.{own_of, annotated_by, beside_by, neighbour_by, inside_by, place_by, edit_by_place, path_by, path_beside_by, path_by_place, path_inside_by, path_neighbour_by}
-use Rattle.reuse_tree.specs.Clash.{is_clash}
+use Rattle.reuse_change.specs.Clash.{is_clash}
 use Rattle.reuse_command.specs.Covered.{is_covered}
 use Rattle.reuse_command.specs.declared.reply.Refusal.TheVariants as refusals
 use Rattle.reuse_plan.specs.declared.target.Target.TheVariants.{Beside}

@@ -11,16 +11,16 @@ use Rattle.std.proofs.lemmas.List.Sorted.{IsPermutation-map, All-permutation, Co
 use Rattle.std.proofs.lemmas.Map.Keys.{IsDistinct-head, IsDistinct-tail, IsDistinct-IsPermutation, sorted_from_all_adjacent}
 use Rattle.std.proofs.lemmas.Map.Text.{is_eq-slice_cmp}
 use Rattle.std.proofs.lemmas.Slice.Eq.{bytes_eq-Decides}
-use Rattle.reuse_tree.specs.Path.{lies_under}
-use Rattle.reuse_tree.specs.Files.{Files, AreFiles}
-use Rattle.reuse_tree.specs.declared.change.Change.{Change}
-use Rattle.reuse_tree.specs.declared.change.Change.TheVariants.{Make, Drop, Splice}
-use Rattle.reuse_tree.specs.Change.{path_of, Applies}
-use Rattle.reuse_tree.proofs.FileMaps.{same_files}
-use Rattle.reuse_tree.specs.Entry.{removed_by, written_by, entry_size}
+use Rattle.reuse_change.specs.Path.{lies_under}
+use Rattle.reuse_change.specs.Files.{Files, AreFiles}
+use Rattle.reuse_change.specs.declared.change.Change.{Change}
+use Rattle.reuse_change.specs.declared.change.Change.TheVariants.{Make, Drop, Splice}
+use Rattle.reuse_change.specs.Change.{path_of, Applies}
+use Rattle.reuse_change.proofs.FileMaps.{same_files}
+use Rattle.reuse_change.specs.Entry.{removed_by, written_by, entry_size}
 use Rattle.reuse_command.specs.declared.reply.Refusal.{Refusal}
 use Rattle.reuse_command.specs.declared.reply.Refusal.TheVariants.{TooMany}
-use Rattle.reuse_tree.specs.Listing.{ArePaths, is_among}
+use Rattle.reuse_change.specs.Listing.{ArePaths, is_among}
 use Rattle.reuse_plan.specs.Outcome.{Edit, edited, edit_size, is_too_many, tree_after}
 use Rattle.reuse_plan.specs.Plan.{IsPlan, is_before, CarriesOutEdit, MakesEach, MakesEdits}
 use Rattle.reuse_plan.proofs.Planning.{paths_at, edited_other, EachHas, AreDistinct, each_has, IsFit, AreEdits, all_do, same_many, plan_of_edits}

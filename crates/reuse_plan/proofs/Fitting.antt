@@ -17,18 +17,18 @@ use Rattle.reuse_header.specs.declared.annotation.How.{How}
 use Rattle.reuse_header.specs.Annotation as header
 use Rattle.reuse_header.specs.Header.{header_of}
 use Rattle.reuse_header.specs.Neighbour.{neighbour_annotation_of}
-use Rattle.reuse_tree.specs.Path.{is_path, lies_under, journal_folder}
-use Rattle.reuse_tree.specs.Files.{Files, AreFiles}
+use Rattle.reuse_change.specs.Path.{is_path, lies_under, journal_folder}
+use Rattle.reuse_change.specs.Files.{Files, AreFiles}
 use Rattle.reuse_text.specs.declared.TheConstants.{LONGEST_FILE}
 use Rattle.reuse_plan.specs.Amend.{amended_at}
 use Rattle.reuse_plan.specs.Annotate.{neighbour_of, neighbour_is_tagged, target_of, edit_by, edit_inside, edit_neighbour, edit_beside, edit_target, annotated_where, annotated_at}
 use Rattle.reuse_plan.specs.Annotations.{Due}
-use Rattle.reuse_tree.specs.Clash.{is_clash}
+use Rattle.reuse_change.specs.Clash.{is_clash}
 use Rattle.reuse_command.specs.Command.{has_root, paths_among, HoldsEntry}
 use Rattle.reuse_command.specs.Covered.{last_part, is_in, is_outside, has_stem, is_covered}
-use Rattle.reuse_tree.specs.Listing.{ArePaths, is_among, is_folder}
+use Rattle.reuse_change.specs.Listing.{ArePaths, is_among, is_folder}
 use Rattle.reuse_plan.specs.Outcome.{Edit, edits_of}
-use Rattle.reuse_tree.specs.Tree.{is_of_tree}
+use Rattle.reuse_change.specs.Tree.{is_of_tree}
 use Rattle.reuse_plan.specs.TreeStyles.{OwnNames, styles_in}
 use Rattle.reuse_plan.specs.Selected.{expanded, with_table, selected_paths}
 use Rattle.reuse_command.specs.declared.command.Command.{Command}
@@ -45,11 +45,11 @@ use Rattle.reuse_plan.proofs.Annotating.{starts_reuse, and_all, covered_of_tree,
 use Rattle.reuse_plan.proofs.Converting.{conversion_fits}
 use Rattle.reuse_plan.proofs.Downloading.{download_fits}
 use Rattle.reuse_plan.proofs.EditOrder.{AreFit}
-use Rattle.reuse_tree.proofs.ListingLemmas.{under_from_test, test_from_under}
-use Rattle.reuse_tree.proofs.NeighbourLemmas.{good_neighbour}
+use Rattle.reuse_change.proofs.ListingLemmas.{under_from_test, test_from_under}
+use Rattle.reuse_change.proofs.NeighbourLemmas.{good_neighbour}
 use Rattle.reuse_plan.proofs.Planning.{paths_at, IsFit, AreEdits, AreDistinct, distinct_of, not_itself}
 use Rattle.reuse_plan.proofs.RevertPlanning.{revert_fits}
-use Rattle.reuse_tree.proofs.Testing.{clashes_keys}
+use Rattle.reuse_store.proofs.Testing.{clashes_keys}
 use Rattle.reuse_plan.proofs.Outcomes.{some_edit, same_edit, unskipped}
 use Rattle.std.proofs.Math.Seq.{take-append_seam}
 use Rattle.reuse_plan.proofs.Results.{err_or}

@@ -3,8 +3,8 @@ use Rattle.std.proofs.Common.{◌≡◌, ◌==◌, inl, inr, ℕ, Bool, true, fa
 use Rattle.std.proofs.lemmas.Bool.{eqb-true}
 use Rattle.reuse_notice.proofs.ClassLemmas.{In-append, In-right, In-from_map}
 use Rattle.reuse_notice.proofs.SetLemmas.{In}
-use Rattle.reuse_tree.specs.Path.{lies_under, folders_above}
-use Rattle.reuse_tree.proofs.ListingLemmas.{under_from_test, test_from_under}
+use Rattle.reuse_change.specs.Path.{lies_under, folders_above}
+use Rattle.reuse_change.proofs.ListingLemmas.{under_from_test, test_from_under}
 
 mapped_has : (byte : ℕ) (xs : List (List ℕ)) (t : List ℕ) → In t xs → In (byte ∷ t) (map (λ x. byte ∷ x) xs)
 mapped_has byte [] t h = absurd h

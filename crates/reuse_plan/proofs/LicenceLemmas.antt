@@ -12,10 +12,10 @@ use Rattle.std.proofs.lemmas.List.Splits.{slice_split_none}
 use Rattle.std.proofs.lemmas.Slice.Eq.{bytes_eq-Decides}
 use Rattle.std.proofs.lemmas.Str.{IsUtf8-from_ascii}
 use Rattle.std.proofs.Math.Seq.{take-append_seam}
-use Rattle.reuse_tree.specs.Path.{is_part, is_path, has_no_nul, has_good_parts, lies_under}
-use Rattle.reuse_tree.specs.Tree.{is_of_tree}
+use Rattle.reuse_change.specs.Path.{is_part, is_path, has_no_nul, has_good_parts, lies_under}
+use Rattle.reuse_change.specs.Tree.{is_of_tree}
 use Rattle.reuse_plan.specs.Licence.{is_id_byte, is_id, licence_path, licence_id}
-use Rattle.reuse_tree.proofs.ListingLemmas.{under_from_test}
+use Rattle.reuse_change.proofs.ListingLemmas.{under_from_test}
 
 -- ---- the bytes of an id
 

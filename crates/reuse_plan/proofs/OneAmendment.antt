@@ -10,7 +10,7 @@ use Rattle.reuse_header.specs.declared.style.Kind.{Kind}
 use Rattle.reuse_header.specs.declared.style.Kind.TheVariants as kind
 use Rattle.reuse_header.specs.declared.style.Style.{Style}
 use Rattle.reuse_header.specs.Amendment.{amended_file, amendment_of, neighbour_amendment_of}
-use Rattle.reuse_tree.proofs.FileMaps.{same_files}
+use Rattle.reuse_change.proofs.FileMaps.{same_files}
 use Rattle.reuse_plan.specs.Amended.{IsNeighbourAmended, IsFileAmended, HasNoPlace, IsTableAmended, IsCoveredAmended, IsAmended, Amends}
 use Rattle.reuse_plan.specs.Amend.{amended_table}
 use Rattle.reuse_plan.specs.Annotate.{neighbour_of}

@@ -1,7 +1,7 @@
 -- The tree that a command gives, and the edits that make it.
 use Rattle.std.proofs.Common.{◌≡◌, ◌+◌, ◌≤◌, Bool, true, false, cond, ◌||◌, nat_lt, List, length, Option, Some, None, Result, Ok, Err, refl, sym, ap, ap₂, subst, ◌∙◌, sum_by}
 use Rattle.std.proofs.lemmas.Bool.{le-ltb, ltb-false, or_parts}
-use Rattle.reuse_tree.specs.Files.{Files}
+use Rattle.reuse_change.specs.Files.{Files}
 use Rattle.reuse_plan.specs.Downloads.{unless_refused}
 use Rattle.reuse_plan.specs.Outcome.{Edit, edit_count, edit_size, edited, is_too_many, recorded_size, tree_after}
 use Rattle.reuse_command.specs.declared.reply.Refusal.{Refusal}

@@ -1,7 +1,7 @@
 -- Plans of paths: what a walk has planned so far, and what a run and a preview make of its plans.
 use Rattle.std.proofs.Common.{◌≡◌, ◌↔◌, ℕ, Bool, true, false, cond, List, [], ◌∷◌, ◌++◌, map, Option, Some, None, Result, Ok, Err, refl, sym, ap, ◌∙◌, ◌||◌, ap₂, subst, append_assoc, length, arith, ◌⊎◌, inl, inr, IfOk, IfErr, Vec}
 use Rattle.std.specs.Option.{option_or, option_to_list}
-use Rattle.reuse_tree.specs.Files.{Files}
+use Rattle.reuse_change.specs.Files.{Files}
 use Rattle.reuse_plan.specs.PathOutcomes.{path_outcome_by, path_outcome_of, limit_path_outcomes, path_outcomes_of, first_refusal}
 use Rattle.reuse_plan.specs.Outcome.{Edit, edited, is_too_many, path_edits_of, edits_of, tree_after, outcome_of}
 use Rattle.reuse_plan.specs.PathEdits.{PathEdit, or_first, edits_in, edited_at, refused_alone, all_or_none}
@@ -14,7 +14,7 @@ use Rattle.std.specs.List.{cons_option, list_any}
 use Rattle.std.proofs.lemmas.Bool.{false≢true}
 use Rattle.std.proofs.lemmas.List.{append-nil}
 use Rattle.std.proofs.lemmas.List.Elements.{filter_map-append}
-use Rattle.reuse_tree.specs.declared.change.Change.{Change}
+use Rattle.reuse_change.specs.declared.change.Change.{Change}
 use Rattle.reuse_plan.specs.PathPlans.{IsPlanOf, ArePlansOf, AnswersPlans, EndsWalk, change_planned, changes_planned, path_outcome_planned, is_refusal, limit_planned, are_too_many}
 use Rattle.reuse_command.specs.Answer.{IsTold}
 use Rattle.reuse_plan.specs.Plan.{MakesEach, MakesEdits, IsRefusalOf}

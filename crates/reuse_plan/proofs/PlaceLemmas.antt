@@ -6,9 +6,9 @@ use Rattle.std.proofs.lemmas.Bool.Decides.{nat_tests}
 use Rattle.std.proofs.lemmas.List.{append-nil, take_more}
 use Rattle.std.proofs.lemmas.List.Concat.{flat_map-append}
 use Rattle.std.proofs.lemmas.List.Elements.{filter-append}
-use Rattle.reuse_tree.specs.Path.{lies_under}
+use Rattle.reuse_change.specs.Path.{lies_under}
 use Rattle.reuse_command.specs.Choice.{is_chosen}
-use Rattle.reuse_tree.specs.Listing.{is_folder}
+use Rattle.reuse_change.specs.Listing.{is_folder}
 use Rattle.reuse_plan.specs.Shown.{ShowsBeneath}
 use Rattle.reuse_plan.specs.Selected.{expanded}
 use Rattle.reuse_command.specs.declared.command.Place.{Place}

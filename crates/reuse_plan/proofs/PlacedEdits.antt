@@ -8,7 +8,7 @@ use Rattle.std.proofs.lemmas.Bool.{false≢true}
 use Rattle.std.proofs.lemmas.Map.Keys.{sorted_head, sorted_tail}
 use Rattle.std.proofs.lemmas.Slice.Eq.{bytes_eq-Decides}
 use Rattle.reuse_notice.proofs.SetLemmas.{In}
-use Rattle.reuse_tree.specs.Listing.{ArePaths}
+use Rattle.reuse_change.specs.Listing.{ArePaths}
 use Rattle.reuse_plan.specs.Annotate.{neighbour_of}
 use Rattle.reuse_plan.specs.Outcome.{Edit, with_file, edited}
 use Rattle.reuse_command.specs.declared.reply.Refusal.{Refusal}

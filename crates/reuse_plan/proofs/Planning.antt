@@ -11,18 +11,18 @@ use Rattle.std.proofs.lemmas.List.Sums.{sum_by-cons}
 use Rattle.std.proofs.lemmas.Map.Keys.{IsDistinct-from_sorted, IsDistinct-head, IsDistinct-tail}
 use Rattle.std.proofs.lemmas.Map.Text.{is_eq-slice_cmp}
 use Rattle.std.proofs.lemmas.Slice.Eq.{bytes_eq-Decides}
-use Rattle.reuse_tree.specs.Path.{is_path, lies_under}
-use Rattle.reuse_tree.specs.Files.{Files, AreFiles, Clashes}
-use Rattle.reuse_tree.specs.declared.change.Change.{Change}
-use Rattle.reuse_tree.specs.declared.change.Change.TheVariants.{Make, Drop, Splice}
-use Rattle.reuse_tree.specs.Change.{path_of, is_sealed, IsProper, Applies}
-use Rattle.reuse_tree.specs.Digest.{IsDigestOf}
-use Rattle.reuse_tree.proofs.FileMaps.{get-put_same, get-put_other, get-removed_same, get-removed_other}
-use Rattle.reuse_tree.specs.declared.direction.Direction.TheVariants.{Forward}
+use Rattle.reuse_change.specs.Path.{is_path, lies_under}
+use Rattle.reuse_change.specs.Files.{Files, AreFiles, Clashes}
+use Rattle.reuse_change.specs.declared.change.Change.{Change}
+use Rattle.reuse_change.specs.declared.change.Change.TheVariants.{Make, Drop, Splice}
+use Rattle.reuse_change.specs.Change.{path_of, is_sealed, IsProper, Applies}
+use Rattle.reuse_change.specs.Digest.{IsDigestOf}
+use Rattle.reuse_change.proofs.FileMaps.{get-put_same, get-put_other, get-removed_same, get-removed_other}
+use Rattle.reuse_change.specs.declared.direction.Direction.TheVariants.{Forward}
 use Rattle.reuse_command.specs.declared.reply.Refusal.TheVariants as refusals
-use Rattle.reuse_tree.specs.Tree.{is_of_tree}
-use Rattle.reuse_tree.specs.Entry.{paths_of, touches, fixed_size, change_size, entry_size, AreAllSealed, HasOwnDigest, IsSmall, IsEntry, AppliesBy, LeadsAll}
-use Rattle.reuse_tree.specs.Listing.{ArePaths, is_among}
+use Rattle.reuse_change.specs.Tree.{is_of_tree}
+use Rattle.reuse_change.specs.Entry.{paths_of, touches, fixed_size, change_size, entry_size, AreAllSealed, HasOwnDigest, IsSmall, IsEntry, AppliesBy, LeadsAll}
+use Rattle.reuse_change.specs.Listing.{ArePaths, is_among}
 use Rattle.reuse_plan.specs.Outcome.{Edit, with_file, edited, edit_size, is_too_many, tree_after}
 use Rattle.reuse_plan.specs.Plan.{IsPlan, CarriesOutEdit, MakesEach}
 use Rattle.std.proofs.Math.Bool.{or_comm}

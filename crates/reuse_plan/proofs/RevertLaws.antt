@@ -12,27 +12,27 @@ use Rattle.std.proofs.lemmas.List.Elements.{recursion_from_All}
 use Rattle.std.proofs.lemmas.List.Sums.{sum_by-cons}
 use Rattle.std.proofs.lemmas.Slice.Eq.{bytes_eq-Decides, starts_is}
 use Rattle.reuse_text.specs.Text.{spliced}
-use Rattle.reuse_tree.specs.Files.{Files, AreFiles}
-use Rattle.reuse_tree.specs.Change.{path_of, is_sealed, digest_after, AppliesByRange}
-use Rattle.reuse_tree.specs.Digest.{IsDigestOf}
-use Rattle.reuse_tree.specs.declared.change.Change.{Change}
-use Rattle.reuse_tree.specs.declared.change.Change.TheVariants.{Make, Drop, Splice}
-use Rattle.reuse_tree.specs.declared.digest.Seal.{Seal}
-use Rattle.reuse_tree.proofs.FileMaps.{same_files}
+use Rattle.reuse_change.specs.Files.{Files, AreFiles}
+use Rattle.reuse_change.specs.Change.{path_of, is_sealed, digest_after, AppliesByRange}
+use Rattle.reuse_change.specs.Digest.{IsDigestOf}
+use Rattle.reuse_change.specs.declared.change.Change.{Change}
+use Rattle.reuse_change.specs.declared.change.Change.TheVariants.{Make, Drop, Splice}
+use Rattle.reuse_change.specs.declared.digest.Seal.{Seal}
+use Rattle.reuse_change.proofs.FileMaps.{same_files}
 use Rattle.reuse_text.specs.declared.TheConstants.{LONGEST_FILE}
-use Rattle.reuse_tree.specs.Clash.{is_clash}
+use Rattle.reuse_change.specs.Clash.{is_clash}
 use Rattle.reuse_plan.specs.Edit.{Edit, made, dropped}
-use Rattle.reuse_tree.specs.Entry.{makes, removed_by, written_by, touches, fixed_size, change_size, AreAllSealed, IsEntry, IsSmall, LeadsAll}
-use Rattle.reuse_tree.specs.Listing.{is_among}
+use Rattle.reuse_change.specs.Entry.{makes, removed_by, written_by, touches, fixed_size, change_size, AreAllSealed, IsEntry, IsSmall, LeadsAll}
+use Rattle.reuse_change.specs.Listing.{is_among}
 use Rattle.reuse_plan.specs.Outcome.{edited, edit_size, is_too_many, tree_after, outcome_of}
 use Rattle.reuse_plan.specs.Reverting.{stands_at, has_digest, is_as_left, stands_as_written, is_short, put_back, taken_back, taken_back_on}
 use Rattle.reuse_command.specs.declared.command.Command.TheVariants.{Revert}
-use Rattle.reuse_tree.specs.declared.direction.Direction.TheVariants.{Backward}
+use Rattle.reuse_change.specs.declared.direction.Direction.TheVariants.{Backward}
 use Rattle.reuse_command.specs.declared.reply.Refusal.TheVariants.{TooMany}
 use Rattle.reuse_plan.proofs.Planning.{paths_at, EachHas, edited_other, edited_has}
 use Rattle.reuse_plan.proofs.RevertPlanning.{backs, still_ascend, still_among, and_first, and_second, within, spliced_len, where_free}
-use Rattle.reuse_tree.proofs.Testing.{clashes_keys}
-use Rattle.reuse_tree.proofs.Walk.{can_lead, leads_back}
+use Rattle.reuse_store.proofs.Testing.{clashes_keys}
+use Rattle.reuse_change.proofs.Walk.{can_lead, leads_back}
 use Rattle.reuse_plan.proofs.Outcomes.{few_held}
 use Rattle.reuse_plan.proofs.CommandEdits.{stuck_on, unless_stuck, revert_edits, of_revert}
 

@@ -9,28 +9,28 @@ use Rattle.std.proofs.lemmas.List.{take-append-drop, length-take-le, drop-drop, 
 use Rattle.std.proofs.lemmas.Slice.Eq.{bytes_eq-Decides, starts_is}
 use Rattle.sha2.specs.Sha256.{sha256}
 use Rattle.reuse_text.specs.Text.{spliced}
-use Rattle.reuse_tree.specs.Change.{path_of, sealed_make, sealed_drop, sealed_splice}
-use Rattle.reuse_tree.specs.declared.change.Change.{Change}
-use Rattle.reuse_tree.specs.declared.change.Change.TheVariants.{Make, Drop, Splice}
-use Rattle.reuse_tree.specs.declared.digest.Seal.{Seal}
+use Rattle.reuse_change.specs.Change.{path_of, sealed_make, sealed_drop, sealed_splice}
+use Rattle.reuse_change.specs.declared.change.Change.{Change}
+use Rattle.reuse_change.specs.declared.change.Change.TheVariants.{Make, Drop, Splice}
+use Rattle.reuse_change.specs.declared.digest.Seal.{Seal}
 use Rattle.reuse_text.specs.declared.TheConstants.{LONGEST_FILE}
-use Rattle.reuse_tree.specs.Clash.{is_clash}
+use Rattle.reuse_change.specs.Clash.{is_clash}
 use Rattle.reuse_plan.specs.Edit.{Edit, made, dropped}
-use Rattle.reuse_tree.specs.Entry.{makes, paths_of, touches, IsEntry}
-use Rattle.reuse_tree.specs.Listing.{is_among, ArePaths}
+use Rattle.reuse_change.specs.Entry.{makes, paths_of, touches, IsEntry}
+use Rattle.reuse_change.specs.Listing.{is_among, ArePaths}
 use Rattle.reuse_plan.specs.Plan.{CarriesOutEdit, MakesEdit}
 use Rattle.reuse_plan.specs.Reverting.{stands_at, is_as_left, stands_as_written, is_short, put_back, taken_back, taken_back_on, taken_back_unless}
-use Rattle.reuse_tree.specs.declared.direction.Direction.TheVariants.{Backward}
+use Rattle.reuse_change.specs.declared.direction.Direction.TheVariants.{Backward}
 use Rattle.reuse_command.specs.declared.reply.Refusal.{Refusal}
 use Rattle.std.specs.Ordering.{nat_cmp}
 use Rattle.std.specs.Cmp.Lexicographic.{slice_cmp}
 use Rattle.std.specs.List.Sorted.{IsStrictlySortedBy}
 use Rattle.std.proofs.lemmas.List.Elements.{recursion_from_All}
-use Rattle.reuse_tree.specs.Path.{is_path}
-use Rattle.reuse_tree.specs.EntryText.{HavePaths}
-use Rattle.reuse_tree.specs.Tree.{is_of_tree}
+use Rattle.reuse_change.specs.Path.{is_path}
+use Rattle.reuse_json.specs.EntryText.{HavePaths}
+use Rattle.reuse_change.specs.Tree.{is_of_tree}
 use Rattle.reuse_plan.proofs.Planning.{paths_at, IsFit, AreEdits}
-use Rattle.reuse_tree.proofs.Testing.{clashes_keys}
+use Rattle.reuse_store.proofs.Testing.{clashes_keys}
 use Rattle.reuse_plan.proofs.CommandEdits.{stuck_on, unless_stuck, revert_edits}
 
 -- ---- the planner of a revert: what takes a change back does what its edit says

@@ -5,20 +5,20 @@ use Rattle.std.specs.FinMap.{get}
 use Rattle.std.proofs.lemmas.Bool.{false≢true}
 use Rattle.std.proofs.lemmas.List.Elements.{recursion_from_All}
 use Rattle.std.proofs.lemmas.Slice.Eq.{bytes_eq-Decides}
-use Rattle.reuse_tree.specs.Files.{Files, Clashes}
-use Rattle.reuse_tree.specs.Change.{path_of, Applies}
-use Rattle.reuse_tree.specs.declared.change.Change.{Change}
-use Rattle.reuse_tree.specs.Clash.{is_clash}
-use Rattle.reuse_tree.specs.Entry.{makes, touches, IsEntry, IsSmall, LeadsAll}
-use Rattle.reuse_tree.specs.Listing.{is_among}
+use Rattle.reuse_change.specs.Files.{Files, Clashes}
+use Rattle.reuse_change.specs.Change.{path_of, Applies}
+use Rattle.reuse_change.specs.declared.change.Change.{Change}
+use Rattle.reuse_change.specs.Clash.{is_clash}
+use Rattle.reuse_change.specs.Entry.{makes, touches, IsEntry, IsSmall, LeadsAll}
+use Rattle.reuse_change.specs.Listing.{is_among}
 use Rattle.reuse_plan.specs.Outcome.{Edit, edited, outcome_of, edits_of, tree_after}
 use Rattle.reuse_plan.specs.Reverting.{taken_back, taken_back_on, taken_back_unless}
 use Rattle.reuse_command.specs.declared.command.Command.TheVariants.{Revert}
-use Rattle.reuse_tree.specs.declared.direction.Direction.TheVariants.{Backward}
+use Rattle.reuse_change.specs.declared.direction.Direction.TheVariants.{Backward}
 use Rattle.reuse_plan.proofs.Planning.{paths_at, EachHas, edited_other, edited_has}
 use Rattle.reuse_plan.proofs.RevertPlanning.{backs, back_on, path_unless, edits_are, still_ascend, still_among, where_free, where_untouched, untouched_back}
 use Rattle.reuse_plan.proofs.RevertLaws.{takes_to, not_both}
-use Rattle.reuse_tree.proofs.Testing.{clashes_keys}
+use Rattle.reuse_store.proofs.Testing.{clashes_keys}
 use Rattle.reuse_plan.proofs.Outcomes.{edits_of_tree}
 use Rattle.reuse_plan.proofs.CommandEdits.{stuck_on, unless_stuck, revert_edits, of_revert}
 

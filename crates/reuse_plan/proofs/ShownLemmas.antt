@@ -12,13 +12,13 @@ use Rattle.std.proofs.lemmas.List.Kept.{IsStrictlySortedBy-filter}
 use Rattle.std.proofs.lemmas.Slice.Eq.{bytes_eq-Decides}
 use Rattle.reuse_notice.proofs.ClassLemmas.{In-left, In-right}
 use Rattle.reuse_notice.proofs.SetLemmas.{In}
-use Rattle.reuse_tree.specs.Files.{Files, AreFiles, tree_of}
-use Rattle.reuse_tree.specs.Listing.{is_among, is_asked, is_folder, is_folder_of, is_pruned, is_wanted, listed_paths}
-use Rattle.reuse_tree.specs.Path.{lies_under, folders_above, has_no_nul, has_good_parts, journal_folder}
-use Rattle.reuse_tree.proofs.ListingLemmas.{under_from_test, test_from_under}
-use Rattle.reuse_tree.proofs.NeedLemmas.{none_pruned}
-use Rattle.reuse_tree.proofs.OfTree.{fronts, slash_inside}
-use Rattle.reuse_tree.proofs.TreeLemmas.{among_keys, keys_ascend, tree_keys}
+use Rattle.reuse_change.specs.Files.{Files, AreFiles, tree_of}
+use Rattle.reuse_change.specs.Listing.{is_among, is_asked, is_folder, is_folder_of, is_pruned, is_wanted, listed_paths}
+use Rattle.reuse_change.specs.Path.{lies_under, folders_above, has_no_nul, has_good_parts, journal_folder}
+use Rattle.reuse_change.proofs.ListingLemmas.{under_from_test, test_from_under}
+use Rattle.reuse_change.proofs.NeedLemmas.{none_pruned}
+use Rattle.reuse_store.proofs.OfTree.{fronts, slash_inside}
+use Rattle.reuse_store.proofs.TreeLemmas.{among_keys, keys_ascend, tree_keys}
 use Rattle.reuse_plan.specs.Annotate.{neighbour_of}
 use Rattle.reuse_plan.specs.Licence.{licence_path}
 use Rattle.reuse_plan.specs.Shown.{Shows, ShowsEach, ShowsLicences, ShowsOne, ShowsPair, neighbours_of, with_neighbours}

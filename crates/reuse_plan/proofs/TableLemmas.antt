@@ -13,7 +13,7 @@ use Rattle.reuse_dep5.specs.TomlAmending.{toml_amendment_of}
 use Rattle.reuse_dep5.specs.TomlAnswers.{IsTomlAnswer}
 use Rattle.reuse_dep5.proofs.TomlLawLemmas as toml
 use Rattle.reuse_header.specs.Annotation as header
-use Rattle.reuse_tree.specs.Change.{sealed_splice}
+use Rattle.reuse_change.specs.Change.{sealed_splice}
 use Rattle.reuse_plan.specs.Amend.{table_refused_by, table_edit, table_amendment}
 use Rattle.reuse_plan.specs.AmendmentPlan.{IsWithin}
 use Rattle.reuse_plan.specs.Annotate.{edit_by}

@@ -8,7 +8,7 @@ use Rattle.reuse_notice.specs.Sets.{set_of}
 use Rattle.reuse_notice.proofs.SetLemmas.{In, In-from_contains, Contains-from_in, In-set_of, set_of-has}
 use Rattle.reuse_plan.specs.Downloads.{text_for, ids_refusal, licence_edit, unless_refused}
 use Rattle.reuse_plan.specs.Licence.{licence_path, licence_id}
-use Rattle.reuse_tree.specs.Listing.{is_among}
+use Rattle.reuse_change.specs.Listing.{is_among}
 use Rattle.reuse_plan.specs.Outcome.{Edit, edited, outcome_of, edits_of}
 use Rattle.reuse_plan.specs.TextsPut.{PutsTexts}
 use Rattle.reuse_command.specs.declared.command.Command.TheVariants.{Download}

@@ -13,7 +13,7 @@ use Rattle.reuse_header.specs.declared.style.Style.{Style}
 use Rattle.reuse_header.specs.declared.style.Kind.TheVariants as kind
 use Rattle.reuse_dep5.specs.Conversion.{converted}
 use Rattle.reuse_dep5.specs.TomlAmending.{toml_amendment_of}
-use Rattle.reuse_tree.specs.Files.{Files, Clashes}
+use Rattle.reuse_change.specs.Files.{Files, Clashes}
 use Rattle.reuse_plan.specs.Amend.{amended_table}
 use Rattle.reuse_plan.specs.Annotate.{neighbour_of}
 use Rattle.reuse_plan.specs.Annotated.{Pair, pair_at, HasKind, IsSkipped, IsStyleOf, TakesComment, TakesNeighbour}

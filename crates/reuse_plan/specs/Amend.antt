@@ -20,8 +20,8 @@ use Rattle.reuse_text.specs.declared.TheConstants.{LONGEST_FILE}
 use Rattle.reuse_header.specs.Amendment.{amendment_of, neighbour_amendment_of}
 use Rattle.reuse_header.specs.Annotation as header
 use Rattle.reuse_header.specs.Neighbour.{is_text}
-use Rattle.reuse_tree.specs.Files.{Files}
-use Rattle.reuse_tree.specs.Listing.{is_folder}
+use Rattle.reuse_change.specs.Files.{Files}
+use Rattle.reuse_change.specs.Listing.{is_folder}
 use Rattle.reuse_plan.specs.Annotate.{neighbour_of, edit_by}
 use Rattle.reuse_plan.specs.Conversion.{toml_path}
 use Rattle.reuse_command.specs.Covered.{is_covered}

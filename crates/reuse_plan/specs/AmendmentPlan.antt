@@ -7,7 +7,7 @@ use Rattle.reuse_header.specs.Names.{lookup}
 use Rattle.reuse_header.specs.declared.amendment.AmendHeaderRefusal.{AmendHeaderRefusal}
 use Rattle.reuse_header.specs.declared.style.Style.{Style}
 use Rattle.reuse_text.specs.declared.TheConstants.{LONGEST_FILE}
-use Rattle.reuse_tree.specs.Files.{Files}
+use Rattle.reuse_change.specs.Files.{Files}
 use Rattle.reuse_plan.specs.Amend.{amended_at, amend_inside, amend_neighbour, amend_table, style_for}
 use Rattle.reuse_plan.specs.Edit.{Edit}
 use Rattle.reuse_plan.specs.TreeStyles.{OwnNames}

@@ -17,12 +17,12 @@ use Rattle.reuse_header.specs.Header.{header_of, neighbour_contents}
 use Rattle.reuse_header.specs.Tagged.{has_tag}
 use Rattle.reuse_header.specs.Annotation as header
 use Rattle.reuse_header.specs.Neighbour.{is_text, neighbour_annotation_of}
-use Rattle.reuse_tree.specs.Files.{Files}
+use Rattle.reuse_change.specs.Files.{Files}
 use Rattle.reuse_command.specs.Covered.{is_covered}
-use Rattle.reuse_tree.specs.Listing.{is_folder}
+use Rattle.reuse_change.specs.Listing.{is_folder}
 use Rattle.reuse_plan.specs.Edit.{Edit}
 use Rattle.reuse_plan.specs.HeaderFaults.{refused_by}
-use Rattle.reuse_tree.specs.Clash.{is_clash}
+use Rattle.reuse_change.specs.Clash.{is_clash}
 use Rattle.reuse_command.specs.declared.command.Scope.{Scope}
 use Rattle.reuse_command.specs.declared.command.Unknown.{Unknown}
 use Rattle.reuse_command.specs.declared.command.Unknown.TheVariants as unknown

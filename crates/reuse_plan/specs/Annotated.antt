@@ -14,7 +14,7 @@ use Rattle.reuse_header.specs.Annotation.{annotated, replaced_block}
 use Rattle.reuse_header.specs.Header.{HeaderSpan, header_of, span_in}
 use Rattle.reuse_header.specs.Names.{kind_in}
 use Rattle.reuse_header.specs.Neighbour.{is_text, neighbour_annotated, neighbour_end}
-use Rattle.reuse_tree.specs.Files.{Files}
+use Rattle.reuse_change.specs.Files.{Files}
 use Rattle.reuse_plan.specs.Annotate.{neighbour_of, neighbour_is_tagged}
 use Rattle.reuse_command.specs.Covered.{is_covered}
 use Rattle.reuse_plan.specs.TreeStyles.{OwnNames, styles_in}

@@ -1,6 +1,6 @@
 -- What is done at a path and at places, by what is asked of each file, for private clauses.
 use Rattle.std.specs.Prelude.{ℕ, List}
-use Rattle.reuse_tree.specs.Files.{Files}
+use Rattle.reuse_change.specs.Files.{Files}
 use Rattle.reuse_plan.specs.AnnotationPlan.{path_by}
 use Rattle.reuse_plan.specs.AmendmentPlan.{names_of}
 use Rattle.reuse_plan.specs.Outcome.{amendment_at, at_places}

@@ -1,7 +1,7 @@
 -- What a call counts while it plans: how many of the path outcomes of its command are of files that are skipped, and
 -- what of its choice of files came to nothing.
 use Rattle.std.specs.Prelude.{◌≡◌, ℕ, Bool, true, false, List, length, filter}
-use Rattle.reuse_tree.specs.Files.{Files}
+use Rattle.reuse_change.specs.Files.{Files}
 use Rattle.reuse_plan.specs.PathOutcomes.{path_outcomes_of}
 use Rattle.reuse_plan.specs.Unused.{AreUnusedBy}
 use Rattle.reuse_command.specs.declared.command.Command.{Command}

@@ -1,7 +1,7 @@
 -- The changes of a download.
 use Rattle.std.specs.Prelude.{◌≤◌, ℕ, List, [], length, IsSome, unwrap_or}
-use Rattle.reuse_tree.specs.declared.change.Change.{Change}
-use Rattle.reuse_tree.specs.Change.{sealed_make}
+use Rattle.reuse_change.specs.declared.change.Change.{Change}
+use Rattle.reuse_change.specs.Change.{sealed_make}
 use Rattle.reuse_plan.specs.Licence.{licence_id}
 use Rattle.reuse_plan.specs.Downloads.{text_for}
 use Rattle.reuse_command.specs.declared.licence.LicenceText.{LicenceText}

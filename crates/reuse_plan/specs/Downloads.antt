@@ -5,10 +5,10 @@ use Rattle.std.specs.Option.{option_map, option_or}
 use Rattle.std.specs.Str.{bytes_eq}
 use Rattle.std.specs.FinMap.{get}
 use Rattle.reuse_notice.specs.Sets.{set_of}
-use Rattle.reuse_tree.specs.Files.{Files}
+use Rattle.reuse_change.specs.Files.{Files}
 use Rattle.reuse_text.specs.declared.TheConstants.{LONGEST_FILE}
 use Rattle.reuse_plan.specs.Edit.{Edit, made}
-use Rattle.reuse_tree.specs.Clash.{is_clash}
+use Rattle.reuse_change.specs.Clash.{is_clash}
 use Rattle.reuse_plan.specs.Licence.{is_id, licence_path, licence_id}
 use Rattle.reuse_plan.specs.PathEdits.{PathEdit, refused_with, all_or_none}
 use Rattle.reuse_command.specs.declared.licence.LicenceText.{LicenceText}

@@ -1,7 +1,7 @@
 -- What an edit tells that it takes away and writes is what changes at its path.
 use Rattle.std.specs.Prelude.{◌≡◌, ◌⊎◌, ℕ, List, [], ◌++◌, Some, None}
 use Rattle.std.specs.FinMap.{get}
-use Rattle.reuse_tree.specs.Files.{Files}
+use Rattle.reuse_change.specs.Files.{Files}
 use Rattle.reuse_plan.specs.Edit.{Edit}
 
 -- a file comes, which is what is written

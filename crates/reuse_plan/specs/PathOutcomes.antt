@@ -1,14 +1,14 @@
 -- What a call would do, path by path: told on the whole tree, before anything changes.
 use Rattle.std.specs.Prelude.{◌≡◌, ℕ, Bool, List, [], ◌∷◌, ◌++◌, map, Option, Some, None, Result, Ok, Err, if◌then◌else◌}
-use Rattle.reuse_tree.specs.Files.{Files}
-use Rattle.reuse_tree.specs.Change.{path_of}
-use Rattle.reuse_tree.specs.declared.change.Change.{Change}
-use Rattle.reuse_tree.specs.Entry.{CanBeMade}
+use Rattle.reuse_change.specs.Files.{Files}
+use Rattle.reuse_change.specs.Change.{path_of}
+use Rattle.reuse_change.specs.declared.change.Change.{Change}
+use Rattle.reuse_change.specs.Entry.{CanBeMade}
 use Rattle.reuse_plan.specs.Edit.{Edit}
 use Rattle.reuse_plan.specs.Outcome.{path_edits_of, edits_of, is_too_many}
 use Rattle.reuse_plan.specs.PathEdits.{PathEdit}
 use Rattle.reuse_command.specs.declared.command.Command.{Command}
-use Rattle.reuse_tree.specs.declared.direction.Direction.{Direction}
+use Rattle.reuse_change.specs.declared.direction.Direction.{Direction}
 use Rattle.reuse_command.specs.declared.path_outcome.PathOutcome.{PathOutcome}
 use Rattle.reuse_command.specs.declared.path_outcome.PathOutcome.TheVariants.{Changes, Unchanged, Skipped, Refused}
 use Rattle.reuse_command.specs.declared.reply.Refusal.{Refusal}

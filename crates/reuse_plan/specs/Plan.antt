@@ -5,11 +5,11 @@ use Rattle.std.specs.Ordering.{nat_cmp, is_lt}
 use Rattle.std.specs.Cmp.Lexicographic.{slice_cmp}
 use Rattle.std.specs.List.Sorted.{IsPermutation}
 use Rattle.std.specs.declared.vec.Vec.{Vec}
-use Rattle.reuse_tree.specs.Files.{Files, AreFiles}
-use Rattle.reuse_tree.specs.Change.{path_of, is_sealed, IsProper, Applies}
-use Rattle.reuse_tree.specs.declared.change.Change.{Change}
+use Rattle.reuse_change.specs.Files.{Files, AreFiles}
+use Rattle.reuse_change.specs.Change.{path_of, is_sealed, IsProper, Applies}
+use Rattle.reuse_change.specs.declared.change.Change.{Change}
 use Rattle.reuse_plan.specs.Outcome.{Edit}
-use Rattle.reuse_tree.specs.Entry.{removed_by, written_by, IsEntry, IsSmall, LeadsAll}
+use Rattle.reuse_change.specs.Entry.{removed_by, written_by, IsEntry, IsSmall, LeadsAll}
 use Rattle.reuse_command.specs.declared.reply.Refusal.{Refusal}
 use Rattle.reuse_command.specs.declared.failure.Failure.TheVariants.{Memory, Fault}
 use Rattle.reuse_command.specs.declared.reply.Refusal.TheVariants.{Failed}

@@ -5,18 +5,18 @@ use Rattle.std.specs.Str.{bytes_eq}
 use Rattle.std.specs.FinMap.{get}
 use Rattle.sha2.specs.Sha256.{sha256}
 use Rattle.reuse_text.specs.Text.{spliced}
-use Rattle.reuse_tree.specs.Change.{path_of}
-use Rattle.reuse_tree.specs.Files.{Files}
-use Rattle.reuse_tree.specs.declared.change.Change.{Change}
-use Rattle.reuse_tree.specs.declared.change.Change.TheVariants.{Make, Drop, Splice}
-use Rattle.reuse_tree.specs.declared.digest.Seal.{Seal}
+use Rattle.reuse_change.specs.Change.{path_of}
+use Rattle.reuse_change.specs.Files.{Files}
+use Rattle.reuse_change.specs.declared.change.Change.{Change}
+use Rattle.reuse_change.specs.declared.change.Change.TheVariants.{Make, Drop, Splice}
+use Rattle.reuse_change.specs.declared.digest.Seal.{Seal}
 use Rattle.reuse_text.specs.declared.TheConstants.{LONGEST_FILE}
-use Rattle.reuse_tree.specs.Clash.{is_clash}
+use Rattle.reuse_change.specs.Clash.{is_clash}
 use Rattle.reuse_plan.specs.Edit.{Edit, made, dropped}
 use Rattle.reuse_plan.specs.PathEdits.{PathEdit}
-use Rattle.reuse_tree.specs.Entry.{makes}
-use Rattle.reuse_tree.specs.Listing.{is_among}
-use Rattle.reuse_tree.specs.declared.direction.Direction.TheVariants.{Backward}
+use Rattle.reuse_change.specs.Entry.{makes}
+use Rattle.reuse_change.specs.Listing.{is_among}
+use Rattle.reuse_change.specs.declared.direction.Direction.TheVariants.{Backward}
 use Rattle.reuse_command.specs.declared.reply.Refusal.{Refusal}
 use Rattle.reuse_command.specs.declared.reply.Refusal.TheVariants.{Moved}
 

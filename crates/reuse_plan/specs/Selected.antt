@@ -3,12 +3,12 @@
 use Rattle.std.specs.Prelude.{ℕ, Bool, not, ◌&&◌, List, [], ◌∷◌, filter, flat_map, is_some, if◌then◌else◌}
 use Rattle.std.specs.FinMap.{get, keys}
 use Rattle.reuse_notice.specs.Sets.{set_of}
-use Rattle.reuse_tree.specs.Path.{lies_under}
-use Rattle.reuse_tree.specs.Files.{Files}
+use Rattle.reuse_change.specs.Path.{lies_under}
+use Rattle.reuse_change.specs.Files.{Files}
 use Rattle.reuse_command.specs.Choice.{is_chosen, is_listed, matches_one}
 use Rattle.reuse_command.specs.Command.{has_root, paths_among}
 use Rattle.reuse_plan.specs.Conversion.{toml_path}
-use Rattle.reuse_tree.specs.Listing.{is_folder}
+use Rattle.reuse_change.specs.Listing.{is_folder}
 use Rattle.reuse_command.specs.declared.command.Place.{Place}
 use Rattle.reuse_command.specs.declared.command.Place.TheVariants.{Root, Path}
 use Rattle.reuse_command.specs.declared.command.Scope.{Scope}

@@ -2,11 +2,11 @@
 use Rattle.std.specs.Prelude.{◌≡◌, ℕ, false, List, [], ◌∷◌, length, nat_lt, filter, flat_map, true, if◌then◌else◌}
 use Rattle.std.specs.List.{All}
 use Rattle.std.specs.FinMap.{keys}
-use Rattle.reuse_tree.specs.Clash.{is_clash, is_clash_of}
-use Rattle.reuse_tree.specs.Files.{Files}
-use Rattle.reuse_tree.specs.Listing.{ArePaths, is_among, is_folder, is_folder_of}
+use Rattle.reuse_change.specs.Clash.{is_clash, is_clash_of}
+use Rattle.reuse_change.specs.Files.{Files}
+use Rattle.reuse_change.specs.Listing.{ArePaths, is_among, is_folder, is_folder_of}
 use Rattle.reuse_plan.specs.Annotate.{neighbour_of}
-use Rattle.reuse_tree.specs.Path.{lies_under}
+use Rattle.reuse_change.specs.Path.{lies_under}
 use Rattle.reuse_command.specs.Choice.{is_chosen}
 use Rattle.reuse_command.specs.Command.{has_root}
 use Rattle.reuse_plan.specs.Licence.{licence_path}

@@ -2,7 +2,7 @@
 use Rattle.std.specs.Prelude.{ℕ, Bool, true, false, ◌&&◌, List, Option, Some, None, is_some, Result, Ok, Err}
 use Rattle.std.specs.FinMap.{get}
 use Rattle.reuse_header.specs.Header.{header_of}
-use Rattle.reuse_tree.specs.Files.{Files}
+use Rattle.reuse_change.specs.Files.{Files}
 use Rattle.reuse_plan.specs.Annotate.{neighbour_of, neighbour_is_tagged, target_of}
 use Rattle.reuse_plan.specs.TreeStyles.{OwnNames}
 use Rattle.reuse_command.specs.declared.command.Scope.{Scope}

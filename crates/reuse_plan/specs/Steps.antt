@@ -1,6 +1,6 @@
 -- For private clauses: what is known of a file's change once the file was read.
 use Rattle.std.specs.Prelude.{◌≡◌, ℕ, List, length, Result, Ok, Err, nat_lt, if◌then◌else◌}
-use Rattle.reuse_tree.specs.Files.{Files}
+use Rattle.reuse_change.specs.Files.{Files}
 use Rattle.reuse_text.specs.declared.TheConstants.{LONGEST_FILE}
 use Rattle.reuse_plan.specs.AnnotationPlan.{edit_by_place, path_by_place, place_by}
 use Rattle.reuse_plan.specs.PathEdits.{PathEdit}

@@ -2,7 +2,7 @@
 use Rattle.std.specs.Prelude.{◌≡◌, ◌≢◌, ℕ, List, Some, None, Ok}
 use Rattle.std.specs.FinMap.{get}
 use Rattle.reuse_dep5.specs.Conversion.{converted}
-use Rattle.reuse_tree.specs.Files.{Files}
+use Rattle.reuse_change.specs.Files.{Files}
 use Rattle.reuse_plan.specs.Conversion.{dep5_path, toml_path}
 
 -- `.reuse/dep5` was there and is gone, `REUSE.toml` wasn't and holds the text that the dep5 is converted to, and no

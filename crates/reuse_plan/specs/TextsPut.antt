@@ -2,7 +2,7 @@
 use Rattle.std.specs.Prelude.{◌≡◌, ◌≢◌, ℕ, List, None, IsSome}
 use Rattle.std.specs.List.{Contains}
 use Rattle.std.specs.FinMap.{get}
-use Rattle.reuse_tree.specs.Files.{Files}
+use Rattle.reuse_change.specs.Files.{Files}
 use Rattle.reuse_plan.specs.Downloads.{text_for}
 use Rattle.reuse_plan.specs.Licence.{licence_path}
 use Rattle.reuse_command.specs.declared.licence.LicenceText.{LicenceText}

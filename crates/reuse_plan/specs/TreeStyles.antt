@@ -5,7 +5,7 @@ use Rattle.reuse_header.specs.StyleFile.{styles_of}
 use Rattle.reuse_header.specs.declared.style.Kind.{Kind}
 use Rattle.reuse_header.specs.declared.style_refusal.StylesRefusal.{StylesRefusal}
 use Rattle.reuse_header.specs.declared.style_refusal.StylesRefusal.TheVariants as styles
-use Rattle.reuse_tree.specs.Files.{Files}
+use Rattle.reuse_change.specs.Files.{Files}
 use Rattle.reuse_text.specs.declared.TheConstants.{LONGEST_FILE}
 use Rattle.reuse_command.specs.declared.reply.Refusal.{Refusal}
 use Rattle.reuse_command.specs.declared.failure.Failure.TheVariants.{Memory}

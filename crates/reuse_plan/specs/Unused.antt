@@ -4,8 +4,8 @@ use Rattle.std.specs.Prelude.{◌≡◌, ℕ, Bool, true, false, not, ◌&&◌, 
 use Rattle.std.specs.List.{list_any}
 use Rattle.reuse_dep5.specs.declared.glob.GlobPiece.{GlobPiece}
 use Rattle.reuse_notice.specs.Sets.{set_of}
-use Rattle.reuse_tree.specs.Files.{Files}
-use Rattle.reuse_tree.specs.Listing.{is_among, listed_paths}
+use Rattle.reuse_change.specs.Files.{Files}
+use Rattle.reuse_change.specs.Listing.{is_among, listed_paths}
 use Rattle.reuse_command.specs.Choice.{is_listed, is_passed_over, leaves_out, matches_one}
 use Rattle.reuse_command.specs.Command.{paths_among}
 use Rattle.reuse_command.specs.Covered.{is_covered}

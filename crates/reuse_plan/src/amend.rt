@@ -16,11 +16,12 @@ use crate::covered::is_covered;
 use crate::edit::{amendment_by, table_change_by};
 use crate::place::{absent_refusal, neighbour_path, short_bytes};
 use crate::target_choice::neighbour_of;
+use reuse_change::{Change, PathText, is_among};
 use reuse_command::reply::Refusal;
 use reuse_dep5::amend_toml;
 use reuse_header::{Kind, Style, amend_file, amend_neighbour, amendments_fit};
+use reuse_store::{Reading, Store};
 use reuse_text::{LONGEST_FILE, is_text};
-use reuse_tree::{Change, PathText, Reading, Store, is_among};
 use std::alloc::Global;
 
 /// The change that amend makes at a path, if there is one. `paths` show it and its neighbour.

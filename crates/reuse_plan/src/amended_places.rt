@@ -1,7 +1,7 @@
 //! The places of an amendment: the `REUSE.toml` at the root is one of them where it lies beneath a
 //! folder that is gone through, and is asked for.
 ghost use Rattle.std.specs.Prelude.{◌≡◌, ◌∷◌, ◌++◌, ◌&&◌, IfOk, OnOk, is_some, if◌then◌else◌};
-ghost use Rattle.reuse_tree.specs.Asked.{FailsAsRead};
+ghost use Rattle.reuse_store.specs.Asked.{FailsAsRead};
 ghost use Rattle.reuse_plan.specs.Conversion.{toml_path};
 ghost use Rattle.reuse_command.specs.Answer.{IsEarlyFailure};
 ghost use Rattle.reuse_command.specs.Reading.{get, tree_of, OnlyReads, ReadsAlone};
@@ -10,11 +10,12 @@ ghost use Rattle.reuse_command.specs.declared.command.Place.TheVariants as place
 
 use crate::convert::toml_paths;
 use crate::select::{has_root, is_listed};
+use reuse_change::{PathText, is_among};
 use reuse_command::choice::matches_one;
 use reuse_command::command::{Place, Scope};
 use reuse_command::known_path::known_path;
 use reuse_command::reply::Refusal;
-use reuse_tree::{PathText, Store, StoreFault, is_among};
+use reuse_store::{Store, StoreFault};
 use std::alloc::{AllocError, Global};
 
 /// These places, and the `REUSE.toml` in front of them where it is there and asked for.

@@ -14,9 +14,10 @@ use crate::place::{
     Step, absent_refusal, neighbour_path, plan_neighbour, plan_new_neighbour, plan_reading,
 };
 use crate::target_choice::goes_beside;
+use reuse_change::{PathText, is_among};
 use reuse_command::reply::Refusal;
+use reuse_store::Store;
 use reuse_text::LONGEST_FILE;
-use reuse_tree::{PathText, Store, is_among};
 use std::alloc::Global;
 
 /// What annotate does at a path that isn't refused. `paths` show it and its neighbour.

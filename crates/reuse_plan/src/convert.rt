@@ -2,19 +2,20 @@
 ghost use Rattle.std.specs.Prelude.{◌≡◌, ◌<◌, ◌≤◌, IfOk, IfErr, Some, length, [], ◌∷◌};
 ghost use Rattle.reuse_command.specs.Reading.{get, reading_of, tree_of, Files, IsOfPlan, OnlyReads, ReadsAlone};
 ghost use Rattle.reuse_plan.specs.Shown.{Shows};
-ghost use Rattle.reuse_tree.specs.Asked.{FailsAsRead};
-ghost use Rattle.reuse_tree.specs.Change.{sealed_drop, sealed_make};
+ghost use Rattle.reuse_store.specs.Asked.{FailsAsRead};
+ghost use Rattle.reuse_change.specs.Change.{sealed_drop, sealed_make};
 ghost use Rattle.reuse_command.specs.Refused.{IsNoFault, dep5_refusal};
 ghost use Rattle.reuse_plan.specs.Conversion.{dep5_path, toml_path, conversion_edits};
 ghost use Rattle.reuse_plan.specs.Plan.{AnswersEdits};
 
 use crate::tree_paths::tree_paths;
+use reuse_change::{Change, NoPruning, PathText, is_among, is_clash};
 use reuse_command::failure::Failure;
 use reuse_command::known_path::known_path;
 use reuse_command::reply::Refusal;
 use reuse_dep5::{Dep5Refusal, convert_dep5};
+use reuse_store::{Reading, Store, StoreFault};
 use reuse_text::{Bytes, LONGEST_FILE};
-use reuse_tree::{Change, NoPruning, PathText, Reading, Store, StoreFault, is_among, is_clash};
 use std::alloc::{AllocError, Global};
 use std::slice;
 

@@ -11,19 +11,20 @@ ghost use Rattle.reuse_plan.specs.PathPlans.{AnswersPlans, ArePlansOf, EndsWalk}
 ghost use Rattle.reuse_plan.specs.Plan.{IsRefusalOf};
 ghost use Rattle.reuse_command.specs.Reading.{tree_of, Files, OnlyReads, ReadsAlone};
 ghost use Rattle.reuse_plan.specs.Shown.{ShowsLicences};
-ghost use Rattle.reuse_tree.specs.Asked.{FailsAsRead};
+ghost use Rattle.reuse_store.specs.Asked.{FailsAsRead};
 ghost use Rattle.reuse_command.specs.Refused.{IsNoFault, IsRefused};
 
 use crate::licence_file::{licence_id, licence_path, text_for};
 use crate::licence_id::as_id;
 use crate::path_plan::{PathPlan, Policy, all_changes};
 use crate::tree_paths::tree_paths;
+use reuse_change::{Change, NoPruning, PathText, is_among, is_clash};
 use reuse_command::choice::sorted;
 use reuse_command::known_path::known_path;
 use reuse_command::licence::LicenceText;
 use reuse_command::reply::Refusal;
+use reuse_store::{Store, StoreFault};
 use reuse_text::{Bytes, LONGEST_FILE};
-use reuse_tree::{Change, NoPruning, PathText, Store, StoreFault, is_among, is_clash};
 use std::alloc::{AllocError, Global};
 use std::slice;
 

@@ -2,7 +2,7 @@
 ghost use Rattle.std.specs.Prelude.{◌≡◌, ◌≤◌, ◌+◌, [], take, drop, IfOk, IfErr, Some, None, length};
 ghost use Rattle.reuse_text.specs.declared.TheConstants.{LONGEST_FILE};
 ghost use Rattle.reuse_command.specs.Reading.{get, Files};
-ghost use Rattle.reuse_tree.specs.Change.{sealed_splice};
+ghost use Rattle.reuse_change.specs.Change.{sealed_splice};
 ghost use Rattle.reuse_header.specs.Splices.{IsDue, answer_of};
 ghost use Rattle.reuse_header.specs.Amendment.{amendment_answer, IsAmendmentDue};
 ghost use Rattle.reuse_notice.specs.declared.amendments.Amendments.{Amendments};
@@ -16,6 +16,7 @@ ghost use Rattle.reuse_plan.specs.Annotations.{Fits, Due};
 ghost use Rattle.reuse_plan.specs.Plan.{AnswersEdit};
 ghost use Rattle.reuse_command.specs.Refused.{IsNoFault};
 
+use reuse_change::{Change, PathText};
 use reuse_command::amend_fault::AmendFault;
 use reuse_command::failure::Failure;
 use reuse_command::header_fault::HeaderFault;
@@ -23,7 +24,6 @@ use reuse_command::reply::Refusal;
 use reuse_dep5::{AmendTomlRefusal, TomlSplice};
 use reuse_header::{AmendHeaderRefusal, HeaderRefusal, Splice};
 use reuse_text::Bytes;
-use reuse_tree::{Change, PathText};
 use std::alloc::{AllocError, Global};
 
 /// The change of a file that is there, of these bytes, by what an annotation makes of it. A refusal

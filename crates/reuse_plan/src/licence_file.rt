@@ -4,10 +4,10 @@ ghost use Rattle.std.specs.Option.{option_copied};
 ghost use Rattle.reuse_plan.specs.Licence.{is_id, licence_path, licence_id};
 ghost use Rattle.reuse_plan.specs.Downloads.{text_for};
 
+use reuse_change::PathText;
 use reuse_command::known_path::known_path;
 use reuse_command::licence::LicenceText;
 use reuse_text::Bytes;
-use reuse_tree::PathText;
 use std::alloc::{AllocError, Global};
 
 /// The path of the file that holds the text of a licence (REUSE Specification 3.3).

@@ -12,9 +12,9 @@ ghost use Rattle.reuse_plan.specs.declared.path_plan.PathPlan.TheVariants as pla
 ghost use Rattle.reuse_plan.specs.declared.path_plan.Policy.TheVariants.{Stop};
 ghost use Rattle.reuse_command.specs.declared.failure.Failure.TheVariants as failures;
 
+use reuse_change::{Change, PathText};
 use reuse_command::path_outcome::told;
 use reuse_command::reply::Refusal;
-use reuse_tree::{Change, PathText};
 use std::alloc::{AllocError, Global};
 
 /// What a command would do at a path.

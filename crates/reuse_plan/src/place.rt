@@ -3,7 +3,7 @@ ghost use Rattle.std.specs.Prelude.{◌≡◌, ◌≤◌, ℕ, List, false, true
 ghost use Rattle.reuse_command.specs.Reading.{get, reading_of, tree_of, Files, IsOfPlan, ReadsAlone};
 ghost use Rattle.reuse_command.specs.Covered.{is_covered};
 ghost use Rattle.reuse_plan.specs.Shown.{ShowsPair};
-ghost use Rattle.reuse_tree.specs.Clash.{is_clash};
+ghost use Rattle.reuse_change.specs.Clash.{is_clash};
 ghost use Rattle.reuse_header.specs.declared.annotation.How.{How};
 ghost use Rattle.reuse_plan.specs.TreeStyles.{OwnNames};
 ghost use Rattle.reuse_notice.specs.declared.adding.Additions.{Additions};
@@ -12,7 +12,7 @@ ghost use Rattle.reuse_plan.specs.Amend.{amended_at};
 ghost use Rattle.reuse_plan.specs.Annotate.{neighbour_of, annotated_at};
 ghost use Rattle.reuse_plan.specs.AnnotationPlan.{neighbour_by, path_inside_by, path_neighbour_by};
 ghost use Rattle.reuse_plan.specs.PathPlans.{AnswersPlan};
-ghost use Rattle.reuse_tree.specs.Listing.{is_among};
+ghost use Rattle.reuse_change.specs.Listing.{is_among};
 ghost use Rattle.reuse_plan.specs.Plan.{AnswersEdit, AnswersOf};
 ghost use Rattle.reuse_command.specs.Refused.{IsNoFault};
 ghost use Rattle.reuse_plan.specs.Steps.{short_file, StepsTo, StepsBy};
@@ -25,14 +25,15 @@ use crate::edit::{change_by, making_by};
 use crate::path_plan::PathPlan;
 use crate::target::Target;
 use crate::target_choice::{neighbour_of, target_by_bytes};
+use reuse_change::{Change, PathError, PathText, is_folder};
 use reuse_command::command::Place;
 use reuse_command::failure::Failure;
 use reuse_command::reply::Refusal;
 use reuse_header::{
     Style, annotate_file, annotate_neighbour, annotations_fit, find, neighbour_has_tag,
 };
+use reuse_store::{Reading, Store, is_clash_at};
 use reuse_text::{Bytes, LONGEST_FILE};
-use reuse_tree::{Change, PathError, PathText, Reading, Store, is_clash_at, is_folder};
 use std::alloc::{AllocError, Global};
 
 /// What is known of a path once its file was read.

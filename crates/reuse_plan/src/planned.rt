@@ -6,8 +6,8 @@ ghost use Rattle.reuse_plan.specs.PathPlans.{change_planned, changes_planned, pa
 ghost use Rattle.reuse_plan.specs.Counted.{is_skip_planned, skipped_planned};
 
 use crate::path_plan::PathPlan;
+use reuse_change::Change;
 use reuse_command::path_outcome::PathOutcome;
-use reuse_tree::Change;
 use std::alloc::{AllocError, Global};
 
 /// What a preview tells of each path, and the changes beside that.

@@ -1,12 +1,12 @@
 //! Plans a revert: takes the changes of a step back on whatever the tree is now.
 ghost use Rattle.std.specs.Prelude.{◌≡◌, ◌≢◌, ◌↔◌, ◌&&◌, ◌+◌, ◌≤◌, ℕ, IfOk, IfErr, IsTrue, List, Ok, Err, Option, Some, None, false, true, length, map};
-ghost use Rattle.reuse_tree.specs.Asked.{FailsAsRead};
-ghost use Rattle.reuse_tree.specs.Change.{path_of, IsProper};
-ghost use Rattle.reuse_tree.specs.Clash.{is_clash};
-ghost use Rattle.reuse_tree.specs.Entry.{makes, IsEntry, IsSmall};
-ghost use Rattle.reuse_tree.specs.Tree.{is_of_tree};
-ghost use Rattle.reuse_tree.specs.declared.change.Change.TheVariants.{Make, Splice};
-ghost use Rattle.reuse_tree.specs.declared.direction.Direction.TheVariants.{Backward};
+ghost use Rattle.reuse_store.specs.Asked.{FailsAsRead};
+ghost use Rattle.reuse_change.specs.Change.{path_of, IsProper};
+ghost use Rattle.reuse_change.specs.Clash.{is_clash};
+ghost use Rattle.reuse_change.specs.Entry.{makes, IsEntry, IsSmall};
+ghost use Rattle.reuse_change.specs.Tree.{is_of_tree};
+ghost use Rattle.reuse_change.specs.declared.change.Change.TheVariants.{Make, Splice};
+ghost use Rattle.reuse_change.specs.declared.direction.Direction.TheVariants.{Backward};
 ghost use Rattle.reuse_command.specs.Answer.{IsTestRefusal, IsEarlyFailure};
 ghost use Rattle.reuse_plan.specs.PathPlans.{AnswersPlan, AnswersPlans, EndsWalk};
 ghost use Rattle.reuse_plan.specs.Plan.{MakesEdit};
@@ -16,13 +16,12 @@ ghost use Rattle.reuse_command.specs.declared.failure.Fault.{Fault};
 ghost use Rattle.reuse_command.specs.declared.failure.Failure.TheVariants as failures;
 
 use crate::path_plan::{PathPlan, Policy};
+use reuse_change::{Change, Digest, Direction, PathText, Seal};
 use reuse_command::choice::PathList;
 use reuse_command::reply::Refusal;
+use reuse_store::apply_change::makes;
+use reuse_store::{Reading, Store, StoreFault, is_clash_at};
 use reuse_text::{Bytes, LONGEST_FILE};
-use reuse_tree::apply_change::makes;
-use reuse_tree::{
-    Change, Digest, Direction, PathText, Reading, Seal, Store, StoreFault, is_clash_at,
-};
 use std::alloc::{AllocError, Global};
 
 /// What a revert of these changes of an entry does, where later steps touched these paths.

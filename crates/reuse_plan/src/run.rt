@@ -14,10 +14,12 @@ use crate::counts::Counts;
 use crate::path_plan::Policy;
 use crate::planned::{Planned, changes_planned, skipped_planned};
 use crate::walk::plan_command;
+use reuse_change::{Change, is_too_many};
 use reuse_command::command::Command;
 use reuse_command::path_outcome::{PathOutcome, PathOutcomes, Previewed};
 use reuse_command::reply::Refusal;
-use reuse_tree::{Change, Changes, Store, is_too_many};
+use reuse_json::Changes;
+use reuse_store::Store;
 use std::alloc::{AllocError, Global};
 
 /// The changes of a command on the tree that the store has, in byte order of their paths, or the

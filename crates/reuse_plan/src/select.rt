@@ -1,8 +1,8 @@
 //! The paths of a command, in the order in which they are gone through.
 ghost use Rattle.std.specs.Prelude.{◌≡◌, ◌&&◌, not, ◌++◌, [], ◌∷◌, true, length, IfErr, IfOk, OnOk, filter, flat_map};
 ghost use Rattle.std.specs.List.{All};
-ghost use Rattle.reuse_tree.specs.Asked.{FailsAsRead};
-ghost use Rattle.reuse_tree.specs.Listing.{ArePaths, is_folder, listed_paths};
+ghost use Rattle.reuse_store.specs.Asked.{FailsAsRead};
+ghost use Rattle.reuse_change.specs.Listing.{ArePaths, is_folder, listed_paths};
 ghost use Rattle.reuse_command.specs.Answer.{IsEarlyFailure};
 ghost use Rattle.reuse_command.specs.Reading.{tree_of, OnlyReads, ReadsAlone};
 ghost use Rattle.reuse_plan.specs.Shown.{folders_for, ShowsEach, ShowsPlace};
@@ -18,10 +18,11 @@ use crate::covered::is_covered;
 use crate::tree_paths::{is_folder_alone, tree_paths, with_neighbours};
 use crate::unselected::Unselected;
 use crate::unused::Unused;
+use reuse_change::{Items, PathText, paths_beneath};
 use reuse_command::choice::{matches_one, sorted};
 use reuse_command::command::{Place, Scope};
 use reuse_command::reply::Refusal;
-use reuse_tree::{Items, PathText, Store, StoreFault, paths_beneath};
+use reuse_store::{Store, StoreFault};
 use std::alloc::{AllocError, Global};
 
 /// Whether the root is given where folders aren't gone through.

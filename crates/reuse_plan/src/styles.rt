@@ -6,12 +6,13 @@ ghost use Rattle.reuse_plan.specs.Plan.{IsRefusalOf};
 ghost use Rattle.reuse_command.specs.Refused.{IsNoFault};
 ghost use Rattle.reuse_plan.specs.TreeStyles.{styles_path, styles_where, styles_in, styles_refusal};
 
+use reuse_change::PathText;
 use reuse_command::failure::Failure;
 use reuse_command::known_path::known_path;
 use reuse_command::reply::Refusal;
 use reuse_header::{StyleTable, StylesRefusal};
+use reuse_store::{Reading, Store};
 use reuse_text::LONGEST_FILE;
-use reuse_tree::{PathText, Reading, Store};
 use std::alloc::Global;
 
 /// The styles by the `.reuse/styles.toml` of the tree that the store has: those of every tree where

@@ -1,7 +1,7 @@
 //! The choice of where the licensing information of a file goes.
 ghost use Rattle.std.specs.Prelude.{◌≡◌, ◌≤◌, IfOk, IfErr, length};
 ghost use Rattle.reuse_header.specs.Names.{kind_in, lookup};
-ghost use Rattle.reuse_tree.specs.Files.{Files};
+ghost use Rattle.reuse_change.specs.Files.{Files};
 ghost use Rattle.reuse_text.specs.declared.TheConstants.{LONGEST_FILE};
 ghost use Rattle.reuse_plan.specs.Annotate.{neighbour_of, is_uncommentable, goes_beside, goes_beside_unread, target_of_unknown, target_by_name, target_by_style};
 ghost use Rattle.reuse_plan.specs.AnnotationPlan.{own_of, place_by};
@@ -11,11 +11,11 @@ ghost use Rattle.reuse_plan.specs.Shown.{ShowsPair};
 
 use crate::annotation::Annotation;
 use crate::target::Target;
+use reuse_change::{PathText, is_among};
 use reuse_command::command::Unknown;
 use reuse_command::reply::Refusal;
 use reuse_header::{Kind, StyleTable};
 use reuse_text::{Bytes, is_text};
-use reuse_tree::{PathText, is_among};
 use std::alloc::{AllocError, Global};
 
 /// The bytes of a neighbour's path.

@@ -3,9 +3,9 @@
 ghost use Rattle.std.specs.Prelude.{◌≡◌};
 ghost use Rattle.reuse_command.specs.Choice.{is_passed_over, lists_none};
 
+use reuse_change::{PathText, Pruning};
 use reuse_command::choice::{has_one_under, matches_folder};
 use reuse_command::command::Scope;
-use reuse_tree::{PathText, Pruning};
 
 /// The folders beneath which no file is asked for, and no path lies that is given.
 #[derive(Clone, Copy)]

@@ -2,15 +2,15 @@
 //! out, and listed paths that are no covered file beneath a place. It is found by what the walk
 //! listed anyway. `tests/notes.sh` shows what is reported of it.
 ghost use Rattle.std.specs.Prelude.{◌≡◌, [], IfOk, map};
-ghost use Rattle.reuse_tree.specs.Listing.{ArePaths};
+ghost use Rattle.reuse_change.specs.Listing.{ArePaths};
 ghost use Rattle.reuse_plan.specs.Unused.{is_left_out_by, is_unmet, leaves_none_out, unmet_count};
 
 use crate::covered::is_covered;
 use crate::select::is_listed;
+use reuse_change::{PathText, is_among};
 use reuse_command::choice::{leaves_out, matches_one};
 use reuse_command::command::Scope;
 use reuse_dep5::Glob;
-use reuse_tree::{PathText, is_among};
 use std::alloc::{AllocError, Global};
 
 /// What of a choice came to nothing.

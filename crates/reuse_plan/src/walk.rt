@@ -24,10 +24,11 @@ use crate::select::{Listing, find_selected, gives_root};
 use crate::styles::read_styles;
 use crate::tree_paths::pair_paths;
 use crate::unused::Unused;
+use reuse_change::PathText;
 use reuse_command::command::{Command, Place, Scope};
 use reuse_command::reply::Refusal;
 use reuse_notice::Amendments;
-use reuse_tree::{PathText, Store};
+use reuse_store::Store;
 use std::alloc::Global;
 
 /// What the command would do, path by path, on the tree that the store has; or the refusal at which

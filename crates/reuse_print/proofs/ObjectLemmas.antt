@@ -6,7 +6,7 @@ use Rattle.jiff.specs.Types.{Date}
 use Rattle.serde_json.specs.Data.{Data}
 use Rattle.serde_json.specs.View.{items_of}
 use Rattle.serde_json.specs.Written.{has_float, items_have_float}
-use Rattle.reuse_tree.specs.declared.change.Change.{Change}
+use Rattle.reuse_change.specs.declared.change.Change.{Change}
 use Rattle.reuse_command.specs.declared.reply.Row.{Row}
 use Rattle.reuse_command.specs.declared.reply.Shown.{Shown}
 use Rattle.reuse_print.specs.Objects.{object_line, row_value, change_value, shown_value}

@@ -1,8 +1,8 @@
 -- The lines that an answer is printed as.
 use Rattle.std.specs.Prelude.{◌≡◌, ℕ, List, [], ◌∷◌, ◌++◌, Bool, true, false, codes, count_by, length}
-use Rattle.reuse_tree.specs.Change.{path_of}
-use Rattle.reuse_tree.specs.declared.change.Change.{Change}
-use Rattle.reuse_tree.specs.declared.change.Change.TheVariants.{Make, Drop, Splice}
+use Rattle.reuse_change.specs.Change.{path_of}
+use Rattle.reuse_change.specs.declared.change.Change.{Change}
+use Rattle.reuse_change.specs.declared.change.Change.TheVariants.{Make, Drop, Splice}
 use Rattle.reuse_print.specs.RowLines.{AreRowLines, IsRowLine}
 use Rattle.reuse_command.specs.declared.path_outcome.PathOutcome.{PathOutcome}
 use Rattle.reuse_command.specs.declared.path_outcome.PathOutcome.TheVariants.{Changes, Unchanged, Skipped, Refused}

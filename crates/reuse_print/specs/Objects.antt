@@ -6,9 +6,9 @@ use Rattle.jiff.specs.Words.{date_text}
 use Rattle.serde_json.specs.Data.{Data, null, string, boolean}
 use Rattle.serde_json.specs.Written.{compact_text}
 use Rattle.reuse_dep5.specs.declared.refusal.Dep5Refusal.TheVariants as dep5
-use Rattle.reuse_tree.specs.Change.{path_of}
-use Rattle.reuse_tree.specs.declared.change.Change.{Change}
-use Rattle.reuse_tree.specs.Json.{count, object_of, array_of}
+use Rattle.reuse_change.specs.Change.{path_of}
+use Rattle.reuse_change.specs.declared.change.Change.{Change}
+use Rattle.reuse_json.specs.Json.{count, object_of, array_of}
 use Rattle.reuse_command.specs.Command.{place_text}
 use Rattle.reuse_command.specs.RefusalTexts.{refusal_text}
 use Rattle.reuse_command.specs.declared.path_outcome.PathOutcome.{PathOutcome}

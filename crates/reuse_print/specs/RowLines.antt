@@ -6,8 +6,8 @@ use Rattle.jiff.specs.Words.{date_text}
 use Rattle.reuse_shown.specs.Dates.{IsDateOf}
 use Rattle.reuse_shown.specs.JoinedTexts.{AreJoined}
 use Rattle.reuse_command.specs.declared.reply.Row.{Row}
-use Rattle.reuse_tree.specs.declared.command_name.CommandName.{CommandName}
-use Rattle.reuse_tree.specs.declared.command_name.CommandName.TheVariants.{Annotate, ConvertDep5, Download, Revert, Amend}
+use Rattle.reuse_change.specs.declared.command_name.CommandName.{CommandName}
+use Rattle.reuse_change.specs.declared.command_name.CommandName.TheVariants.{Annotate, ConvertDep5, Download, Revert, Amend}
 
 abbrev pub command_word : CommandName → List ℕ
 command_word Annotate = codes "annotate"

@@ -5,9 +5,9 @@ ghost use Rattle.reuse_print.specs.Lines.{line_of, lines_of, path_outcome_line, 
 ghost use Rattle.reuse_shown.specs.JoinedTexts.{AppendsSome};
 
 use crate::rows::{print_row, print_rows};
+use reuse_change::{Change, PathText};
 use reuse_session::{PathOutcome, Response, Reverted, Shown};
 use reuse_shown::shown_name::{Names, print_name};
-use reuse_tree::{Change, PathText};
 use std::io::{self, Write};
 
 fn print_path<W: Write>(out: &mut W, names: Names, word: &str, path: &PathText) -> io::Result<()>

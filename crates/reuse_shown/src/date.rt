@@ -5,7 +5,7 @@ ghost use Rattle.reuse_shown.specs.Dates.{IsDateOf, IsYearOf};
 use jiff::Timestamp;
 use jiff::civil::Date;
 use jiff::tz::Offset;
-use reuse_tree::Moment;
+use reuse_change::Moment;
 
 /// The date of a moment in UTC.
 pub fn date_of(moment: Moment) -> Date

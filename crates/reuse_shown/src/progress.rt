@@ -1,7 +1,7 @@
 //! How far long work is, for a terminal.
 ghost use Rattle.std.specs.Prelude.{◌≡◌, min};
 
-use reuse_tree::{Asked, Watcher};
+use reuse_store::{Asked, Watcher};
 use std::alloc::Global;
 use std::cell::Cell;
 use std::io::{self, Write};

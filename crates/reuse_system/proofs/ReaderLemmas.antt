@@ -3,8 +3,8 @@ use Rattle.std.proofs.Common.{◌≡◌, inl, inr, ◌∙◌, ◌<◌, ◌≤◌
 use Rattle.std.proofs.lemmas.Bool.{le-leb, lt-leb}
 use Rattle.std.proofs.lemmas.List.{length-take, take_all, take-take}
 use Rattle.std.specs.Option.{option_map}
-use Rattle.reuse_tree.specs.Store.{reading_of}
-use Rattle.reuse_tree.specs.declared.store.Reading.TheVariants.{Found, TooLong}
+use Rattle.reuse_store.specs.Store.{reading_of}
+use Rattle.reuse_store.specs.declared.store.Reading.TheVariants.{Found, TooLong}
 use Rattle.reuse_system.specs.Readings.{IsReadingOf, IsWholeOf}
 
 is_too_long : (bytes : List ℕ) (limit : ℕ) → limit < length bytes → TooLong ≡ reading_of (Some bytes) limit

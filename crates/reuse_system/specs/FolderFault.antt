@@ -3,10 +3,10 @@ use Rattle.std.specs.IoError.{error_kind}
 use Rattle.std.specs.declared.io.Error.{Error}
 use Rattle.std.specs.declared.io.ErrorKind.{ErrorKind}
 use Rattle.std.specs.declared.io.ErrorKind.TheVariants.{OutOfMemory}
-use Rattle.reuse_tree.specs.declared.path.PathError.{PathError}
-use Rattle.reuse_tree.specs.declared.path.PathError.TheVariants as path
-use Rattle.reuse_tree.specs.declared.fault.StoreFault.{StoreFault}
-use Rattle.reuse_tree.specs.declared.fault.StoreFault.TheVariants as store
+use Rattle.reuse_change.specs.declared.path.PathError.{PathError}
+use Rattle.reuse_change.specs.declared.path.PathError.TheVariants as path
+use Rattle.reuse_store.specs.declared.fault.StoreFault.{StoreFault}
+use Rattle.reuse_store.specs.declared.fault.StoreFault.TheVariants as store
 use Rattle.reuse_system.specs.declared.fault.FolderFault.{FolderFault}
 use Rattle.reuse_system.specs.declared.fault.FolderFault.TheVariants.{Device, Clash, Memory}
 use Rattle.reuse_system.specs.declared.fault.Obstacle.TheVariants.{System, BadName}

@@ -1,7 +1,7 @@
 -- What reading a file answers, whatever reader it is read by.
 use Rattle.std.specs.Prelude.{◌≡◌, ◌⊎◌, ℕ, ◌<◌, List, length, take, Some}
-use Rattle.reuse_tree.specs.Store.{reading_of}
-use Rattle.reuse_tree.specs.declared.store.Reading.{Reading}
+use Rattle.reuse_store.specs.Store.{reading_of}
+use Rattle.reuse_store.specs.declared.store.Reading.{Reading}
 
 -- all that a reader had; or, if it had more than was said, as many bytes of its front as were said
 abbrev pub IsWholeOf : ℕ → List ℕ → List ℕ → Type 0

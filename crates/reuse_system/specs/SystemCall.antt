@@ -1,6 +1,6 @@
 -- A call of the system that changes regular files or folders, opens a folder, or tells of what stands at a name.
 use Rattle.std.specs.Prelude.{ℕ, ◌+◌, Bool, List, [], ◌∷◌, Result}
-use Rattle.reuse_tree.specs.declared.store.Reading.{Reading}
+use Rattle.reuse_store.specs.declared.store.Reading.{Reading}
 use Rattle.reuse_system.specs.FileStates.{Place}
 use Rattle.reuse_system.specs.declared.fault.FolderFault.{FolderFault}
 use Rattle.reuse_system.specs.declared.place.Found.{Found}

@@ -10,8 +10,8 @@ use Rattle.reuse_system.specs.NameChanges.{Look, NameChange, change_at, change_o
 use Rattle.reuse_system.specs.SystemCall.{SystemCall, made_of}
 use Rattle.reuse_system.specs.SystemCall.SystemCall.{MakeCall, AppendCall, SyncCall, RenameCall, LinkCall, RemoveCall, LookCall, ReadCall, RootCall, OpenCall, NoFolderCall, MakeFolderCall, RemoveFolderCall}
 use Rattle.reuse_system.specs.SystemLaws.{IsSeen, IsReadOf, IsNoFolder}
-use Rattle.reuse_tree.specs.declared.store.Reading.{Reading}
-use Rattle.reuse_tree.specs.declared.store.Reading.TheVariants as reading
+use Rattle.reuse_store.specs.declared.store.Reading.{Reading}
+use Rattle.reuse_store.specs.declared.store.Reading.TheVariants as reading
 use Rattle.reuse_system.specs.declared.fault.FolderFault.{FolderFault}
 use Rattle.reuse_system.specs.declared.place.Identity.{Identity}
 use Rattle.reuse_system.specs.declared.system.record.CallKind.{CallKind}

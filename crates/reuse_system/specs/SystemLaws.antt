@@ -1,6 +1,6 @@
 -- What each call of the system makes of the files that names lead to, and what it tells of them.
 use Rattle.std.specs.Prelude.{◌≡◌, ◌≢◌, ◌⊎◌, ℕ, Bool, true, false, IsTrue, List, [], ◌++◌, length, Option, None, Some, Result, Ok, Err}
-use Rattle.reuse_tree.specs.declared.store.Reading.{Reading}
+use Rattle.reuse_store.specs.declared.store.Reading.{Reading}
 use Rattle.reuse_system.specs.FileStates.{FileKey, StateFile, Place, FileState, file, IsNot}
 use Rattle.reuse_system.specs.Folders.{Folders, folder_in, IsAlikeFoldersBut, IsBare, IsGrown}
 use Rattle.reuse_system.specs.Readings.{IsReadingOf}

@@ -3,7 +3,8 @@ ghost use Rattle.std.specs.Prelude.{◌≡◌};
 ghost use Rattle.reuse_system.specs.FolderFault.{fault_of_system, fault_of_path, fault_of_store};
 ghost use Rattle.reuse_system.specs.declared.fault.FolderFault.TheVariants.{Memory};
 
-use reuse_tree::{PathError, StoreFault};
+use reuse_change::PathError;
+use reuse_store::StoreFault;
 use std::alloc::AllocError;
 use std::io::{self, ErrorKind};
 use thiserror::Error;

@@ -5,8 +5,8 @@ ghost use Rattle.reuse_system.specs.Readings.{IsReadingOf, IsWholeOf};
 ghost use Rattle.reuse_system.specs.Within.{IsWithin};
 
 use crate::fault::FolderFault;
+use reuse_store::Reading;
 use reuse_text::Bytes;
-use reuse_tree::Reading;
 use std::alloc::Global;
 use std::io::{self, ErrorKind, Read};
 

@@ -1,11 +1,11 @@
 //! Writing the parts of a file.
 ghost use Rattle.std.specs.Prelude.{◌≡◌, MatchResult};
-ghost use Rattle.reuse_tree.specs.Parts.{joined};
+ghost use Rattle.reuse_change.specs.Parts.{joined};
 ghost use Rattle.reuse_system.specs.SystemLaws.{IsAlikeButFile, IsAppended};
 ghost use Rattle.reuse_system.specs.Asides.{key_of};
 
 use crate::system::{Aside, System};
-use reuse_tree::Parts;
+use reuse_change::Parts;
 use std::io;
 
 /// Parts that are no longer than this together are joined, and go out by one call of the system. A

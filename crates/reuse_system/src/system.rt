@@ -17,7 +17,7 @@ use crate::owner::Owner;
 use crate::place::{FileStatus, Found, Identity, kept_bits};
 use crate::process::ProcessIds;
 pub use host::HostSystem;
-use reuse_tree::Reading;
+use reuse_store::Reading;
 use std::alloc::Global;
 use std::fs::{File, Permissions};
 use std::io;

@@ -19,22 +19,22 @@ use Rattle.serde_json.specs.Read.{read, of_json, of_items}
 use Rattle.serde_json.specs.View.{items_of}
 use Rattle.serde_json.specs.Written.{outline, items_outline, has_float, items_have_float}
 use Rattle.serde_json.proofs.Numbers.{number_of-decimal}
-use Rattle.reuse_tree.specs.Entry.{change_size, entry_size, AreAllSealed, IsSmall, fixed_size}
-use Rattle.reuse_tree.specs.Format.{format_number}
-use Rattle.reuse_tree.specs.Change.{is_sealed}
-use Rattle.reuse_tree.specs.declared.digest.Seal.{Seal}
+use Rattle.reuse_change.specs.Entry.{change_size, entry_size, AreAllSealed, IsSmall, fixed_size}
+use Rattle.reuse_json.specs.Format.{format_number}
+use Rattle.reuse_change.specs.Change.{is_sealed}
+use Rattle.reuse_change.specs.declared.digest.Seal.{Seal}
 use Rattle.std.specs.Option.{option_map}
-use Rattle.reuse_tree.specs.EntryText.{command_name, hex_text, digest_text, whole_text, is_any_sealed, change_text, entry_text, AreDigestBytes, IsHex, IsHexDigest, IsChangeValue, IsChangeInMemory, IsEntryInMemory, IsSoundEntry, IsGoodEntry}
-use Rattle.reuse_tree.specs.declared.change.Change.{Change}
-use Rattle.reuse_tree.specs.declared.change.Change.TheVariants.{Make, Drop, Splice}
-use Rattle.reuse_tree.specs.declared.journal.entry.Entry.{Entry}
-use Rattle.reuse_tree.specs.declared.command_name.CommandName.{CommandName}
-use Rattle.reuse_tree.specs.declared.command_name.CommandName.TheVariants.{Annotate, ConvertDep5, Download, Revert, Amend}
-use Rattle.reuse_tree.proofs.JsonPrinting.{IsReadable, read-compact_text}
+use Rattle.reuse_json.specs.EntryText.{command_name, hex_text, digest_text, whole_text, is_any_sealed, change_text, entry_text, AreDigestBytes, IsHex, IsHexDigest, IsChangeValue, IsChangeInMemory, IsEntryInMemory, IsSoundEntry, IsGoodEntry}
+use Rattle.reuse_change.specs.declared.change.Change.{Change}
+use Rattle.reuse_change.specs.declared.change.Change.TheVariants.{Make, Drop, Splice}
+use Rattle.reuse_json.specs.declared.entry.Entry.{Entry}
+use Rattle.reuse_change.specs.declared.command_name.CommandName.{CommandName}
+use Rattle.reuse_change.specs.declared.command_name.CommandName.TheVariants.{Annotate, ConvertDep5, Download, Revert, Amend}
+use Rattle.reuse_json.proofs.JsonPrinting.{IsReadable, read-compact_text}
 use Rattle.reuse_tree.proofs.JoinedTexts.{◌⊹◌, length-join-le, IsUtf8-join, AllByRecursion-weaker}
 use Rattle.reuse_tree.proofs.EntryTexts.{entry_compact}
 use Rattle.reuse_tree.proofs.EntryValues.{hex_value, change_value, entry_value}
-use Rattle.reuse_tree.proofs.PlainTexts.{escape_plain, plain_digits}
+use Rattle.reuse_json.proofs.PlainTexts.{escape_plain, plain_digits}
 
 -- what its text needs of a change
 record IsWritable (c : Change) : Type 0 where

@@ -13,21 +13,21 @@ use Rattle.hex.specs.declared.error.FromHexError.{FromHexError}
 use Rattle.serde_json.specs.Data.{Data, string, array, object, Items, no_items, item, Members, no_members, member}
 use Rattle.serde_json.specs.Find.{as_array, as_object, as_str, get}
 use Rattle.serde_json.specs.View.{items_of}
-use Rattle.reuse_tree.specs.Path.{is_path}
-use Rattle.reuse_tree.specs.Change.{path_of, is_sealed}
-use Rattle.reuse_tree.specs.declared.digest.Seal.{Seal}
-use Rattle.reuse_tree.specs.Entry.{AreAllSealed}
-use Rattle.reuse_tree.specs.Json.{count, array_of, members_of}
-use Rattle.reuse_tree.specs.Format.{knows, format_number}
-use Rattle.reuse_tree.specs.EntryText.{command_name, whole_members, splice_members, IsWholeValue, IsHex, IsHexDigest, IsChangeValue, IsEntryValue, HavePaths, IsGoodEntry}
-use Rattle.reuse_tree.specs.JsonReading.{first_member, field_in, if_none_left, format_in, number_in, read_items}
-use Rattle.reuse_tree.specs.EntryReading.{if_text, digest_in, first_digest, seal_of, hex_in, path_in, command_from, command_in, if_known, moment_in, whole_in, make_in, drop_in, splice_in, splice_bytes_in, splice_end_in, change_in, changes_in, entry_in}
-use Rattle.reuse_tree.specs.declared.change.Change.{Change}
-use Rattle.reuse_tree.specs.declared.change.Change.TheVariants.{Make, Drop, Splice}
-use Rattle.reuse_tree.specs.declared.journal.entry.Entry.{Entry}
-use Rattle.reuse_tree.specs.declared.command_name.CommandName.{CommandName}
-use Rattle.reuse_tree.specs.declared.command_name.CommandName.TheVariants.{Annotate, ConvertDep5, Download, Revert, Amend}
-use Rattle.reuse_tree.proofs.JsonParts.{either, named, bind_some, first_member_found, field_found, field_is, none_left_found, object_found, array_found, string_found, number_found, format_found, format_again, same_json}
+use Rattle.reuse_change.specs.Path.{is_path}
+use Rattle.reuse_change.specs.Change.{path_of, is_sealed}
+use Rattle.reuse_change.specs.declared.digest.Seal.{Seal}
+use Rattle.reuse_change.specs.Entry.{AreAllSealed}
+use Rattle.reuse_json.specs.Json.{count, array_of, members_of}
+use Rattle.reuse_json.specs.Format.{knows, format_number}
+use Rattle.reuse_json.specs.EntryText.{command_name, whole_members, splice_members, IsWholeValue, IsHex, IsHexDigest, IsChangeValue, IsEntryValue, HavePaths, IsGoodEntry}
+use Rattle.reuse_json.specs.JsonReading.{first_member, field_in, if_none_left, format_in, number_in, read_items}
+use Rattle.reuse_json.specs.EntryReading.{if_text, digest_in, first_digest, seal_of, hex_in, path_in, command_from, command_in, if_known, moment_in, whole_in, make_in, drop_in, splice_in, splice_bytes_in, splice_end_in, change_in, changes_in, entry_in}
+use Rattle.reuse_change.specs.declared.change.Change.{Change}
+use Rattle.reuse_change.specs.declared.change.Change.TheVariants.{Make, Drop, Splice}
+use Rattle.reuse_json.specs.declared.entry.Entry.{Entry}
+use Rattle.reuse_change.specs.declared.command_name.CommandName.{CommandName}
+use Rattle.reuse_change.specs.declared.command_name.CommandName.TheVariants.{Annotate, ConvertDep5, Download, Revert, Amend}
+use Rattle.reuse_json.proofs.JsonParts.{either, named, bind_some, first_member_found, field_found, field_is, none_left_found, object_found, array_found, string_found, number_found, format_found, format_again, same_json}
 
 -- ---- parts
 

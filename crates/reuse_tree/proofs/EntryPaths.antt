@@ -13,16 +13,16 @@ use Rattle.std.proofs.lemmas.List.{drop_more, length-map, drop-map, get_or-map}
 use Rattle.std.proofs.lemmas.List.Elements.{All-weaker}
 use Rattle.std.proofs.lemmas.Map.Keys.{Less-from_sorted, sorted_head, sorted_tail}
 use Rattle.std.proofs.lemmas.Slice.Eq.{starts_is, bytes_eq-Decides}
-use Rattle.reuse_tree.specs.Path.{is_path, lies_under}
-use Rattle.reuse_tree.specs.Change.{path_of, IsProper}
-use Rattle.reuse_tree.specs.declared.change.Change.{Change}
-use Rattle.reuse_tree.specs.declared.change.Change.TheVariants.{Make}
-use Rattle.reuse_tree.specs.Tree.{is_of_tree}
-use Rattle.reuse_tree.specs.Entry.{touches, AreAllSealed, HasOwnDigest, IsEntry, IsSmall}
-use Rattle.reuse_tree.specs.EntryText.{HavePaths}
+use Rattle.reuse_change.specs.Path.{is_path, lies_under}
+use Rattle.reuse_change.specs.Change.{path_of, IsProper}
+use Rattle.reuse_change.specs.declared.change.Change.{Change}
+use Rattle.reuse_change.specs.declared.change.Change.TheVariants.{Make}
+use Rattle.reuse_change.specs.Tree.{is_of_tree}
+use Rattle.reuse_change.specs.Entry.{touches, AreAllSealed, HasOwnDigest, IsEntry, IsSmall}
+use Rattle.reuse_json.specs.EntryText.{HavePaths}
 use Rattle.reuse_tree.specs.EntryTests.{AreApart, IsSoundChange, Passes}
-use Rattle.reuse_tree.specs.Listing.{ArePaths, is_among, is_folder_of}
-use Rattle.reuse_tree.proofs.ListingLemmas.{under_from_test, below_first, folder_found, folder_none, same_number, get_or_after, before_front, before_nothing}
+use Rattle.reuse_change.specs.Listing.{ArePaths, is_among, is_folder_of}
+use Rattle.reuse_change.proofs.ListingLemmas.{under_from_test, below_first, folder_found, folder_none, same_number, get_or_after, before_front, before_nothing}
 
 abbrev pub before : List ℕ → List ℕ → Ordering
 before = slice_cmp nat_cmp

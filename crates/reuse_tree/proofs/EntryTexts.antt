@@ -4,15 +4,15 @@ use Rattle.std.specs.List.{join_with_byte}
 use Rattle.json.specs.Print.{escape_byte, quoted}
 use Rattle.serde_json.specs.Written.{compact_text, items_text}
 use Rattle.serde_json.specs.View.{items_of}
-use Rattle.reuse_tree.specs.EntryText.{command_name, hex_text, digest_text, is_any_sealed, change_text, entry_text}
-use Rattle.reuse_tree.specs.Format.{format_number}
-use Rattle.reuse_tree.specs.declared.change.Change.{Change}
-use Rattle.reuse_tree.specs.declared.change.Change.TheVariants.{Make, Drop, Splice}
-use Rattle.reuse_tree.specs.declared.journal.entry.Entry.{Entry}
-use Rattle.reuse_tree.specs.declared.command_name.CommandName.{CommandName}
-use Rattle.reuse_tree.specs.declared.command_name.CommandName.TheVariants.{Annotate, ConvertDep5, Download, Revert, Amend}
+use Rattle.reuse_json.specs.EntryText.{command_name, hex_text, digest_text, is_any_sealed, change_text, entry_text}
+use Rattle.reuse_json.specs.Format.{format_number}
+use Rattle.reuse_change.specs.declared.change.Change.{Change}
+use Rattle.reuse_change.specs.declared.change.Change.TheVariants.{Make, Drop, Splice}
+use Rattle.reuse_json.specs.declared.entry.Entry.{Entry}
+use Rattle.reuse_change.specs.declared.command_name.CommandName.{CommandName}
+use Rattle.reuse_change.specs.declared.command_name.CommandName.TheVariants.{Annotate, ConvertDep5, Download, Revert, Amend}
 use Rattle.reuse_tree.proofs.EntryValues.{change_value, entry_value}
-use Rattle.reuse_tree.proofs.JsonPrinting.{items_text-map}
+use Rattle.reuse_json.proofs.JsonPrinting.{items_text-map}
 
 -- the members of a change from its kind on, one after another
 unfoldable whole_end : (kind bytes path : List ℕ) → List ℕ

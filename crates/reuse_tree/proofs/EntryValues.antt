@@ -3,12 +3,12 @@ use Rattle.std.proofs.Common.{ℕ, List, [], ◌∷◌, ◌++◌, map, codes, Op
 use Rattle.std.specs.Option.{option_map}
 use Rattle.hex.specs.Hex.{encode_lower}
 use Rattle.serde_json.specs.Data.{Data, string}
-use Rattle.reuse_tree.specs.declared.change.Change.{Change}
-use Rattle.reuse_tree.specs.declared.change.Change.TheVariants.{Make, Drop, Splice}
-use Rattle.reuse_tree.specs.EntryText.{command_name, is_any_sealed, whole_members, splice_members}
-use Rattle.reuse_tree.specs.Format.{format_number}
-use Rattle.reuse_tree.specs.Json.{count, object_of, array_of}
-use Rattle.reuse_tree.specs.declared.journal.entry.Entry.{Entry}
+use Rattle.reuse_change.specs.declared.change.Change.{Change}
+use Rattle.reuse_change.specs.declared.change.Change.TheVariants.{Make, Drop, Splice}
+use Rattle.reuse_json.specs.EntryText.{command_name, is_any_sealed, whole_members, splice_members}
+use Rattle.reuse_json.specs.Format.{format_number}
+use Rattle.reuse_json.specs.Json.{count, object_of, array_of}
+use Rattle.reuse_json.specs.declared.entry.Entry.{Entry}
 
 -- bytes in small hexadecimal digits
 abbrev pub hex_value : List ℕ → Data

@@ -11,13 +11,13 @@ use Rattle.serde_json.specs.Read.{read, of_json, of_items}
 use Rattle.serde_json.specs.View.{items_of}
 use Rattle.serde_json.specs.Written.{outline, items_outline, has_float, items_have_float}
 use Rattle.serde_json.proofs.Numbers.{number_of-decimal}
-use Rattle.reuse_tree.specs.Json.{count}
+use Rattle.reuse_json.specs.Json.{count}
 use Rattle.reuse_tree.specs.Head.{numbers_text, direction_name, pending_text, head_text, pending_value, head_value, IsSoundHead, IsGoodHead, listed}
 use Rattle.reuse_tree.specs.declared.journal.head.Head.{Head}
 use Rattle.reuse_tree.specs.declared.journal.head.Pending.{Pending}
 use Rattle.reuse_tree.specs.declared.journal.head.PendingDirection.{PendingDirection}
 use Rattle.reuse_tree.specs.declared.journal.head.PendingDirection.TheVariants.{Do, Undo, Redo}
-use Rattle.reuse_tree.proofs.JsonPrinting.{IsReadable, read-compact_text}
+use Rattle.reuse_json.proofs.JsonPrinting.{IsReadable, read-compact_text}
 use Rattle.reuse_tree.proofs.JoinedTexts.{◌⊹◌, length-join-le, IsUtf8-join, sum_by-constant, AllByRecursion-weaker}
 use Rattle.reuse_tree.proofs.HeadTexts.{head_compact, head_shape, regroup}
 use Rattle.reuse_tree.proofs.HeadParts.{IsSmallHead, small_from_sound, FitsSmall, FitsSix, six_from_sound}

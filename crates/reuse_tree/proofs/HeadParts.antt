@@ -5,19 +5,19 @@ use Rattle.std.specs.List.{AllByRecursion, All, slice_get}
 use Rattle.std.proofs.lemmas.List.Elements.{All-get_or, All-weaker, recursion_from_All, All-nil, All-cons, All-head, All-tail}
 use Rattle.std.proofs.lemmas.Option.{none-some, same_Some, cond_some, slice_get_within, get_or_from_slice_get}
 use Rattle.std.specs.Str.{bytes_eq}
-use Rattle.reuse_tree.specs.Format.{format_number}
+use Rattle.reuse_json.specs.Format.{format_number}
 use Rattle.serde_json.specs.Data.{Data, null, string, object, member}
 use Rattle.serde_json.specs.Find.{as_object, as_str}
-use Rattle.reuse_tree.specs.Json.{count, counts}
+use Rattle.reuse_json.specs.Json.{count, counts}
 use Rattle.reuse_tree.specs.Head.{direction_name, pending_value, head_value, FitsDirection, PendingFits, IsSoundHead, IsGoodHead}
-use Rattle.reuse_tree.specs.JsonReading.{field_in, if_none_left, small_in, smalls_in, format_in}
+use Rattle.reuse_json.specs.JsonReading.{field_in, if_none_left, small_in, smalls_in, format_in}
 use Rattle.reuse_tree.specs.HeadReading.{direction_from, direction_in, some_pending_in, pending_in, head_in}
 use Rattle.reuse_tree.specs.declared.journal.head.Head.{Head}
 use Rattle.reuse_tree.specs.declared.journal.head.Pending.{Pending}
 use Rattle.reuse_tree.specs.declared.journal.head.PendingDirection.{PendingDirection}
 use Rattle.reuse_tree.specs.declared.journal.head.PendingDirection.TheVariants.{Do, Undo, Redo}
 use Rattle.reuse_tree.proofs.JoinedTexts.{AllByRecursion-weaker}
-use Rattle.reuse_tree.proofs.JsonParts.{either, named, bind_some, field_is, none_left_found, object_found, string_found, small_found, small_again, smalls_found, smalls_again, format_found, format_again, same_json}
+use Rattle.reuse_json.proofs.JsonParts.{either, named, bind_some, field_is, none_left_found, object_found, string_found, small_found, small_again, smalls_found, smalls_again, format_found, format_again, same_json}
 
 direction_found : (name : List ℕ) (w : PendingDirection) → direction_from name ≡ Some w → name ≡ direction_name w
 direction_found name w e = elim (either (bytes_eq name (codes "do")) Do w _ e) [

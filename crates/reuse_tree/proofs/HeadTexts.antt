@@ -3,13 +3,13 @@ use Rattle.std.proofs.Common.{◌≡◌, ℕ, true, List, ◌∷◌, ◌++◌, c
 use Rattle.std.specs.Fmt.{digits}
 use Rattle.json.specs.Print.{escape_byte, quoted}
 use Rattle.serde_json.specs.Written.{compact_text}
-use Rattle.reuse_tree.specs.Json.{count, counts}
+use Rattle.reuse_json.specs.Json.{count, counts}
 use Rattle.reuse_tree.specs.Head.{numbers_text, direction_name, pending_text, head_text, pending_value, head_value}
 use Rattle.reuse_tree.specs.declared.journal.head.Head.{Head}
 use Rattle.reuse_tree.specs.declared.journal.head.Pending.{Pending}
 use Rattle.reuse_tree.specs.declared.journal.head.PendingDirection.{PendingDirection}
 use Rattle.reuse_tree.specs.declared.journal.head.PendingDirection.TheVariants.{Do, Undo, Redo}
-use Rattle.reuse_tree.proofs.JsonPrinting.{items_text-map}
+use Rattle.reuse_json.proofs.JsonPrinting.{items_text-map}
 
 pub counts_text : (ns : List ℕ) → compact_text (counts ns) ≡ numbers_text ns
 counts_text ns = ap (λ l. 91 ∷ l) (items_text-map count decimal (λ n. refl) ns)

@@ -6,7 +6,7 @@ use Rattle.std.proofs.lemmas.List.{length-map, length-take, map_more}
 use Rattle.std.proofs.lemmas.List.Sums.{sum_by-cons}
 use Rattle.std.proofs.lemmas.Str.{IsUtf8-append, IsUtf8-nil}
 use Rattle.json.proofs.Printed.Utf8.{IsUtf8-are_ascii}
-use Rattle.reuse_tree.specs.EntryText.{comma_before}
+use Rattle.reuse_json.specs.EntryText.{comma_before}
 
 -- a text of UTF-8 behind another
 infixl 10 ◌⊹◌

@@ -13,7 +13,7 @@ use Rattle.json.proofs.Grammar.{value_is, value-begin_array, value-begin_object}
 use Rattle.serde_json.specs.Data.{Num, Data, null, boolean, number, string, array, object, Items, Members, no_members}
 use Rattle.serde_json.specs.Find.{as_array, as_object}
 use Rattle.serde_json.specs.Read.{of_json, of_members, converted, number_of, read}
-use Rattle.reuse_tree.proofs.JsonTurns.{array_converted, object_converted, whole_and_more, whole_read, whole_refused, whole_was}
+use Rattle.reuse_json.proofs.JsonTurns.{array_converted, object_converted, whole_and_more, whole_read, whole_refused, whole_was}
 
 -- the first value of a pair that was read
 first_is : (x d : Data) (s r : List Token) → ◌≡◌ {A = Option (Data × List Token)} (Some (x, s)) (Some (d, r)) → x ≡ d

@@ -1,9 +1,9 @@
 -- What is read where a step of the reading finds nothing.
 use Rattle.std.proofs.Common.{◌≡◌, Option, Result, Ok, Err, IsErrAnd, refl, sym, subst}
-use Rattle.reuse_tree.specs.Decoded.{Fails, Gives}
-use Rattle.reuse_tree.specs.JsonReading.{◌>>=◌}
-use Rattle.reuse_tree.specs.declared.journal.fault.DecodeFault.{DecodeFault}
-use Rattle.reuse_tree.specs.declared.journal.fault.DecodeFault.TheVariants.{NotGood, Memory}
+use Rattle.reuse_json.specs.Decoded.{Fails, Gives}
+use Rattle.reuse_json.specs.JsonReading.{◌>>=◌}
+use Rattle.reuse_json.specs.declared.fault.DecodeFault.{DecodeFault}
+use Rattle.reuse_json.specs.declared.fault.DecodeFault.TheVariants.{NotGood, Memory}
 
 -- the fault of the step is handed on
 pub stopped : {A : Type 0} (answer : Result A DecodeFault) (fault : DecodeFault) (read : Option A) → IsErrAnd answer (λ told. told ≡ fault) → Fails fault read → Gives answer read

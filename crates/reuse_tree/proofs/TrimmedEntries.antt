@@ -12,24 +12,24 @@ use Rattle.serde_json.specs.Events.{items_len, members_len}
 use Rattle.serde_json.specs.Find.{as_array, as_object, get_member}
 use Rattle.serde_json.specs.Read.{read}
 use Rattle.serde_json.specs.View.{items_of}
-use Rattle.reuse_tree.specs.Change.{is_sealed}
-use Rattle.reuse_tree.specs.Decoded.{Gives, IsAnswer}
-use Rattle.reuse_tree.specs.EntryReading.{change_in, changes_in, frame_in, command_in, moment_in, if_known, if_few_changes, listed_in, with_next}
-use Rattle.reuse_tree.specs.EntryText.{command_name, whole_members, splice_members, IsChangeValue, IsJsonEntry, HavePaths}
-use Rattle.reuse_tree.specs.Format.{format_number, knows}
-use Rattle.reuse_tree.specs.Json.{count, array_of, members_of, object_of, IsJson}
-use Rattle.reuse_tree.specs.JsonReading.{first_member, field_in, format_in, if_none_left, read_items}
-use Rattle.reuse_tree.specs.Trimmed.{most, inner, trim, trim_items, trim_members}
-use Rattle.reuse_tree.specs.declared.change.Change.{Change}
-use Rattle.reuse_tree.specs.declared.change.Change.TheVariants.{Make, Drop, Splice}
-use Rattle.reuse_tree.specs.declared.command_name.CommandName.{CommandName}
-use Rattle.reuse_tree.specs.declared.journal.entry.Entry.{Entry}
-use Rattle.reuse_tree.specs.declared.journal.fault.DecodeFault.{DecodeFault}
-use Rattle.reuse_tree.specs.declared.journal.fault.DecodeFault.TheVariants.{NotGood, Memory}
-use Rattle.reuse_tree.specs.declared.journal.room.Room.{Room}
-use Rattle.reuse_tree.specs.declared.journal.room.Room.TheVariants as room
+use Rattle.reuse_change.specs.Change.{is_sealed}
+use Rattle.reuse_json.specs.Decoded.{Gives, IsAnswer}
+use Rattle.reuse_json.specs.EntryReading.{change_in, changes_in, frame_in, command_in, moment_in, if_known, if_few_changes, listed_in, with_next}
+use Rattle.reuse_json.specs.EntryText.{command_name, whole_members, splice_members, IsChangeValue, IsJsonEntry, HavePaths}
+use Rattle.reuse_json.specs.Format.{format_number, knows}
+use Rattle.reuse_json.specs.Json.{count, array_of, members_of, object_of, IsJson}
+use Rattle.reuse_json.specs.JsonReading.{first_member, field_in, format_in, if_none_left, read_items}
+use Rattle.reuse_json.specs.Trimmed.{most, inner, trim, trim_items, trim_members}
+use Rattle.reuse_change.specs.declared.change.Change.{Change}
+use Rattle.reuse_change.specs.declared.change.Change.TheVariants.{Make, Drop, Splice}
+use Rattle.reuse_change.specs.declared.command_name.CommandName.{CommandName}
+use Rattle.reuse_json.specs.declared.entry.Entry.{Entry}
+use Rattle.reuse_json.specs.declared.fault.DecodeFault.{DecodeFault}
+use Rattle.reuse_json.specs.declared.fault.DecodeFault.TheVariants.{NotGood, Memory}
+use Rattle.reuse_json.specs.declared.room.Room.{Room}
+use Rattle.reuse_json.specs.declared.room.Room.TheVariants as room
 use Rattle.reuse_tree.proofs.EntryParts.{change_found, changes_found, changes_again, command_there, command_again, moment_found, moment_again, known_again}
-use Rattle.reuse_tree.proofs.JsonParts.{bind_some, first_member_found, field_found, field_is, none_left_found, object_found, format_found, format_again, same_json, IfOk-from_gives}
+use Rattle.reuse_json.proofs.JsonParts.{bind_some, first_member_found, field_found, field_is, none_left_found, object_found, format_found, format_again, same_json, IfOk-from_gives}
 
 -- ---- a value without `true` and `false`
 

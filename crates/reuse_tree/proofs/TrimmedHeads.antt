@@ -4,17 +4,17 @@ use Rattle.std.specs.Prelude.{IfOk}
 use Rattle.serde_json.specs.Data.{Data, boolean, array, Items, item}
 use Rattle.serde_json.specs.Events.{items_len}
 use Rattle.serde_json.specs.View.{items_of}
-use Rattle.reuse_tree.specs.Decoded.{Gives, IsAnswer}
+use Rattle.reuse_json.specs.Decoded.{Gives, IsAnswer}
 use Rattle.reuse_tree.specs.Head.{head_value, listed, pending_value, IsJsonHead, IsSoundHead}
 use Rattle.reuse_tree.specs.HeadReading.{head_in}
-use Rattle.reuse_tree.specs.Json.{count, counts, IsJson}
-use Rattle.reuse_tree.specs.Trimmed.{trim, trim_items}
-use Rattle.reuse_tree.specs.declared.journal.fault.DecodeFault.{DecodeFault}
+use Rattle.reuse_json.specs.Json.{count, counts, IsJson}
+use Rattle.reuse_json.specs.Trimmed.{trim, trim_items}
+use Rattle.reuse_json.specs.declared.fault.DecodeFault.{DecodeFault}
 use Rattle.reuse_tree.specs.declared.journal.head.Head.{Head}
 use Rattle.reuse_tree.specs.declared.journal.head.Pending.{Pending}
-use Rattle.reuse_tree.specs.declared.journal.room.Room.TheVariants as room
+use Rattle.reuse_json.specs.declared.room.Room.TheVariants as room
 use Rattle.reuse_tree.proofs.HeadParts.{head_found, head_again, small_from_sound}
-use Rattle.reuse_tree.proofs.JsonParts.{IfOk-from_gives, IsAnswer-from_gives, same_json}
+use Rattle.reuse_json.proofs.JsonParts.{IfOk-from_gives, IsAnswer-from_gives, same_json}
 use Rattle.reuse_tree.proofs.TrimmedEntries.{is_clean, are_clean, whole_is}
 
 counts_len : (ns : List ℕ) → items_len (items_of (map count ns)) ≡ length ns

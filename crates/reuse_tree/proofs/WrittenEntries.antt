@@ -4,17 +4,17 @@ use Rattle.std.specs.List.{All, flat_map, join_with_byte}
 use Rattle.std.proofs.lemmas.Grind.{flat_map-append}
 use Rattle.std.proofs.lemmas.List.{append-nil}
 use Rattle.std.proofs.lemmas.List.Elements.{recursion_from_All}
-use Rattle.reuse_tree.specs.Change.{is_sealed}
-use Rattle.reuse_tree.specs.Entry.{AreAllSealed}
+use Rattle.reuse_change.specs.Change.{is_sealed}
+use Rattle.reuse_change.specs.Entry.{AreAllSealed}
 use Rattle.reuse_tree.specs.EntryTests.{Passes}
-use Rattle.reuse_tree.specs.EntryText.{change_text, command_name, entry_text, is_any_sealed, IsChangeInMemory, IsGoodEntry}
-use Rattle.reuse_tree.specs.Format.{format_number, knows}
-use Rattle.reuse_tree.specs.declared.command_name.CommandName.{CommandName}
-use Rattle.reuse_tree.specs.declared.journal.entry.Entry.{Entry}
-use Rattle.reuse_tree.specs.declared.change.Change.{Change}
+use Rattle.reuse_json.specs.EntryText.{change_text, command_name, entry_text, is_any_sealed, IsChangeInMemory, IsGoodEntry}
+use Rattle.reuse_json.specs.Format.{format_number, knows}
+use Rattle.reuse_change.specs.declared.command_name.CommandName.{CommandName}
+use Rattle.reuse_json.specs.declared.entry.Entry.{Entry}
+use Rattle.reuse_change.specs.declared.change.Change.{Change}
 use Rattle.reuse_tree.proofs.EntryLaws.{any_is, entry_good}
 use Rattle.reuse_tree.proofs.EntryPaths.{entry_from_tests}
-use Rattle.reuse_tree.proofs.WrittenTexts.{step}
+use Rattle.reuse_json.proofs.WrittenTexts.{step}
 
 -- a change's text, and the comma behind it
 abbrev pub with_comma : Change → List ℕ

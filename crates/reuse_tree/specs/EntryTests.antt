@@ -4,11 +4,11 @@ use Rattle.std.specs.List.{All, AllByRecursion}
 use Rattle.std.specs.List.Sorted.{IsStrictlySortedBy}
 use Rattle.std.specs.Ordering.{nat_cmp}
 use Rattle.std.specs.Cmp.Lexicographic.{slice_cmp}
-use Rattle.reuse_tree.specs.Path.{is_path, lies_under}
-use Rattle.reuse_tree.specs.Change.{path_of, IsProper}
-use Rattle.reuse_tree.specs.declared.change.Change.{Change}
-use Rattle.reuse_tree.specs.Tree.{is_of_tree}
-use Rattle.reuse_tree.specs.Entry.{entry_size, paths_of, HasOwnDigest, IsSmall}
+use Rattle.reuse_change.specs.Path.{is_path, lies_under}
+use Rattle.reuse_change.specs.Change.{path_of, IsProper}
+use Rattle.reuse_change.specs.declared.change.Change.{Change}
+use Rattle.reuse_change.specs.Tree.{is_of_tree}
+use Rattle.reuse_change.specs.Entry.{entry_size, paths_of, HasOwnDigest, IsSmall}
 
 -- what is asked of one change
 pub record IsSoundChange (change : Change) : Type 0 where

@@ -3,14 +3,14 @@ use Rattle.std.specs.Prelude.{◌≡◌, ◌≢◌, ℕ, ◌<◌, ◌≤◌, ◌
 use Rattle.std.specs.List.{join_with_byte}
 use Rattle.serde_json.specs.Data.{Data, string, null}
 use Rattle.reuse_text.specs.declared.TheConstants.{LONGEST_FILE}
-use Rattle.reuse_tree.specs.Json.{IsJson, count, counts, object_of}
-use Rattle.reuse_tree.specs.Format.{format_number}
+use Rattle.reuse_json.specs.Json.{IsJson, count, counts, object_of}
+use Rattle.reuse_json.specs.Format.{format_number}
 use Rattle.reuse_tree.specs.declared.journal.head.Head.{Head}
 use Rattle.reuse_tree.specs.declared.journal.head.Pending.{Pending}
 use Rattle.reuse_tree.specs.declared.journal.head.PendingDirection.{PendingDirection}
 use Rattle.reuse_tree.specs.declared.journal.head.PendingDirection.TheVariants.{Do, Undo, Redo}
-use Rattle.reuse_tree.specs.declared.direction.Direction.{Direction}
-use Rattle.reuse_tree.specs.declared.direction.Direction.TheVariants as direction
+use Rattle.reuse_change.specs.declared.direction.Direction.{Direction}
+use Rattle.reuse_change.specs.declared.direction.Direction.TheVariants as direction
 
 -- ---- the text that is written
 

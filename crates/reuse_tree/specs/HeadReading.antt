@@ -3,7 +3,7 @@ use Rattle.std.specs.Prelude.{List, ℕ, codes, Option, Some, None, is_some, opt
 use Rattle.std.specs.Str.{bytes_eq}
 use Rattle.serde_json.specs.Data.{Data}
 use Rattle.serde_json.specs.Find.{as_object, as_null, as_str}
-use Rattle.reuse_tree.specs.JsonReading.{◌>>=◌, field_in, if_none_left, format_in, small_in, smalls_in}
+use Rattle.reuse_json.specs.JsonReading.{◌>>=◌, field_in, if_none_left, format_in, small_in, smalls_in}
 use Rattle.reuse_tree.specs.declared.journal.head.Head.{Head}
 use Rattle.reuse_tree.specs.declared.journal.head.Pending.{Pending}
 use Rattle.reuse_tree.specs.declared.journal.head.PendingDirection.{PendingDirection}

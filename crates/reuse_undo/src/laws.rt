@@ -4,7 +4,7 @@ ghost use Rattle.reuse_session.specs.session.Stops.{Point, AreLeft};
 ghost use Rattle.reuse_undo.specs.run.LinesInTurn.{CarriedLine, HoldsSame, AreInTurn, RunAsModel};
 
 use reuse_print::output::Sink;
-use reuse_tree::Store;
+use reuse_store::Store;
 
 /// Lines are carried out one after the other, each on the files that the one before it left, as
 /// `run_request` and `run_on_folder` do. Each may be stopped, by any failure of its store, and so

@@ -7,13 +7,14 @@ ghost use Rattle.reuse_system.specs.NameChanges.{OnlyChanges};
 ghost use Rattle.reuse_folder.specs.Seen.{AreKnown, IsKnownAside, IsNewFile, IsSeenBefore, LoseNoEdits};
 ghost use Rattle.reuse_folder.specs.declared.folder.seen.ReadPath.{ReadPath};
 
+use crate::new_file::{Content, Target, name_aside};
 use super::RootFolder;
 use super::seen::{Expected, ReadPath, expected_at};
-use crate::new_file::{Content, Target, name_aside};
+use reuse_change::{Parts, PathText};
+use reuse_store::FileWrite;
 use reuse_system::fault::FolderFault;
 use reuse_system::place::{FileStatus, folder_and_name};
 use reuse_system::system::{Aside, HostSystem, System};
-use reuse_tree::{FileWrite, Parts, PathText};
 use std::alloc::{AllocError, Global};
 use std::fs::File;
 use std::mem;

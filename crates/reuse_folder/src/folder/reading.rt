@@ -5,15 +5,16 @@ ghost use Rattle.reuse_folder.specs.Seen.{expected_of, IsNoted, IsSeenBefore};
 ghost use Rattle.reuse_system.specs.KeptOut.{is_kept_out};
 ghost use Rattle.reuse_system.specs.Within.{IsWithin};
 
+use crate::rolled_back::Foreign;
 use super::RootFolder;
 use super::seen::ReadPath;
-use crate::rolled_back::Foreign;
+use reuse_change::PathText;
+use reuse_store::Reading;
 use reuse_system::fault::{FolderFault, Obstacle};
 use reuse_system::kept_out::is_kept_out;
 use reuse_system::place::{FileStatus, Place, folder_and_name};
 use reuse_system::system::{HostSystem, System};
 use reuse_text::Bytes;
-use reuse_tree::{PathText, Reading};
 use std::alloc::{AllocError, Global};
 use std::fs::File;
 use std::rt::Files;

@@ -3,9 +3,9 @@ ghost use Rattle.std.specs.Prelude.{◌≡◌, List, [], ◌∷◌, ◌++◌, If
 ghost use Rattle.reuse_folder.specs.Seen.{expected_of, IsSeenAs, IsSeenBefore};
 ghost use Rattle.reuse_folder.specs.declared.folder.seen.ReadPath.{ReadPath};
 
+use reuse_change::PathText;
 use reuse_system::fault::{FolderFault, Obstacle};
 use reuse_system::place::FileStatus;
-use reuse_tree::PathText;
 
 /// A path that was read, and what the system told of the regular file there, if there was one.
 #[derive(Drop)]

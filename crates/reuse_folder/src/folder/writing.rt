@@ -3,17 +3,17 @@
 ghost use Rattle.std.specs.Prelude.{◌≡◌, is_ok, IfOk, IsErr, IsTrue};
 ghost use Rattle.reuse_system.specs.KeptOut.{is_kept_out};
 
-use super::RootFolder;
-use super::seen::{Expected, expected_at};
 use crate::empty_folders::remove_folders;
 use crate::listing::list_below;
 use crate::new_file::{Content, NewFile, Target, remove_seen};
+use super::RootFolder;
+use super::seen::{Expected, expected_at};
+use reuse_change::{Parts, PathText};
 use reuse_system::fault::{FolderFault, Obstacle};
 use reuse_system::kept_out::JOURNAL;
 use reuse_system::new_name::new_names;
 use reuse_system::place::{FileStatus, Place, folder_and_name};
 use reuse_system::system::{HostSystem, System};
-use reuse_tree::{Parts, PathText};
 use std::alloc::Global;
 use std::fs::File;
 use std::rt::Files;
@@ -22,7 +22,7 @@ impl<R: Files<File = File> + AllocGlobal + Clone + Drop> RootFolder<R> {
     ghost use Rattle.reuse_folder.specs.FolderWrites.{IsCleared, IsGone, IsPutAt, IsPutIn, IsRemovedAt, IsRemovedIn, IsStoredAt};
     ghost use Rattle.reuse_folder.specs.Written.{is_kept};
     ghost use Rattle.reuse_folder.specs.Seen.{IsSeenAs, IsSeenBefore, LosesNoEdit, LosesNoEditAfter};
-    ghost use Rattle.reuse_tree.specs.Parts.{joined};
+    ghost use Rattle.reuse_change.specs.Parts.{joined};
 
     /// What is expected at the path, by the reads since the last write, which are forgotten.
     fn take_expected(&mut self, path: &PathText) -> Expected

@@ -1,20 +1,20 @@
 -- What a call of a session leaves, whatever it answers.
 use Rattle.std.specs.Prelude.{◌≡◌, ◌<◌, ◌≤◌, ◌+◌, ◌*◌, ℕ, true, List, length, Result, Ok, IfErr, OnOk}
-use Rattle.reuse_tree.specs.Asked.{OnlyReads, IsLater}
-use Rattle.reuse_tree.specs.Files.{Files, Clashes, tree_of}
-use Rattle.reuse_tree.specs.declared.store.Store.{Ghosts}
+use Rattle.reuse_store.specs.Asked.{OnlyReads, IsLater}
+use Rattle.reuse_change.specs.Files.{Files, Clashes, tree_of}
+use Rattle.reuse_store.specs.declared.store.Store.{Ghosts}
 use Rattle.reuse_command.specs.Answer.{IsEarly, IsStop, HasCause, HasClash}
-use Rattle.reuse_tree.specs.EntryText.{entry_text}
+use Rattle.reuse_json.specs.EntryText.{entry_text}
 use Rattle.reuse_tree.specs.Head.{listed_direction}
 use Rattle.reuse_journal.specs.Journal.{State, ahead, next_count}
 use Rattle.reuse_journal.specs.JournalFiles.{head_path, entry_path, IsFree}
 use Rattle.reuse_plan.specs.Outcome.{edits_of, edit_count, recorded_size}
 use Rattle.reuse_session.specs.session.Session.{store_of, is_broken, memory_of, IsKept, IsRecordOf, StandsOn, StopsAfter, StopsAfterRun}
 use Rattle.reuse_journal.specs.Remembered.{listed_count, head_room, IsSameBut, IsSameButTwo, HasHeadText, HasEntryText}
-use Rattle.reuse_tree.specs.Tree.{undo_folder_of}
+use Rattle.reuse_change.specs.Tree.{undo_folder_of}
 use Rattle.reuse_command.specs.declared.command.Command.{Command}
-use Rattle.reuse_tree.specs.declared.direction.Direction.{Direction}
-use Rattle.reuse_tree.specs.declared.journal.entry.Entry.{Entry}
+use Rattle.reuse_change.specs.declared.direction.Direction.{Direction}
+use Rattle.reuse_json.specs.declared.entry.Entry.{Entry}
 use Rattle.reuse_command.specs.declared.reply.Response.{Response}
 use Rattle.reuse_command.specs.declared.reply.Response.TheVariants.{Changed}
 use Rattle.reuse_command.specs.declared.reply.Refusal.{Refusal}

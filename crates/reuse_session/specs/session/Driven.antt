@@ -1,7 +1,7 @@
 -- Where a driven session is, for private clauses.
 use Rattle.std.specs.Prelude.{◌≡◌, false, Some, Result, Err}
-use Rattle.reuse_tree.specs.Files.{Files}
-use Rattle.reuse_tree.specs.declared.store.Store.{Ghosts}
+use Rattle.reuse_change.specs.Files.{Files}
+use Rattle.reuse_store.specs.declared.store.Store.{Ghosts}
 use Rattle.reuse_journal.specs.Journal.{State}
 use Rattle.reuse_journal.specs.Losses.{AreSafeOn}
 use Rattle.reuse_session.specs.session.Machine.{Snapshots}

@@ -3,10 +3,10 @@ use Rattle.std.specs.Prelude.{◌≡◌, ◌≢◌, ◌⊎◌, ◌↔◌, ◌==�
 use Rattle.std.specs.List.{All, Contains, list_any}
 use Rattle.std.specs.List.Sorted.{IsStrictlyIncreasing}
 use Rattle.std.specs.FinMap.{get}
-use Rattle.reuse_tree.specs.Asked.{Leaves}
-use Rattle.reuse_tree.specs.Files.{Files, Clashes, tree_of}
-use Rattle.reuse_tree.specs.Tree.{Sets}
-use Rattle.reuse_tree.specs.declared.store.Store.{Ghosts}
+use Rattle.reuse_store.specs.Asked.{Leaves}
+use Rattle.reuse_change.specs.Files.{Files, Clashes, tree_of}
+use Rattle.reuse_change.specs.Tree.{Sets}
+use Rattle.reuse_store.specs.declared.store.Store.{Ghosts}
 use Rattle.reuse_command.specs.Answer.{IsStop, HasClash}
 use Rattle.reuse_session.specs.session.Calls.{files_of, folder_of}
 use Rattle.reuse_journal.specs.History.{Memory}

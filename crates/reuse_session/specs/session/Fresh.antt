@@ -1,8 +1,8 @@
 -- Trees that no session has worked on.
 use Rattle.std.specs.Prelude.{ℕ, List, [], IsSome, IsTrue}
 use Rattle.std.specs.FinMap.{get}
-use Rattle.reuse_tree.specs.Path.{lies_under, journal_folder}
-use Rattle.reuse_tree.specs.Files.{Files}
+use Rattle.reuse_change.specs.Path.{lies_under, journal_folder}
+use Rattle.reuse_change.specs.Files.{Files}
 use Rattle.reuse_session.specs.session.Machine.{Snapshots}
 use Rattle.reuse_journal.specs.Standing.{IsTree}
 

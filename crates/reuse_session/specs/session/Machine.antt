@@ -1,14 +1,14 @@
 -- The reference model (it keeps a whole copy of each earlier tree).
 use Rattle.std.specs.Prelude.{ℕ, ◌+◌, true, false, List, [], ◌∷◌, ◌++◌, length, map, Result, Ok, Err, if◌then◌else◌}
-use Rattle.reuse_tree.specs.Files.{Files}
+use Rattle.reuse_change.specs.Files.{Files}
 use Rattle.reuse_command.specs.Command.{name_of}
 use Rattle.reuse_plan.specs.PathOutcomes.{path_outcomes_of}
-use Rattle.reuse_tree.specs.Tree.{changed_paths}
-use Rattle.reuse_tree.specs.declared.direction.Direction.{Direction}
-use Rattle.reuse_tree.specs.declared.direction.Direction.TheVariants as go
+use Rattle.reuse_change.specs.Tree.{changed_paths}
+use Rattle.reuse_change.specs.declared.direction.Direction.{Direction}
+use Rattle.reuse_change.specs.declared.direction.Direction.TheVariants as go
 use Rattle.reuse_plan.specs.Outcome.{outcome_of}
 use Rattle.reuse_command.specs.declared.command.Command.{Command}
-use Rattle.reuse_tree.specs.declared.command_name.CommandName.{CommandName}
+use Rattle.reuse_change.specs.declared.command_name.CommandName.{CommandName}
 use Rattle.reuse_command.specs.declared.path_outcome.PathOutcome.{PathOutcome}
 use Rattle.reuse_command.specs.declared.path_outcome.PathOutcome.TheVariants.{Changes}
 use Rattle.reuse_command.specs.declared.reply.Row.{Row}

@@ -3,8 +3,8 @@
 -- all else is one answer.
 use Rattle.std.specs.Prelude.{◌≡◌, ◌⊎◌, ℕ, Bool, List, [], ◌∷◌, Result, Ok, Err}
 use Rattle.std.specs.List.{All}
-use Rattle.reuse_tree.specs.Entry.{paths_of}
-use Rattle.reuse_tree.specs.declared.change.Change.{Change}
+use Rattle.reuse_change.specs.Entry.{paths_of}
+use Rattle.reuse_change.specs.declared.change.Change.{Change}
 use Rattle.reuse_session.specs.session.Machine.{Kept, Snapshots, Step, ran_by, undone, redone, rows_of, run_path_outcomes, undo_path_outcomes, redo_path_outcomes}
 use Rattle.reuse_session.specs.session.Requests.{as_answer}
 use Rattle.reuse_session.specs.session.RevertCalls.{changed_later, left_of}

@@ -1,15 +1,15 @@
 -- What a preview of a call answers and leaves.
 use Rattle.std.specs.Prelude.{◌≡◌, List, [], ◌∷◌, Result, Ok, Err, length, if◌then◌else◌}
-use Rattle.reuse_tree.specs.Asked.{OnlyReads}
-use Rattle.reuse_tree.specs.Files.{Files}
-use Rattle.reuse_tree.specs.declared.store.Store.{Ghosts}
+use Rattle.reuse_store.specs.Asked.{OnlyReads}
+use Rattle.reuse_change.specs.Files.{Files}
+use Rattle.reuse_store.specs.declared.store.Store.{Ghosts}
 use Rattle.reuse_command.specs.Answer.{RefusedAsRead, IsReadRefusal}
 use Rattle.reuse_plan.specs.PathOutcomes.{ArePathOutcomesOf, path_outcomes_of}
 use Rattle.reuse_journal.specs.Journal.{Recorded, State, end_of}
 use Rattle.reuse_journal.specs.Labels.{is_full}
 use Rattle.reuse_session.specs.session.Session.{store_of, IsKept}
 use Rattle.reuse_command.specs.declared.command.Command.{Command}
-use Rattle.reuse_tree.specs.declared.direction.Direction.{Direction}
+use Rattle.reuse_change.specs.declared.direction.Direction.{Direction}
 use Rattle.reuse_command.specs.declared.path_outcome.PathOutcome.{PathOutcome}
 use Rattle.reuse_command.specs.declared.path_outcome.Previewed.{Previewed}
 use Rattle.reuse_command.specs.declared.reply.Refusal.{Refusal}

@@ -1,12 +1,12 @@
 -- What a session answers to a request from a committed state, and what it leaves.
 use Rattle.std.specs.Prelude.{◌≡◌, ◌↔◌, ◌⊎◌, ◌+◌, ◌<◌, ℕ, Bool, true, List, Result, Ok, Err, IfErr}
 use Rattle.std.specs.List.{Contains}
-use Rattle.reuse_tree.specs.Asked.{OnlyReads}
-use Rattle.reuse_tree.specs.Files.{Files, Clashes}
-use Rattle.reuse_tree.specs.Tree.{undo_folder_of}
+use Rattle.reuse_store.specs.Asked.{OnlyReads}
+use Rattle.reuse_change.specs.Files.{Files, Clashes}
+use Rattle.reuse_change.specs.Tree.{undo_folder_of}
 use Rattle.reuse_tree.specs.declared.journal.head.PendingDirection.TheVariants as directions
-use Rattle.reuse_tree.specs.declared.store.Store.{Ghosts}
-use Rattle.reuse_tree.specs.declared.direction.Direction.TheVariants as go
+use Rattle.reuse_store.specs.declared.store.Store.{Ghosts}
+use Rattle.reuse_change.specs.declared.direction.Direction.TheVariants as go
 use Rattle.reuse_command.specs.Answer.{IsEarly, IsStop, HasCause, HasClash, IsNoClash, RefusedAsRead, TellsNoFault}
 use Rattle.reuse_session.specs.session.Calls.{files_of, folder_of, IsCall}
 use Rattle.reuse_journal.specs.Journal.{Recorded, State, Undoes, Redoes, rows_in}

@@ -2,23 +2,23 @@
 use Rattle.std.specs.Prelude.{◌≡◌, ◌⊎◌, ◌==◌, ◌||◌, ℕ, Bool, false, not, List, [], ◌∷◌, filter, take_while, Result, Ok, Err, IfOk, if◌then◌else◌}
 use Rattle.std.specs.List.{All, Contains, list_any}
 use Rattle.std.specs.FinMap.{get}
-use Rattle.reuse_tree.specs.Asked.{OnlyReads}
-use Rattle.reuse_tree.specs.Files.{Files}
-use Rattle.reuse_tree.specs.declared.change.Change.{Change}
-use Rattle.reuse_tree.specs.declared.store.Store.{Ghosts}
+use Rattle.reuse_store.specs.Asked.{OnlyReads}
+use Rattle.reuse_change.specs.Files.{Files}
+use Rattle.reuse_change.specs.declared.change.Change.{Change}
+use Rattle.reuse_store.specs.declared.store.Store.{Ghosts}
 use Rattle.reuse_command.specs.Answer.{IsEarly, RefusedAsRead}
 use Rattle.reuse_session.specs.session.Calls.{folder_of, LeavesRun}
-use Rattle.reuse_tree.specs.Entry.{paths_of, touches}
+use Rattle.reuse_change.specs.Entry.{paths_of, touches}
 use Rattle.reuse_journal.specs.Journal.{Recorded, Journal, State}
 use Rattle.reuse_journal.specs.JournalFiles.{entry_path, number_of, EntrySays}
-use Rattle.reuse_tree.specs.Listing.{is_among}
+use Rattle.reuse_change.specs.Listing.{is_among}
 use Rattle.reuse_session.specs.session.Machine.{Kept, Snapshots, ran_by}
 use Rattle.reuse_session.specs.session.Session.{store_of, StandsOn, StandsAt, Follows, IsRun, Runs}
 use Rattle.reuse_session.specs.session.Showing.{IsUnused, LedTo}
-use Rattle.reuse_tree.specs.Tree.{changed_paths}
+use Rattle.reuse_change.specs.Tree.{changed_paths}
 use Rattle.reuse_command.specs.declared.command.Command.{Command}
 use Rattle.reuse_command.specs.declared.command.Command.TheVariants.{Revert}
-use Rattle.reuse_tree.specs.declared.journal.entry.Entry.{Entry}
+use Rattle.reuse_json.specs.declared.entry.Entry.{Entry}
 use Rattle.reuse_command.specs.declared.reply.Refusal.{Refusal}
 use Rattle.reuse_command.specs.declared.reply.Refusal.TheVariants.{NoSuchStep}
 use Rattle.reuse_command.specs.declared.reply.Response.{Response}

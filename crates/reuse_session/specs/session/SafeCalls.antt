@@ -1,6 +1,6 @@
 -- What a loss of power may leave after a call of a session.
 use Rattle.std.specs.Prelude.{Result}
-use Rattle.reuse_tree.specs.declared.store.Store.{Ghosts}
+use Rattle.reuse_store.specs.declared.store.Store.{Ghosts}
 use Rattle.reuse_journal.specs.Journal.{State}
 use Rattle.reuse_command.specs.declared.reply.Response.{Response}
 use Rattle.reuse_command.specs.declared.reply.Refusal.{Refusal}

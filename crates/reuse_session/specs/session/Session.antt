@@ -1,9 +1,9 @@
 -- When a session stands at a state of the machine.
 use Rattle.std.specs.Prelude.{◌≡◌, ℕ, ◌+◌, ◌≤◌, Bool, true, false, List, [], ◌∷◌, length, Result, Ok, Err}
-use Rattle.reuse_tree.specs.Files.{Files, AreFiles}
+use Rattle.reuse_change.specs.Files.{Files, AreFiles}
 use Rattle.reuse_command.specs.Command.{name_of}
-use Rattle.reuse_tree.specs.Entry.{IsEntry, LeadsAll}
-use Rattle.reuse_tree.specs.declared.change.Change.{Change}
+use Rattle.reuse_change.specs.Entry.{IsEntry, LeadsAll}
+use Rattle.reuse_change.specs.declared.change.Change.{Change}
 use Rattle.reuse_command.specs.declared.reply.Refusal.TheVariants.{JournalFull}
 use Rattle.reuse_journal.specs.History.{Memory}
 use Rattle.reuse_journal.specs.Journal.{Recorded, State}
@@ -13,9 +13,9 @@ use Rattle.reuse_journal.specs.Labels.{is_full}
 use Rattle.reuse_plan.specs.Outcome.{edits_of, outcome_of}
 use Rattle.reuse_plan.specs.Plan.{IsPlan, Records}
 use Rattle.reuse_journal.specs.Standing.{IsStanding, IsStep, InDoubt}
-use Rattle.reuse_tree.specs.Tree.{changed_paths}
+use Rattle.reuse_change.specs.Tree.{changed_paths}
 use Rattle.reuse_command.specs.declared.command.Command.{Command}
-use Rattle.reuse_tree.specs.declared.journal.entry.Entry.{Entry}
+use Rattle.reuse_json.specs.declared.entry.Entry.{Entry}
 use Rattle.reuse_tree.specs.declared.journal.head.Pending.{Pending}
 use Rattle.reuse_tree.specs.declared.journal.head.PendingDirection.{PendingDirection}
 use Rattle.reuse_tree.specs.declared.journal.head.PendingDirection.TheVariants as directions

@@ -1,9 +1,9 @@
 -- Steps by their numbers, and what a session shows of one.
 use Rattle.std.specs.Prelude.{◌≡◌, ◌≢◌, ◌⊎◌, ℕ, Bool, true, false, List, [], ◌∷◌, length, Result, Ok, Err}
 use Rattle.std.specs.List.{All, Contains}
-use Rattle.reuse_tree.specs.Files.{Files}
-use Rattle.reuse_tree.specs.declared.change.Change.{Change}
-use Rattle.reuse_tree.specs.Entry.{IsEntry, LeadsAll}
+use Rattle.reuse_change.specs.Files.{Files}
+use Rattle.reuse_change.specs.declared.change.Change.{Change}
+use Rattle.reuse_change.specs.Entry.{IsEntry, LeadsAll}
 use Rattle.reuse_journal.specs.Journal.{Recorded, Journal}
 use Rattle.reuse_journal.specs.JournalFiles.{number_of}
 use Rattle.reuse_session.specs.session.Machine.{Kept, Snapshots, rows_of}

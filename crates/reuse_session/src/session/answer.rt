@@ -3,10 +3,11 @@ ghost use Rattle.std.specs.Prelude.{◌≡◌, ◌↔◌, true};
 ghost use Rattle.reuse_session.specs.session.Requests.{as_answer};
 
 use crate::session::Session;
+use reuse_change::Moment;
 use reuse_command::path_outcome::PathOutcomes;
 use reuse_command::reply::{Answer, Refusal, Response, Reverted, Rows, Shown};
 use reuse_command::request::{Call, Request};
-use reuse_tree::{Moment, Store};
+use reuse_store::Store;
 use std::alloc::Global;
 
 impl<S: Store + Drop> Session<S> {

@@ -6,8 +6,8 @@
 ghost use Rattle.std.specs.Prelude.{◌≡◌, ◌≢◌, ◌↔◌, ◌⊎◌, ◌<◌, ◌≤◌, ◌+◌, ℕ, List, [], None, Some, false, true, IfOk, IfErr, OnOk, OnErr, IsErrOf, length, map, reverse, take};
 ghost use Rattle.std.specs.List.{Contains};
 ghost use Rattle.std.specs.List.Sorted.{IsStrictlyIncreasing};
-ghost use Rattle.reuse_tree.specs.Asked.{Leaves, IsLater};
-ghost use Rattle.reuse_tree.specs.Files.{Files, Clashes, tree_of};
+ghost use Rattle.reuse_store.specs.Asked.{Leaves, IsLater};
+ghost use Rattle.reuse_change.specs.Files.{Files, Clashes, tree_of};
 ghost use Rattle.reuse_session.specs.session.Forgetting.{AreInOrder, PutsAndRemoves, PutsAndRemovesSome, Removes, RemovesSome};
 ghost use Rattle.reuse_journal.specs.Numbered.{memory_besides};
 ghost use Rattle.reuse_journal.specs.History.{head_listing};
@@ -17,11 +17,12 @@ ghost use Rattle.reuse_journal.specs.JournalFiles.{head_path, entry_path};
 ghost use Rattle.reuse_journal.specs.Losses.{HaveTree};
 
 use crate::session::Session;
+use reuse_change::{EntryNumbers, PathText};
 use reuse_command::failure::Failure;
 use reuse_command::reply::Refusal;
 use reuse_journal::files::{HeadPath, entry_path, put_head};
 use reuse_journal::history::History;
-use reuse_tree::{Cause, EntryNumbers, PathText, Store};
+use reuse_store::{Cause, Store};
 use std::alloc::{AllocError, Global};
 
 impl<S: Store + Drop> Session<S> {

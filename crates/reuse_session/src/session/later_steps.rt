@@ -3,11 +3,11 @@
 ghost use Rattle.std.specs.Prelude.{◌≡◌, ◌≢◌, ◌↔◌, ◌⊎◌, ℕ, List, None, IfErr, IfOk, false, filter, map};
 ghost use Rattle.std.specs.List.{All};
 ghost use Rattle.std.specs.FinMap.{get};
-ghost use Rattle.reuse_tree.specs.Asked.{OnlyReads};
-ghost use Rattle.reuse_tree.specs.Entry.{paths_of, IsEntry};
-ghost use Rattle.reuse_tree.specs.EntryText.{HavePaths};
-ghost use Rattle.reuse_tree.specs.Tree.{undo_folder_of};
-ghost use Rattle.reuse_tree.specs.declared.journal.entry.Entry.{Entry};
+ghost use Rattle.reuse_store.specs.Asked.{OnlyReads};
+ghost use Rattle.reuse_change.specs.Entry.{paths_of, IsEntry};
+ghost use Rattle.reuse_json.specs.EntryText.{HavePaths};
+ghost use Rattle.reuse_change.specs.Tree.{undo_folder_of};
+ghost use Rattle.reuse_json.specs.declared.entry.Entry.{Entry};
 ghost use Rattle.reuse_command.specs.Answer.{IsReadRefusal, RefusedAsRead};
 ghost use Rattle.reuse_journal.specs.Journal.{Recorded, Journal};
 ghost use Rattle.reuse_journal.specs.JournalFiles.{entry_path, number_of, EntrySays, IsKeptIn, KeepsJournal};
@@ -16,12 +16,14 @@ ghost use Rattle.reuse_journal.specs.Remembered.{Remembers};
 ghost use Rattle.reuse_journal.specs.Numbered.{lists};
 
 use crate::session::revert::left_of;
+use reuse_change::{Change, PathText};
 use reuse_command::choice::PathList;
 use reuse_command::reply::Refusal;
 use reuse_journal::files::read_entry;
 use reuse_journal::history::History;
 use reuse_journal::prepare::paths_of;
-use reuse_tree::{Change, EntryChanges, PathText, Store};
+use reuse_json::EntryChanges;
+use reuse_store::Store;
 use std::alloc::Global;
 
 // The changes of the step of this number that is done, and those of their paths that later steps

@@ -12,20 +12,21 @@ ghost use Rattle.reuse_plan.specs.Outcome.{outcome_of, edits_of};
 ghost use Rattle.reuse_plan.specs.Plan.{IsPlan, Records};
 ghost use Rattle.reuse_session.specs.session.Previews.{run_path_outcomes_on, path_outcomes_alone, PreviewsReplay, ReadsOnly, IsPreviewRefusal};
 ghost use Rattle.reuse_session.specs.session.Session.{store_of, is_broken, memory_of, StandsOn, StandsAt};
-ghost use Rattle.reuse_tree.specs.Entry.{IsEntry};
-ghost use Rattle.reuse_tree.specs.declared.direction.Direction.TheVariants as go;
+ghost use Rattle.reuse_change.specs.Entry.{IsEntry};
+ghost use Rattle.reuse_change.specs.declared.direction.Direction.TheVariants as go;
 ghost use Rattle.reuse_journal.specs.declared.history.ListedEntry.{ListedEntry};
 
 use crate::session::Session;
 use crate::session::replay::end_of;
 use crate::session::replay_path_outcomes::replay_path_outcomes;
+use reuse_change::Direction;
 use reuse_command::command::Command;
 use reuse_command::path_outcome::{PathOutcomes, Previewed};
 use reuse_command::reply::Refusal;
 use reuse_journal::files::read_entry;
 use reuse_journal::history::ListedEntry;
 use reuse_plan::run::plan_preview;
-use reuse_tree::{Direction, Store};
+use reuse_store::Store;
 use std::alloc::Global;
 
 impl<S: Store + Drop> Session<S> {

@@ -1,7 +1,7 @@
 //! A session goes one step back, or on again.
 ghost use Rattle.std.specs.Prelude.{◌≡◌, ◌↔◌, ◌⊎◌, ◌++◌, ◌∷◌, [], List, true, false, IfErr};
 ghost use Rattle.reuse_tree.specs.Head.{listed_direction};
-ghost use Rattle.reuse_tree.specs.declared.direction.Direction.TheVariants as go;
+ghost use Rattle.reuse_change.specs.declared.direction.Direction.TheVariants as go;
 ghost use Rattle.reuse_command.specs.Answer.{TellsNoFault, IsOpenRefusal};
 ghost use Rattle.reuse_session.specs.session.Calls.{IsCall, LeavesReplay};
 ghost use Rattle.reuse_journal.specs.History.{entries_ahead};
@@ -13,11 +13,13 @@ ghost use Rattle.reuse_session.specs.session.Session.{store_of, is_broken, memor
 ghost use Rattle.reuse_journal.specs.declared.history.ListedEntry.{ListedEntry};
 
 use crate::session::Session;
+use reuse_change::Direction;
 use reuse_command::reply::{Paths, Refusal, Response};
 use reuse_journal::files::read_entry;
 use reuse_journal::history::ListedEntry;
 use reuse_journal::prepare::prepare;
-use reuse_tree::{Direction, Pending, PendingDirection, Store};
+use reuse_store::Store;
+use reuse_tree::{Pending, PendingDirection};
 use std::alloc::Global;
 
 impl<S: Store + Drop> Session<S> {

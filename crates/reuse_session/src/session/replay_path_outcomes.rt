@@ -1,16 +1,17 @@
 //! What an undo or a redo would do, path by path.
 ghost use Rattle.std.specs.Prelude.{◌≡◌, IfOk, IfErr, true};
-ghost use Rattle.reuse_tree.specs.Change.{path_of, IsProper};
-ghost use Rattle.reuse_tree.specs.Entry.{IsEntry, IsSmall};
-ghost use Rattle.reuse_tree.specs.Tree.{is_of_tree};
+ghost use Rattle.reuse_change.specs.Change.{path_of, IsProper};
+ghost use Rattle.reuse_change.specs.Entry.{IsEntry, IsSmall};
+ghost use Rattle.reuse_change.specs.Tree.{is_of_tree};
 ghost use Rattle.reuse_plan.specs.PathOutcomes.{IsPathOutcomeOf, ArePathOutcomesOf};
 ghost use Rattle.reuse_command.specs.Answer.{IsEarlyFailure};
 ghost use Rattle.reuse_command.specs.Reading.{tree_of, OnlyReads, ReadsAlone, RefusedAsRead};
 
+use reuse_change::{Change, Direction};
 use reuse_command::path_outcome::{PathOutcome, PathOutcomes};
 use reuse_command::reply::Refusal;
-use reuse_tree::apply_changes::can_be_made;
-use reuse_tree::{Change, Direction, Store};
+use reuse_store::Store;
+use reuse_store::apply_changes::can_be_made;
 use std::alloc::Global;
 
 /// The path outcomes of the changes of an entry, gone through this way: each path changes, or is

@@ -1,19 +1,20 @@
 //! A session takes a step back that need not be the last.
 ghost use Rattle.std.specs.Prelude.{◌≡◌, ◌↔◌, ◌⊎◌, length, not, IfErr, IfOk, true, false};
 ghost use Rattle.reuse_command.specs.Answer.{IsRunAnswer};
-ghost use Rattle.reuse_tree.specs.Listing.{ArePaths, is_among};
+ghost use Rattle.reuse_change.specs.Listing.{ArePaths, is_among};
 ghost use Rattle.reuse_session.specs.session.RevertCalls.{as_run, left_of};
 
 use crate::session::Session;
 use crate::session::later_steps::read_back;
+use reuse_change::{Moment, PathText, is_among};
 use reuse_command::command::Command;
 use reuse_command::reply::{Paths, Refusal, Response, Reverted};
 use reuse_journal::prepare::paths_of;
-use reuse_tree::{Moment, PathText, Store, is_among};
+use reuse_store::Store;
 use std::alloc::Global;
 
 impl<S: Store + Drop> Session<S> {
-    ghost use Rattle.reuse_tree.specs.Asked.{OnlyReads};
+    ghost use Rattle.reuse_store.specs.Asked.{OnlyReads};
     ghost use Rattle.reuse_command.specs.Answer.{TellsNoFault, IsNoClash, IsNoStep};
     ghost use Rattle.reuse_session.specs.session.Calls.{IsCall};
     ghost use Rattle.reuse_journal.specs.Journal.{State};

@@ -4,11 +4,12 @@ ghost use Rattle.std.specs.Prelude.{◌≡◌, ◌↔◌, ◌||◌, true, false,
 use crate::session::Session;
 use reuse_command::reply::{Refusal, Shown};
 use reuse_journal::files::read_entry;
-use reuse_tree::{EntryChanges, Store};
+use reuse_json::EntryChanges;
+use reuse_store::Store;
 use std::alloc::Global;
 
 impl<S: Store + Drop> Session<S> {
-    ghost use Rattle.reuse_tree.specs.Asked.{OnlyReads};
+    ghost use Rattle.reuse_store.specs.Asked.{OnlyReads};
     ghost use Rattle.reuse_command.specs.Answer.{TellsNoFault, RefusedAsRead};
     ghost use Rattle.reuse_session.specs.session.Calls.{IsCall};
     ghost use Rattle.reuse_journal.specs.Journal.{State};

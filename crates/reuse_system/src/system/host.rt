@@ -13,7 +13,7 @@ use crate::system::make_file::make_file;
 use crate::system::open_file::open_file;
 use crate::system::record::{CallKind, SystemRecord};
 use crate::system::{Aside, OpenedFile, System};
-use reuse_tree::Reading;
+use reuse_store::Reading;
 use std::alloc::Global;
 use std::fs::{self, File};
 use std::io::{self, ErrorKind, Write};

@@ -8,7 +8,7 @@ ghost use Rattle.reuse_system.specs.SystemCall.SystemCall.{ReadCall};
 
 use crate::fault::FolderFault;
 use crate::place::{Found, Identity};
-use reuse_tree::Reading;
+use reuse_store::Reading;
 use std::marker::{Model, PhantomData};
 
 /// Which call was made, on which folders or on which of the files that were made, and whether it

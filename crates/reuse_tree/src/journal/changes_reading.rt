@@ -6,17 +6,15 @@ ghost use Rattle.json.specs.Json.{items, members, value};
 ghost use Rattle.serde_json.specs.Data.{Data, Items, Members, no_members, object};
 ghost use Rattle.serde_json.specs.Read.{converted, of_items, of_json, of_members};
 ghost use Rattle.serde_json.specs.View.{view};
-ghost use Rattle.reuse_tree.specs.EntryReading.{change_in, changes_in, if_few_changes, listed_in, with_next};
-ghost use Rattle.reuse_tree.specs.Json.{IsJson};
-ghost use Rattle.reuse_tree.specs.JsonReading.{read_items};
+ghost use Rattle.reuse_json.specs.EntryReading.{change_in, changes_in, if_few_changes, listed_in, with_next};
+ghost use Rattle.reuse_json.specs.Json.{IsJson};
+ghost use Rattle.reuse_json.specs.JsonReading.{read_items};
 
-use crate::change::Change;
 use crate::journal::entry_reading::change_of;
-use crate::journal::entry_size::MOST_CHANGES;
-use crate::journal::fault::DecodeFault;
-use crate::journal::room::Room;
-use crate::journal::trimmed::{DEEPEST, read, read_from};
 use json::{Reader, Scratch, Token};
+use reuse_change::{Change, MOST_CHANGES};
+use reuse_json::trimmed::{DEEPEST, read, read_from};
+use reuse_json::{DecodeFault, Room};
 use serde_json::Value;
 use std::alloc::Global;
 

@@ -5,17 +5,14 @@ ghost use Rattle.std.specs.Ordering.{is_lt, nat_cmp};
 ghost use Rattle.std.specs.declared.cmp.Ordering.TheVariants.{Less};
 ghost use Rattle.std.specs.Cmp.Lexicographic.{slice_cmp};
 ghost use Rattle.std.specs.List.Sorted.{IsPartitionPoint, IsStrictlySortedBy};
-ghost use Rattle.reuse_tree.specs.Change.{path_of, IsProper};
-ghost use Rattle.reuse_tree.specs.Path.{is_path};
-ghost use Rattle.reuse_tree.specs.Entry.{paths_of, HasOwnDigest, IsSmall};
+ghost use Rattle.reuse_change.specs.Change.{path_of, IsProper};
+ghost use Rattle.reuse_change.specs.Path.{is_path};
+ghost use Rattle.reuse_change.specs.Entry.{paths_of, HasOwnDigest, IsSmall};
 ghost use Rattle.reuse_tree.specs.EntryTests.{AreApart, IsSoundChange, Passes};
-ghost use Rattle.reuse_tree.specs.Listing.{is_folder_of};
-ghost use Rattle.reuse_tree.specs.Tree.{is_of_tree};
+ghost use Rattle.reuse_change.specs.Listing.{is_folder_of};
+ghost use Rattle.reuse_change.specs.Tree.{is_of_tree};
 
-use crate::change::Change;
-use crate::digest::Digest;
-use crate::journal::entry_size::is_too_many;
-use crate::path::PathText;
+use reuse_change::{Change, Digest, PathText, is_too_many};
 use reuse_text::LONGEST_FILE;
 
 /// Whether an entry may have these changes.

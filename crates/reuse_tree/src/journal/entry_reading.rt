@@ -2,30 +2,24 @@
 ghost use Rattle.std.specs.Prelude.{◌≡◌, ◌≤◌, None, Some, IfOk, codes, length};
 ghost use Rattle.serde_json.specs.Data.{Data};
 ghost use Rattle.serde_json.specs.View.{view, members_view};
-ghost use Rattle.reuse_tree.specs.Decoded.{Gives, GivesBy, IsAnswer};
-ghost use Rattle.reuse_tree.specs.EntryText.{HavePaths, IsGoodEntry, IsJsonEntry};
-ghost use Rattle.reuse_tree.specs.EntryReading.{change_in, command_from, command_in, drop_in, frame_in, if_known, make_in, seal_of, splice_bytes_in, splice_end_in, splice_in, whole_in};
-ghost use Rattle.reuse_tree.specs.Json.{IsJson};
-ghost use Rattle.reuse_tree.specs.JsonReading.{field_in};
-ghost use Rattle.reuse_tree.specs.Trimmed.{trim};
-ghost use Rattle.reuse_tree.specs.declared.journal.entry.Entry.{Entry};
+ghost use Rattle.reuse_json.specs.Decoded.{Gives, GivesBy, IsAnswer};
+ghost use Rattle.reuse_json.specs.EntryText.{HavePaths, IsGoodEntry, IsJsonEntry};
+ghost use Rattle.reuse_json.specs.EntryReading.{change_in, command_from, command_in, drop_in, frame_in, if_known, make_in, seal_of, splice_bytes_in, splice_end_in, splice_in, whole_in};
+ghost use Rattle.reuse_json.specs.Json.{IsJson};
+ghost use Rattle.reuse_json.specs.JsonReading.{field_in};
+ghost use Rattle.reuse_json.specs.Trimmed.{trim};
+ghost use Rattle.reuse_json.specs.declared.entry.Entry.{Entry};
 
-use crate::change::Change;
-use crate::command_name::CommandName;
-use crate::digest::{Digest, Seal};
 use crate::journal::changes_reading::read_changes;
-use crate::journal::entry::{Changes, Entry};
 use crate::journal::entry_checks::are_sound;
-use crate::journal::fault::DecodeFault;
-use crate::journal::fields::{
+use crate::journal::written_entry::{knows, read_written};
+use reuse_change::{Change, CommandName, Digest, Moment, PathText, Seal};
+use reuse_json::fields::{
     Fields, expect_next, field, fields, finish, moment_of, next_bytes, next_digest, next_format,
     next_number, next_path, text_of,
 };
-use crate::journal::room::Room;
-use crate::journal::trimmed::parse_trimmed;
-use crate::journal::written_entry::{knows, read_written};
-use crate::moment::Moment;
-use crate::path::PathText;
+use reuse_json::trimmed::parse_trimmed;
+use reuse_json::{Changes, DecodeFault, Entry, Room};
 use reuse_text::Bytes;
 use serde_json::Value;
 use std::alloc::Global;
@@ -88,7 +82,7 @@ fn read_frame(alloc: Global, text: &[u8]) -> Result<(CommandName, bool, Moment),
     frame_of(&value)
 }
 
-#[tactic(auto, unfolding(crate::specs::EntryReading::frame_in))]
+#[tactic(auto, unfolding(reuse_json::specs::EntryReading::frame_in))]
 fn frame_of(value: &Value) -> Result<(CommandName, bool, Moment), DecodeFault>
     ensures { Gives result (frame_in (view value.now)) }
 {
@@ -138,7 +132,7 @@ fn expect_known(sealed: bool, command: CommandName) -> Result<(), DecodeFault>
 }
 
 /// The change that the value is.
-#[tactic(auto, unfolding(crate::specs::EntryReading::change_in))]
+#[tactic(auto, unfolding(reuse_json::specs::EntryReading::change_in))]
 pub(crate) fn change_of(alloc: Global, value: &Value, sealed: bool) -> Result<Change, DecodeFault>
     ensures { Gives result (change_in sealed (view value.now)) }
 {
@@ -155,7 +149,7 @@ pub(crate) fn change_of(alloc: Global, value: &Value, sealed: bool) -> Result<Ch
     }
 }
 
-#[tactic(auto, unfolding(crate::specs::EntryReading::make_in))]
+#[tactic(auto, unfolding(reuse_json::specs::EntryReading::make_in))]
 fn make_of(alloc: Global, value: &Value, sealed: bool) -> Result<Change, DecodeFault>
     ensures { Gives result (make_in sealed (view value.now)) }
 {
@@ -163,7 +157,7 @@ fn make_of(alloc: Global, value: &Value, sealed: bool) -> Result<Change, DecodeF
     Ok(Change::Make { path, new, after })
 }
 
-#[tactic(auto, unfolding(crate::specs::EntryReading::drop_in))]
+#[tactic(auto, unfolding(reuse_json::specs::EntryReading::drop_in))]
 fn drop_of(alloc: Global, value: &Value, sealed: bool) -> Result<Change, DecodeFault>
     ensures { Gives result (drop_in sealed (view value.now)) }
 {
@@ -173,7 +167,7 @@ fn drop_of(alloc: Global, value: &Value, sealed: bool) -> Result<Change, DecodeF
 
 // Of a whole file that is made or removed: the path, the bytes under this name, and the digest
 // under this key.
-#[tactic(auto, unfolding(crate::specs::EntryReading::whole_in))]
+#[tactic(auto, unfolding(reuse_json::specs::EntryReading::whole_in))]
 fn whole_of(
     alloc: Global,
     value: &Value,
@@ -193,7 +187,7 @@ fn whole_of(
     Ok((path, bytes, digest))
 }
 
-#[tactic(auto, unfolding(crate::specs::EntryReading::splice_in))]
+#[tactic(auto, unfolding(reuse_json::specs::EntryReading::splice_in))]
 fn splice_of(alloc: Global, value: &Value, sealed: bool) -> Result<Change, DecodeFault>
     ensures { Gives result (splice_in sealed (view value.now)) }
 {
@@ -205,7 +199,7 @@ fn splice_of(alloc: Global, value: &Value, sealed: bool) -> Result<Change, Decod
 }
 
 // Of a splice: from the kind on.
-#[tactic(auto, unfolding(crate::specs::EntryReading::splice_bytes_in))]
+#[tactic(auto, unfolding(reuse_json::specs::EntryReading::splice_bytes_in))]
 fn splice_bytes_of(
     alloc: Global,
     mut members: Fields<'_>,
@@ -221,7 +215,7 @@ fn splice_bytes_of(
 }
 
 // Of a splice: from the path on.
-#[tactic(auto, unfolding(crate::specs::EntryReading::splice_end_in))]
+#[tactic(auto, unfolding(reuse_json::specs::EntryReading::splice_end_in))]
 fn splice_end_of(
     alloc: Global,
     mut members: Fields<'_>,

@@ -3,17 +3,14 @@ ghost use Rattle.std.specs.Prelude.{◌≡◌, ◌≤◌, ◌++◌, true, Some, 
 ghost use Rattle.std.specs.List.{All, join_with_byte};
 ghost use Rattle.std.specs.Option.{option_map};
 ghost use Rattle.hex.specs.Hex.{IsBytes};
-ghost use Rattle.reuse_tree.specs.Entry.{entry_size, IsEntry};
-ghost use Rattle.reuse_tree.specs.declared.change.Change.TheVariants.{Splice};
-ghost use Rattle.reuse_tree.specs.EntryText.{command_name, change_text, entry_text, comma_before, is_any_sealed, whole_text, AreDigestBytes, IsChangeInMemory, IsGoodEntry};
-ghost use Rattle.reuse_tree.specs.Format.{format_number, knows};
+ghost use Rattle.reuse_change.specs.Entry.{entry_size, IsEntry};
+ghost use Rattle.reuse_change.specs.declared.change.Change.TheVariants.{Splice};
+ghost use Rattle.reuse_json.specs.EntryText.{command_name, change_text, entry_text, comma_before, is_any_sealed, whole_text, AreDigestBytes, IsChangeInMemory, IsGoodEntry};
+ghost use Rattle.reuse_json.specs.Format.{format_number, knows};
 
-use crate::change::Change;
-use crate::command_name::CommandName;
-use crate::digest::{Digest, Seal};
-use crate::journal::entry::Entry;
-use crate::journal::json_writing::{append_digest, append_hex, append_number, append_string};
-use crate::path::PathText;
+use reuse_change::{Change, CommandName, Digest, PathText, Seal};
+use reuse_json::Entry;
+use reuse_json::json_writing::{append_digest, append_hex, append_number, append_string};
 use std::alloc::{AllocError, Global};
 
 /// The compact JSON text of an entry.

@@ -1,8 +1,7 @@
 //! The head of the journal.
 ghost use Rattle.std.specs.Prelude.{◌≡◌};
 
-use crate::direction::Direction;
-use crate::journal::numbers::EntryNumbers;
+use reuse_change::{Direction, EntryNumbers};
 
 /// Which way an entry is being applied.
 #[derive(Clone, Copy, Debug, PartialEq, Eq)]

@@ -1,19 +1,16 @@
 //! The head as text, and back.
 ghost use Rattle.std.specs.Prelude.{◌≡◌, ◌≢◌, ◌≤◌, ◌+◌, ◌*◌, ◌↔◌, true, AllPairs, IfOk, IsTrue, length};
 ghost use Rattle.serde_json.specs.View.{view};
-ghost use Rattle.reuse_tree.specs.Decoded.{Gives, IsAnswer};
+ghost use Rattle.reuse_json.specs.Decoded.{Gives, IsAnswer};
 ghost use Rattle.reuse_tree.specs.Head.{head_text, listed, head_value, pending_value as value_of_pending, IsGoodHead, IsJsonHead, IsSoundHead, PendingFits};
 ghost use Rattle.reuse_tree.specs.HeadReading.{head_in, pending_in, some_pending_in, direction_from};
-ghost use Rattle.reuse_tree.specs.Json.{counts};
+ghost use Rattle.reuse_json.specs.Json.{counts};
 ghost use Rattle.reuse_tree.specs.declared.journal.head.Head.{Head};
 
-use crate::journal::fault::DecodeFault;
-use crate::journal::fields::{
-    field, fields, finish, next_format, next_numbers, next_small, text_of,
-};
 use crate::journal::head::{Head, Pending, PendingDirection};
-use crate::journal::room::Room;
-use crate::journal::trimmed::parse_trimmed;
+use reuse_json::fields::{field, fields, finish, next_format, next_numbers, next_small, text_of};
+use reuse_json::trimmed::parse_trimmed;
+use reuse_json::{DecodeFault, Room};
 use reuse_text::LONGEST_FILE;
 use serde_json::{Value, json};
 use std::alloc::{AllocError, Global};

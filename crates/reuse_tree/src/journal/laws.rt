@@ -2,10 +2,10 @@
 //! value at most. With what decoding ensures, a value that was encoded is decoded again.
 ghost use Rattle.std.specs.Prelude.{◌≡◌, ◌≤◌, ◌+◌, ◌*◌, List, ℕ, length};
 ghost use Rattle.reuse_tree.specs.Head.{head_text, listed, IsGoodHead, IsSoundHead};
-ghost use Rattle.reuse_tree.specs.Entry.{entry_size};
-ghost use Rattle.reuse_tree.specs.EntryText.{entry_text, IsGoodEntry, IsSoundEntry};
+ghost use Rattle.reuse_change.specs.Entry.{entry_size};
+ghost use Rattle.reuse_json.specs.EntryText.{entry_text, IsGoodEntry, IsSoundEntry};
 ghost use Rattle.reuse_tree.specs.declared.journal.head.Head.{Head};
-ghost use Rattle.reuse_tree.specs.declared.journal.entry.Entry.{Entry};
+ghost use Rattle.reuse_json.specs.declared.entry.Entry.{Entry};
 
 /// The text of a sound head is good, and stands for that head alone.
 pub fn written_heads_are_good()

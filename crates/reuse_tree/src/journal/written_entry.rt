@@ -2,21 +2,15 @@
 ghost use Rattle.std.specs.Prelude.{◌≡◌, ◌++◌, ◌≤◌, ◌<◌, ◌↔◌, IfOk, OnOk, IsTrue, Some, true, codes, decimal, length, map};
 ghost use Rattle.std.specs.List.{All, join_with_byte};
 ghost use Rattle.std.specs.Option.{option_map};
-ghost use Rattle.reuse_tree.specs.declared.digest.Seal.{Seal};
-ghost use Rattle.reuse_tree.specs.Entry.{AreAllSealed};
+ghost use Rattle.reuse_change.specs.declared.digest.Seal.{Seal};
+ghost use Rattle.reuse_change.specs.Entry.{AreAllSealed};
 ghost use Rattle.reuse_tree.specs.EntryTests.{Passes};
-ghost use Rattle.reuse_tree.specs.EntryText.{change_text, command_name, digest_text, AreDigestBytes, IsChangeInMemory, IsGoodEntry};
-ghost use Rattle.reuse_tree.specs.Format.{format_number, knows};
+ghost use Rattle.reuse_json.specs.EntryText.{change_text, command_name, digest_text, AreDigestBytes, IsChangeInMemory, IsGoodEntry};
+ghost use Rattle.reuse_json.specs.Format.{format_number, knows};
 
-use crate::change::Change;
-use crate::command_name::CommandName;
-use crate::digest::{Digest, Seal};
-use crate::journal::entry::{Changes, Entry};
 use crate::journal::entry_checks::are_sound;
-use crate::journal::entry_size::MOST_CHANGES;
-use crate::journal::fault::DecodeFault;
-use crate::journal::written_text::WrittenText;
-use crate::moment::Moment;
+use reuse_change::{Change, CommandName, Digest, MOST_CHANGES, Moment, Seal};
+use reuse_json::{Changes, DecodeFault, Entry, WrittenText};
 use std::alloc::Global;
 
 /// The entry that a text stands for, where this program wrote it so. Any other spelling is

@@ -1,8 +1,8 @@
 -- What carrying out what a line asks for answers and leaves, on a store and what the answer is written to.
 use Rattle.std.specs.Prelude.{◌≡◌, ◌<◌, ◌≤◌, ℕ, Bool, List, Result, IfOk}
-use Rattle.reuse_tree.specs.Asked.{OnlyReads}
-use Rattle.reuse_tree.specs.Files.{Files}
-use Rattle.reuse_tree.specs.declared.store.Store.{Ghosts}
+use Rattle.reuse_store.specs.Asked.{OnlyReads}
+use Rattle.reuse_change.specs.Files.{Files}
+use Rattle.reuse_store.specs.declared.store.Store.{Ghosts}
 use Rattle.reuse_command.specs.Answer.{HasCause}
 use Rattle.reuse_journal.specs.Journal.{State}
 use Rattle.reuse_session.specs.session.Machine.{Snapshots}

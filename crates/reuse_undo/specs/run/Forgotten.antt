@@ -2,7 +2,7 @@
 use Rattle.std.specs.Prelude.{◌≡◌, ◌⊎◌, ℕ, List, [], ◌∷◌, ◌++◌, length, Some, Result, Ok, Err, codes}
 use Rattle.std.specs.Fmt.{decimal}
 use Rattle.std.specs.List.{flat_map}
-use Rattle.reuse_tree.specs.Files.{Files}
+use Rattle.reuse_change.specs.Files.{Files}
 use Rattle.reuse_session.specs.session.Forgetting.{first_absent, numbers_in, state_besides, Forgets}
 use Rattle.reuse_journal.specs.Journal.{Journal, State}
 use Rattle.reuse_journal.specs.Opening.{OpensOn}

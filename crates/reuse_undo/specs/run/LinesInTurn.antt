@@ -1,6 +1,6 @@
 -- Lines that are carried out one after the other, each of which may be stopped.
 use Rattle.std.specs.Prelude.{◌≡◌, ℕ, Bool, List, [], ◌∷◌, Result}
-use Rattle.reuse_tree.specs.declared.store.Store.{Ghosts}
+use Rattle.reuse_store.specs.declared.store.Store.{Ghosts}
 use Rattle.reuse_session.specs.session.Stops.{Point}
 use Rattle.reuse_undo.specs.run.AfterStops.{AnswersAfterStop}
 use Rattle.reuse_undo.specs.run.CarriedOut.{CarriesOut}

@@ -1,7 +1,7 @@
 -- What recovering prints and leaves.
 use Rattle.std.specs.Prelude.{◌≡◌, ℕ, Bool, List, [], ◌∷◌, ◌++◌, length, Result, Ok, Err, codes}
-use Rattle.reuse_tree.specs.Files.{Files}
-use Rattle.reuse_tree.specs.declared.cause.Cause.{Cause}
+use Rattle.reuse_change.specs.Files.{Files}
+use Rattle.reuse_store.specs.declared.cause.Cause.{Cause}
 use Rattle.reuse_command.specs.Answer.{IsEarly, IsOpenRefusal, TellsNoFault}
 use Rattle.reuse_journal.specs.Recovery.{RecoversFiles, RefusesRecovery, StopsRecovering}
 use Rattle.reuse_command.specs.declared.reply.Recovered.{Recovered}

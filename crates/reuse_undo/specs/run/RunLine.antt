@@ -1,8 +1,8 @@
 -- What comes of what a line asks a session for.
 use Rattle.std.specs.Prelude.{◌≡◌, ◌⊎◌, List, Some, ℕ, Result, Ok, Err, IfErr, true}
-use Rattle.reuse_tree.specs.Files.{Files}
-use Rattle.reuse_tree.specs.Tree.{undo_folder_of}
-use Rattle.reuse_tree.specs.declared.cause.Cause.{Cause}
+use Rattle.reuse_change.specs.Files.{Files}
+use Rattle.reuse_change.specs.Tree.{undo_folder_of}
+use Rattle.reuse_store.specs.declared.cause.Cause.{Cause}
 use Rattle.reuse_command.specs.Answer.{IsEarly, IsFailure, IsNoClash, IsOpenRefusal}
 use Rattle.reuse_journal.specs.Journal.{State}
 use Rattle.reuse_journal.specs.JournalFiles.{head_path}

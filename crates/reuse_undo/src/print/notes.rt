@@ -8,7 +8,7 @@ use reuse_folder::Kept;
 use reuse_notice::NoticeRefusal;
 use reuse_print::fault::Fault;
 use reuse_session::{AmendFault, Failure, PathOutcome, Refusal};
-use reuse_tree::Cause;
+use reuse_store::Cause;
 use std::fmt::Display;
 
 /// Prints a note. Where standard error can't be written, there is nobody to read it.

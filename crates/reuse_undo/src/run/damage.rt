@@ -1,8 +1,9 @@
 //! What is wrong with the files of a journal, for notes.
-ghost use Rattle.reuse_tree.specs.Asked.{OnlyReads};
+ghost use Rattle.reuse_store.specs.Asked.{OnlyReads};
 
+use reuse_change::PathText;
+use reuse_store::{Reading, Store};
 use reuse_text::LONGEST_FILE;
-use reuse_tree::{PathText, Reading, Store};
 use serde_json::Value;
 use std::alloc::{AllocError, Global};
 use std::rt::Files;

@@ -2,7 +2,7 @@
 ghost use Rattle.std.specs.Prelude.{Some};
 ghost use Rattle.reuse_undo.specs.run.RefusalTexts.{denial_text};
 
-use reuse_tree::PathText;
+use reuse_change::PathText;
 use std::error::Error;
 use std::fmt;
 

@@ -1,9 +1,10 @@
 //! What is found out about a call beside its outcome, for notes.
-ghost use Rattle.reuse_tree.specs.Asked.{OnlyReads};
+ghost use Rattle.reuse_store.specs.Asked.{OnlyReads};
 
 use crate::run::above::journal_above;
 use crate::run::damage::{Damage, Headless, damage_of, is_gone, steps_without_head};
 use reuse_arguments::line::Line;
+use reuse_change::PathText;
 use reuse_dep5::{Glob, glob_matches};
 use reuse_folder::{DiskStore, Failure, Kept};
 use reuse_print::fault::Fault;
@@ -11,8 +12,8 @@ use reuse_session::{
     Call, Command, Counts, Head, PathOutcome, Refusal, Request, Scope, Session, Unknown, Unused,
     decode_head,
 };
+use reuse_store::{Reading, Store};
 use reuse_text::{Bytes, LONGEST_FILE};
-use reuse_tree::{PathText, Reading, Store};
 use std::alloc::{AllocError, Global};
 use std::fs::{self, File};
 use std::io::{self, ErrorKind};

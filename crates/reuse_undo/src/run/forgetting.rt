@@ -12,7 +12,7 @@ use reuse_arguments::line::Steps;
 use reuse_print::fault::{Fault, in_memory};
 use reuse_print::output::{Sink, write_text};
 use reuse_session::{EntryNumbers, Refusal, Session};
-use reuse_tree::Store;
+use reuse_store::Store;
 use std::alloc::Global;
 use std::io::{self, Write};
 

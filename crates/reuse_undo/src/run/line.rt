@@ -1,7 +1,7 @@
 //! Carries out on a store what a line asks for.
 ghost use Rattle.std.specs.Prelude.{◌≡◌, ◌≤◌, ◌<◌, None, IfOk, IfErr, IfSome, IsSomeAnd};
-ghost use Rattle.reuse_tree.specs.Asked.{OnlyReads};
-ghost use Rattle.reuse_tree.specs.Files.{Files, tree_of};
+ghost use Rattle.reuse_store.specs.Asked.{OnlyReads};
+ghost use Rattle.reuse_change.specs.Files.{Files, tree_of};
 ghost use Rattle.reuse_command.specs.Answer.{HasCause};
 ghost use Rattle.reuse_journal.specs.Journal.{State};
 ghost use Rattle.reuse_journal.specs.Standing.{IsStanding};
@@ -26,7 +26,7 @@ use reuse_arguments::line::{OutputFormat, PrintOptions};
 use reuse_print::fault::Fault;
 use reuse_print::output::Sink;
 use reuse_session::{Answer, Counts, Request, Session};
-use reuse_tree::Store;
+use reuse_store::Store;
 use std::alloc::Global;
 
 /// Opens a session on the store, makes the one call that is asked for, and writes the lines of its

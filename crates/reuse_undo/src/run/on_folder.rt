@@ -16,7 +16,7 @@ use reuse_print::output::Sink;
 use reuse_session::{Counts, Request};
 use reuse_shown::progress::Progress;
 use reuse_shown::shown_name::Names;
-use reuse_tree::{Store, WatchedStore};
+use reuse_store::{Store, WatchedStore};
 use std::alloc::Global;
 use std::fs::File;
 use std::rt::{Clock, Files};

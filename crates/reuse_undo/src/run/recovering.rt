@@ -9,12 +9,13 @@ ghost use Rattle.reuse_undo.specs.run.Recoveries.{recovered_text, rolled_back_te
 ghost use Rattle.reuse_undo.specs.run.RunLine.{IfRefused};
 ghost use Rattle.reuse_undo.specs.print.Responses.{ReportsFailure};
 
+use reuse_change::PathText;
 use reuse_print::fault::{Fault, in_memory};
 use reuse_print::lines::print_paths;
 use reuse_print::output::{Sink, write_text};
 use reuse_session::{Recovered, recover};
 use reuse_shown::shown_name::Names;
-use reuse_tree::{PathText, Store};
+use reuse_store::Store;
 use std::alloc::Global;
 use std::io::{self, Write};
 

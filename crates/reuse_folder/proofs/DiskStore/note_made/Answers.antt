@@ -1,6 +1,6 @@
 use Rattle.std.proofs.Common.{refl, subst}
-use Rattle.reuse_tree.specs.Asked.{IsWrite}
-use Rattle.reuse_tree.proofs.WrittenInTurn.{one_more}
+use Rattle.reuse_store.specs.Asked.{IsWrite}
+use Rattle.reuse_store.proofs.WrittenInTurn.{one_more}
 use Rattle.reuse_folder.proofs.NotedWrites.{noted}
 use Rattle.reuse_folder.proofs.DiskStore.note_made.Goals as goal
 

@@ -1,5 +1,5 @@
 use Rattle.std.proofs.Common.{take, Ok}
-use Rattle.reuse_tree.specs.Asked.{AreWrites}
+use Rattle.reuse_store.specs.Asked.{AreWrites}
 use Rattle.reuse_folder.proofs.NotedWrites.{noted}
 use Rattle.reuse_folder.proofs.DiskStore.note_made.Given as goal
 

@@ -1,11 +1,11 @@
 use Rattle.std.proofs.Common.{◌≡◌, sym, subst, arith}
 use Rattle.std.specs.Result.{MatchResult}
 use Rattle.std.proofs.lemmas.Grind.{common_steps}
-use Rattle.reuse_tree.specs.Calls.{took_effect}
-use Rattle.reuse_tree.specs.Files.{AreFiles, Clashes}
-use Rattle.reuse_tree.specs.Parts.{joined}
-use Rattle.reuse_tree.specs.declared.fault.StoreFault.TheVariants.{Clash}
-use Rattle.reuse_tree.specs.declared.record.CallRecord.{CallRecord}
+use Rattle.reuse_store.specs.Calls.{took_effect}
+use Rattle.reuse_change.specs.Files.{AreFiles, Clashes}
+use Rattle.reuse_change.specs.Parts.{joined}
+use Rattle.reuse_store.specs.declared.fault.StoreFault.TheVariants.{Clash}
+use Rattle.reuse_store.specs.declared.record.CallRecord.{CallRecord}
 use Rattle.reuse_folder.specs.Honesty.{files_of, IsHonest, MayBeLeft}
 use Rattle.reuse_folder.proofs.HonestFiles.{after_put}
 use Rattle.reuse_folder.proofs.PutKept.{put_kept}

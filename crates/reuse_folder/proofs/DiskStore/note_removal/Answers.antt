@@ -1,6 +1,6 @@
 use Rattle.std.proofs.Common.{subst, arith}
 use Rattle.std.proofs.lemmas.Grind.{common_steps}
-use Rattle.reuse_tree.specs.declared.record.CallRecord.{CallRecord}
+use Rattle.reuse_store.specs.declared.record.CallRecord.{CallRecord}
 use Rattle.reuse_folder.specs.Honesty.{MayBeLeft}
 use Rattle.reuse_folder.proofs.DiskStore.note_removal.Goals as goal
 

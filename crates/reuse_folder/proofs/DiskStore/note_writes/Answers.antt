@@ -1,6 +1,6 @@
 use Rattle.std.proofs.Common.{◌<◌, IfErr, length, sym, subst}
-use Rattle.reuse_tree.specs.Asked.{IsWrite, AreWrites}
-use Rattle.reuse_tree.proofs.WrittenInTurn.{next_fails}
+use Rattle.reuse_store.specs.Asked.{IsWrite, AreWrites}
+use Rattle.reuse_store.proofs.WrittenInTurn.{next_fails}
 use Rattle.reuse_system.specs.FolderFault.{fault_of_store}
 use Rattle.reuse_folder.proofs.NotedWrites.{noted}
 use Rattle.reuse_folder.proofs.DiskStore.note_writes.Goals as goal

@@ -1,7 +1,7 @@
 use Rattle.std.proofs.Common.{◌≡◌, ◌≢◌, MatchResult, sym, subst}
-use Rattle.reuse_tree.specs.Listing.{listed_paths}
-use Rattle.reuse_tree.specs.declared.fault.StoreFault.TheVariants.{Clash}
-use Rattle.reuse_tree.specs.declared.record.CallRecord.{CallRecord}
+use Rattle.reuse_change.specs.Listing.{listed_paths}
+use Rattle.reuse_store.specs.declared.fault.StoreFault.TheVariants.{Clash}
+use Rattle.reuse_store.specs.declared.record.CallRecord.{CallRecord}
 use Rattle.reuse_folder.specs.Honesty.{files_of, IsHonest}
 use Rattle.reuse_folder.proofs.PrunedFolders.{listing_kept, listing_paths}
 use Rattle.reuse_folder.proofs.DiskStoreStore.list.Goals as goal

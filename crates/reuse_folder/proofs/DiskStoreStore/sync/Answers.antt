@@ -1,8 +1,8 @@
 use Rattle.std.proofs.Common.{sym, subst, arith, OnOk}
 use Rattle.std.proofs.lemmas.Grind.{common_steps}
-use Rattle.reuse_tree.specs.Files.{Files}
-use Rattle.reuse_tree.specs.Lasting.{IsCertain}
-use Rattle.reuse_tree.specs.declared.record.CallRecord.{CallRecord}
+use Rattle.reuse_change.specs.Files.{Files}
+use Rattle.reuse_store.specs.Lasting.{IsCertain}
+use Rattle.reuse_store.specs.declared.record.CallRecord.{CallRecord}
 use Rattle.reuse_folder.specs.Honesty.{files_of, IsHonest, MayBeLeft}
 use Rattle.reuse_folder.proofs.LeftBySyncs.{no_more, certain}
 use Rattle.reuse_folder.proofs.DiskStoreStore.sync.Goals as goal

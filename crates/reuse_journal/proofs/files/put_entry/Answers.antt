@@ -1,19 +1,19 @@
 use Rattle.std.proofs.Common.{rules, ◌≡◌, ◌+◌, true, inl, inr, ℕ, List, Option, arith, Some, ap, refl, sym, subst, length, ◌∙◌}
 use Rattle.std.specs.FinMap.{get}
-use Rattle.reuse_tree.specs.Asked.{MaySet}
-use Rattle.reuse_tree.specs.Entry.{IsEntry}
-use Rattle.reuse_tree.specs.EntryText.{is_any_sealed}
-use Rattle.reuse_tree.specs.Format.{knows}
-use Rattle.reuse_tree.specs.Files.{Files, tree_of}
-use Rattle.reuse_tree.specs.Lasting.{WithOrWithout}
-use Rattle.reuse_tree.specs.Tree.{Sets}
-use Rattle.reuse_tree.proofs.Lasting.{may_set_by_put, set_weaker, certain_tree}
+use Rattle.reuse_store.specs.Asked.{MaySet}
+use Rattle.reuse_change.specs.Entry.{IsEntry}
+use Rattle.reuse_json.specs.EntryText.{is_any_sealed}
+use Rattle.reuse_json.specs.Format.{knows}
+use Rattle.reuse_change.specs.Files.{Files, tree_of}
+use Rattle.reuse_store.specs.Lasting.{WithOrWithout}
+use Rattle.reuse_change.specs.Tree.{Sets}
+use Rattle.reuse_store.proofs.Lasting.{may_set_by_put, set_weaker, certain_tree}
 use Rattle.reuse_journal.specs.JournalFiles.{entry_path, EntrySays}
 use Rattle.reuse_journal.specs.Remembered.{IsSameBut, HasEntryText}
 use Rattle.reuse_journal.proofs.Barriers.{IsBehind}
 use Rattle.reuse_journal.proofs.JournalLemmas.{sets_in_folder}
 use Rattle.reuse_journal.proofs.JournalReading.{put_says, put_beside, failed_beside, counted_most, counted_entry}
-use Rattle.reuse_tree.proofs.ApplyLemmas.{put_sets}
+use Rattle.reuse_store.proofs.ApplyLemmas.{put_sets}
 use Rattle.reuse_journal.proofs.files.put_entry.Given.{Over}
 use Rattle.reuse_journal.proofs.files.put_entry.Goals.{After-put, After-sync}
 use Rattle.reuse_journal.proofs.files.put_entry.Goals as goal

@@ -1,15 +1,15 @@
 use Rattle.std.proofs.Common.{rules, ◌≡◌, ◌⊎◌, inl, inr, ℕ, List, Some, OnErr, sym, subst, ◌∙◌, arith}
 use Rattle.std.proofs.lemmas.Result.{err_from_is_err_and}
-use Rattle.reuse_tree.specs.Asked.{MaySet}
-use Rattle.reuse_tree.specs.Files.{Files, tree_of}
-use Rattle.reuse_tree.specs.Lasting.{WithOrWithout}
-use Rattle.reuse_tree.specs.Tree.{Sets}
-use Rattle.reuse_tree.proofs.Lasting.{may_set_by_put, set_weaker, certain_tree}
+use Rattle.reuse_store.specs.Asked.{MaySet}
+use Rattle.reuse_change.specs.Files.{Files, tree_of}
+use Rattle.reuse_store.specs.Lasting.{WithOrWithout}
+use Rattle.reuse_change.specs.Tree.{Sets}
+use Rattle.reuse_store.proofs.Lasting.{may_set_by_put, set_weaker, certain_tree}
 use Rattle.reuse_journal.proofs.Barriers.{IsBehind}
 use Rattle.reuse_journal.proofs.HeadPuts.{head_keeps_tree}
 use Rattle.reuse_journal.specs.JournalFiles.{head_path}
 use Rattle.reuse_journal.proofs.JournalReading.{counted_head}
-use Rattle.reuse_tree.proofs.ApplyLemmas.{put_sets, put_doubt}
+use Rattle.reuse_store.proofs.ApplyLemmas.{put_sets, put_doubt}
 use Rattle.reuse_journal.proofs.files.put_head.Given.{Over}
 use Rattle.reuse_journal.proofs.files.put_head.Goals.{After-put, After-sync}
 use Rattle.reuse_journal.proofs.files.put_head.Goals as goal

@@ -1,8 +1,8 @@
 use Rattle.std.proofs.Common.{ap, refl, ◌∙◌}
 use Rattle.std.specs.FinMap.{get}
-use Rattle.reuse_tree.specs.Store.{reading_of}
+use Rattle.reuse_store.specs.Store.{reading_of}
 use Rattle.reuse_journal.specs.JournalFiles.{entry_path}
-use Rattle.reuse_tree.specs.Tree.{undo_folder_of}
+use Rattle.reuse_change.specs.Tree.{undo_folder_of}
 use Rattle.reuse_journal.proofs.JournalReading.{file_in_folder}
 use Rattle.reuse_journal.proofs.files.read_entry.Goals as goal
 

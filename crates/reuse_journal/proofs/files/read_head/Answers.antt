@@ -1,9 +1,9 @@
 use Rattle.std.proofs.Common.{ap, refl, ◌∙◌}
 use Rattle.std.specs.FinMap.{get}
-use Rattle.reuse_tree.specs.Store.{reading_of}
+use Rattle.reuse_store.specs.Store.{reading_of}
 use Rattle.reuse_text.specs.declared.TheConstants.{LONGEST_FILE}
 use Rattle.reuse_journal.specs.JournalFiles.{head_path}
-use Rattle.reuse_tree.specs.Tree.{undo_folder_of}
+use Rattle.reuse_change.specs.Tree.{undo_folder_of}
 use Rattle.reuse_journal.proofs.JournalReading.{file_in_folder}
 use Rattle.reuse_journal.proofs.files.read_head.Goals as goal
 

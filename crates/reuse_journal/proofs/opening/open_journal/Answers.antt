@@ -9,16 +9,16 @@ use Rattle.reuse_command.specs.declared.reply.Refusal.{Refusal}
 use Rattle.reuse_command.specs.declared.failure.Failure.TheVariants.{Interrupted}
 use Rattle.reuse_command.specs.declared.reply.Refusal.TheVariants.{BadJournal, Moved, Failed}
 use Rattle.reuse_journal.specs.Losses.{AreSafeOn, AreInDoubt}
-use Rattle.reuse_tree.specs.declared.store.Store.{Ghosts}
-use Rattle.reuse_tree.specs.Asked.{OnlyReads}
-use Rattle.reuse_tree.proofs.AskedLemmas.{reads_more, later_reads, later_more}
+use Rattle.reuse_store.specs.declared.store.Store.{Ghosts}
+use Rattle.reuse_store.specs.Asked.{OnlyReads}
+use Rattle.reuse_store.proofs.AskedLemmas.{reads_more, later_reads, later_more}
 use Rattle.std.specs.FinMap as map
 use Rattle.reuse_tree.specs.Head.{listed}
 use Rattle.reuse_tree.specs.declared.journal.head.Head.{Head}
-use Rattle.reuse_tree.specs.declared.journal.entry.Entry.{Entry}
+use Rattle.reuse_json.specs.declared.entry.Entry.{Entry}
 use Rattle.reuse_journal.specs.Journal.{Journal, State}
 use Rattle.reuse_journal.specs.Standing.{IsStanding, InDoubt}
-use Rattle.reuse_tree.specs.Tree.{undo_folder_of}
+use Rattle.reuse_change.specs.Tree.{undo_folder_of}
 use Rattle.reuse_journal.proofs.OpeningLemmas.{as_many_listed}
 use Rattle.reuse_journal.proofs.FilesInDoubt.{IsPending, doubt_bad, none_pending, read_pending, read_opens, read_recovers, settled_opens, still_in_doubt, left_in_doubt}
 use Rattle.reuse_journal.proofs.OpeningDoubt.{doubt_stays, files_in_doubt, reads_standing, refused_in_doubt}

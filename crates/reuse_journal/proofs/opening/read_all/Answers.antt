@@ -3,10 +3,10 @@ use Rattle.std.specs.List.{AllZip}
 use Rattle.std.proofs.lemmas.List.{take_all}
 use Rattle.std.proofs.lemmas.List.Elements.{All-nil}
 use Rattle.std.proofs.lemmas.Result.{IfOk-from_err}
-use Rattle.reuse_tree.proofs.AskedLemmas.{reads_none, reads_more}
+use Rattle.reuse_store.proofs.AskedLemmas.{reads_none, reads_more}
 use Rattle.reuse_command.specs.Answer.{IsReadRefusal}
 use Rattle.reuse_journal.specs.Opening.{IsFoundAt, IsListedIn, IsReadable, IsLeastFound, least}
-use Rattle.reuse_tree.specs.Tree.{undo_folder_of}
+use Rattle.reuse_change.specs.Tree.{undo_folder_of}
 use Rattle.reuse_command.proofs.Asking.{ok_no_bad, memory_no_bad, fails_otherwise, memory_fails, same_fails}
 use Rattle.reuse_command.proofs.OnlyReading.{is_refused, passed_on}
 use Rattle.reuse_journal.proofs.ReadNumbers.{long_more, listed_more, found_readable, found_unreadable}

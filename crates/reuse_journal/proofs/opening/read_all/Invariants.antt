@@ -1,8 +1,8 @@
 use Rattle.std.proofs.Common.{◌≡◌, None, length, take}
 use Rattle.std.specs.List.{AllZip}
-use Rattle.reuse_tree.specs.Asked.{OnlyReads}
+use Rattle.reuse_store.specs.Asked.{OnlyReads}
 use Rattle.reuse_journal.specs.Opening.{IsListedIn, IsLeastFound}
-use Rattle.reuse_tree.specs.Tree.{undo_folder_of}
+use Rattle.reuse_change.specs.Tree.{undo_folder_of}
 use Rattle.reuse_journal.proofs.opening.read_all.Given as goal
 
 -- the numbers so far are read

@@ -1,7 +1,7 @@
 use Rattle.std.proofs.Common.{◌≡◌, ◌+◌, ◌-◌, ◌++◌, length, take, drop, append_assoc, arith, sym, ap, subst, ◌∙◌}
 use Rattle.std.specs.List.{All, AllZip}
 use Rattle.reuse_journal.specs.Opening.{named, pending_numbers, IsListedIn, IsReadable, IsLeastFound}
-use Rattle.reuse_tree.specs.Tree.{undo_folder_of}
+use Rattle.reuse_change.specs.Tree.{undo_folder_of}
 use Rattle.reuse_journal.proofs.ReadNumbers.{zip_parts}
 use Rattle.reuse_journal.proofs.opening.read_entries.Goals as goal
 

@@ -5,7 +5,7 @@ use Rattle.std.proofs.lemmas.Result.{err_from_is_err_and}
 use Rattle.reuse_journal.specs.JournalFiles.{head_path, HeadSays}
 use Rattle.reuse_journal.specs.Opening.{named, IsListedIn, IsReadable, IsFirstUnreadable}
 use Rattle.reuse_command.specs.declared.reply.Refusal.TheVariants.{BadJournal}
-use Rattle.reuse_tree.specs.Tree.{undo_folder_of}
+use Rattle.reuse_change.specs.Tree.{undo_folder_of}
 use Rattle.reuse_journal.proofs.OpeningLemmas.{read_from}
 use Rattle.reuse_journal.proofs.opening.read_journal.Goals as goal
 

@@ -2,12 +2,12 @@ use Rattle.std.proofs.Common.{◌≡◌, ◌⊎◌, inr, MatchResult, List, refl
 use Rattle.std.specs.FinMap.{get}
 use Rattle.std.specs.List.{All}
 use Rattle.std.proofs.lemmas.Result.{err_from_is_err_and, IfErr-weaker, on_ok_weaker}
-use Rattle.reuse_tree.specs.Asked.{OnlyReads, Leaves}
-use Rattle.reuse_tree.proofs.AskedLemmas.{reads_more}
-use Rattle.reuse_tree.specs.Files.{AreFiles, Clashes, Files, tree_of}
+use Rattle.reuse_store.specs.Asked.{OnlyReads, Leaves}
+use Rattle.reuse_store.proofs.AskedLemmas.{reads_more}
+use Rattle.reuse_change.specs.Files.{AreFiles, Clashes, Files, tree_of}
 use Rattle.reuse_command.specs.Answer.{IsEarly, IsFailure}
 use Rattle.reuse_journal.specs.Carried.{IsRolledBack, StopsRollingBack}
-use Rattle.reuse_tree.specs.Entry.{IsEntry, SomeMade, ArePartlyMade, CanBeRolledBack, IsFirstWithout}
+use Rattle.reuse_change.specs.Entry.{IsEntry, SomeMade, ArePartlyMade, CanBeRolledBack, IsFirstWithout}
 use Rattle.reuse_tree.specs.Head.{direction_of, IsGoodHead}
 use Rattle.reuse_journal.specs.History.{head_listing}
 use Rattle.reuse_journal.specs.JournalFiles.{head_path, entry_path, head_of, number_of, EntrySays}
@@ -15,9 +15,9 @@ use Rattle.reuse_journal.specs.Losses.{AreSafeOn, AreInDoubt, StopsBackWithDoubt
 use Rattle.reuse_journal.specs.Opening.{IsRead}
 use Rattle.reuse_journal.specs.Remembered.{IsSameBut}
 use Rattle.reuse_journal.specs.Standing.{IsStanding, IsUnderWay}
-use Rattle.reuse_tree.specs.Tree.{undo_folder_of}
-use Rattle.reuse_tree.specs.declared.change.Change.{Change}
-use Rattle.reuse_tree.specs.declared.direction.Direction.{Direction}
+use Rattle.reuse_change.specs.Tree.{undo_folder_of}
+use Rattle.reuse_change.specs.declared.change.Change.{Change}
+use Rattle.reuse_change.specs.declared.direction.Direction.{Direction}
 use Rattle.reuse_command.specs.declared.failure.Failure.TheVariants.{Memory}
 use Rattle.reuse_command.specs.declared.reply.Refusal.TheVariants.{Failed}
 use Rattle.reuse_journal.specs.Journal.{Journal, Recorded, State}

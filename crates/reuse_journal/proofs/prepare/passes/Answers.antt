@@ -2,15 +2,15 @@ use Rattle.std.proofs.Common.{◌≡◌, ◌↔◌, IfOk, inl, inr, ⊎_elim, Bo
 use Rattle.std.specs.FinMap.{get}
 use Rattle.std.proofs.lemmas.Bool.{false≢true}
 use Rattle.std.proofs.lemmas.Result.{IfOk-weaker}
-use Rattle.reuse_tree.specs.Files.{Files, tree_of}
-use Rattle.reuse_tree.specs.Change.{path_of}
-use Rattle.reuse_tree.specs.declared.change.Change.{Change}
-use Rattle.reuse_tree.specs.declared.direction.Direction.{Direction}
-use Rattle.reuse_tree.specs.Tree.{is_of_tree}
-use Rattle.reuse_tree.specs.Entry.{IsReady, CanBeMade, CanBeRolledBack, opposite}
+use Rattle.reuse_change.specs.Files.{Files, tree_of}
+use Rattle.reuse_change.specs.Change.{path_of}
+use Rattle.reuse_change.specs.declared.change.Change.{Change}
+use Rattle.reuse_change.specs.declared.direction.Direction.{Direction}
+use Rattle.reuse_change.specs.Tree.{is_of_tree}
+use Rattle.reuse_change.specs.Entry.{IsReady, CanBeMade, CanBeRolledBack, opposite}
 use Rattle.reuse_journal.specs.Tested.{Passes}
 use Rattle.reuse_journal.specs.declared.prepare.Aim.{Aim}
-use Rattle.reuse_tree.proofs.OfTree.{tree_at}
+use Rattle.reuse_store.proofs.OfTree.{tree_at}
 use Rattle.reuse_journal.proofs.prepare.passes.Goals as goal
 
 module _ (direction : Direction) (change : Change) (files : Files) (of_tree : is_of_tree (path_of change) ≡ true) (ready : Bool) (is : IsTrue ready ↔ IsReady direction change (get files (path_of change))) where

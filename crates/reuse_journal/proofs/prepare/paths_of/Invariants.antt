@@ -1,5 +1,5 @@
 use Rattle.std.proofs.Common.{◌≡◌, take}
-use Rattle.reuse_tree.specs.Entry.{paths_of}
+use Rattle.reuse_change.specs.Entry.{paths_of}
 use Rattle.reuse_journal.proofs.prepare.paths_of.Given as goal
 
 abbrev pub invariant-loop-change : goal.invariant-loop-change

@@ -2,20 +2,20 @@ use Rattle.std.proofs.Common.{◌≡◌, ◌↔◌, IsTrue, arith, sym, subst, �
 use Rattle.std.specs.List.{All}
 use Rattle.std.proofs.lemmas.Bool.{false≢true}
 use Rattle.std.proofs.lemmas.List.{take_all}
-use Rattle.reuse_tree.specs.Files.{tree_of}
-use Rattle.reuse_tree.specs.Change.{path_of}
-use Rattle.reuse_tree.specs.Entry.{IsEntry}
+use Rattle.reuse_change.specs.Files.{tree_of}
+use Rattle.reuse_change.specs.Change.{path_of}
+use Rattle.reuse_change.specs.Entry.{IsEntry}
 use Rattle.reuse_journal.specs.Tested.{Passes}
 use Rattle.std.proofs.lemmas.Result.{err_from_is_err_and}
-use Rattle.reuse_tree.proofs.AskedLemmas.{reads_none, reads_more}
-use Rattle.reuse_tree.specs.declared.fault.StoreFault.{StoreFault}
-use Rattle.reuse_tree.specs.declared.fault.StoreFault.TheVariants as faults
+use Rattle.reuse_store.proofs.AskedLemmas.{reads_none, reads_more}
+use Rattle.reuse_store.specs.declared.fault.StoreFault.{StoreFault}
+use Rattle.reuse_store.specs.declared.fault.StoreFault.TheVariants as faults
 use Rattle.reuse_command.specs.declared.reply.Refusal.{Refusal}
 use Rattle.reuse_command.specs.declared.reply.Refusal.TheVariants as refusals
 use Rattle.reuse_command.specs.Answer.{IsTestRefusal}
 use Rattle.reuse_command.specs.Cause.{refusal_of}
 use Rattle.reuse_command.proofs.Asking.{fails_behind, fails_otherwise}
-use Rattle.reuse_tree.proofs.AtChange.{tested, passes, first_without}
+use Rattle.reuse_store.proofs.AtChange.{tested, passes, first_without}
 use Rattle.reuse_journal.proofs.prepare.test_each.Given.{Over}
 use Rattle.reuse_journal.proofs.prepare.test_each.Goals.{In_ok-passes}
 use Rattle.reuse_journal.proofs.prepare.test_each.Goals as goal

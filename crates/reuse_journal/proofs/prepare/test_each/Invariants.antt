@@ -1,9 +1,9 @@
 use Rattle.std.proofs.Common.{take}
 use Rattle.std.specs.List.{All}
-use Rattle.reuse_tree.specs.Files.{tree_of}
-use Rattle.reuse_tree.specs.Entry.{IsEntry}
+use Rattle.reuse_change.specs.Files.{tree_of}
+use Rattle.reuse_change.specs.Entry.{IsEntry}
 use Rattle.reuse_journal.specs.Tested.{Passes}
-use Rattle.reuse_tree.specs.Asked.{OnlyReads}
+use Rattle.reuse_store.specs.Asked.{OnlyReads}
 use Rattle.reuse_journal.proofs.prepare.test_each.Given as goal
 
 -- the files stay, and the changes so far pass

@@ -1,7 +1,7 @@
 use Rattle.std.proofs.Common.{not, rules}
 use Rattle.std.proofs.lemmas.Fn.{filter_same}
-use Rattle.reuse_tree.specs.Change.{path_of}
-use Rattle.reuse_tree.specs.Listing.{is_among}
+use Rattle.reuse_change.specs.Change.{path_of}
+use Rattle.reuse_change.specs.Listing.{is_among}
 use Rattle.reuse_journal.proofs.recovery.changes_besides.Goals as goal
 
 pub returns : goal.returns

@@ -1,5 +1,5 @@
 use Rattle.std.proofs.Common.{rules, ◌≡◌, ◌⊎◌, Some, subst}
-use Rattle.reuse_tree.specs.Tree.{Sets}
+use Rattle.reuse_change.specs.Tree.{Sets}
 use Rattle.reuse_journal.specs.JournalFiles.{head_path}
 use Rattle.reuse_journal.proofs.ClearedHeads.{barrier_certain}
 use Rattle.reuse_journal.proofs.LeftByRollBacks.{head_or_not}

@@ -1,8 +1,8 @@
 use Rattle.std.proofs.Common.{◌+◌, drop, subst, rules}
 use Rattle.std.proofs.lemmas.List.{drop_all}
-use Rattle.reuse_tree.specs.Files.{tree_of}
-use Rattle.reuse_tree.proofs.AskedLemmas.{reads_none, reads_more}
-use Rattle.reuse_tree.proofs.AtChange.{left_here, of_entry, tested}
+use Rattle.reuse_change.specs.Files.{tree_of}
+use Rattle.reuse_store.proofs.AskedLemmas.{reads_none, reads_more}
+use Rattle.reuse_store.proofs.AtChange.{left_here, of_entry, tested}
 use Rattle.reuse_journal.specs.Recovery.{FindsNext}
 use Rattle.reuse_command.proofs.Asking.{same_fails}
 use Rattle.reuse_journal.proofs.Recovering.{AreFoundSoFar, nothing_found, found_next, found_all}

@@ -1,7 +1,7 @@
 use Rattle.std.proofs.Common.{drop}
-use Rattle.reuse_tree.specs.Entry.{IsEntry}
-use Rattle.reuse_tree.specs.Files.{tree_of}
-use Rattle.reuse_tree.specs.Asked.{OnlyReads}
+use Rattle.reuse_change.specs.Entry.{IsEntry}
+use Rattle.reuse_change.specs.Files.{tree_of}
+use Rattle.reuse_store.specs.Asked.{OnlyReads}
 use Rattle.reuse_journal.proofs.Recovering.{AreFoundSoFar}
 use Rattle.reuse_journal.proofs.recovery.find_each.Given as goal
 

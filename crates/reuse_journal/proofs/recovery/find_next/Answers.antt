@@ -1,10 +1,10 @@
 use Rattle.std.proofs.Common.{◌≡◌, ◌↔◌, inl, inr, ⊎_elim, true, IsTrue, refl, sym, ap, subst, ◌∙◌, ◌++◌, ◌∷◌, []}
 use Rattle.std.specs.FinMap.{get}
 use Rattle.std.proofs.lemmas.Bool.{false≢true}
-use Rattle.reuse_tree.specs.Change.{path_of, IsProper}
-use Rattle.reuse_tree.specs.Entry.{opposite, CanBeMade, IsReady, IsSmall}
-use Rattle.reuse_tree.specs.Files.{tree_of}
-use Rattle.reuse_tree.specs.Tree.{is_of_tree}
+use Rattle.reuse_change.specs.Change.{path_of, IsProper}
+use Rattle.reuse_change.specs.Entry.{opposite, CanBeMade, IsReady, IsSmall}
+use Rattle.reuse_change.specs.Files.{tree_of}
+use Rattle.reuse_change.specs.Tree.{is_of_tree}
 use Rattle.reuse_journal.proofs.Recovering.{is_before, not_before}
 use Rattle.reuse_journal.proofs.recovery.find_next.Given.{Over}
 use Rattle.reuse_journal.proofs.recovery.find_next.Goals.{In_ok-can_be_made}

@@ -3,7 +3,7 @@ use Rattle.reuse_journal.specs.Journal.{Journal}
 use Rattle.reuse_command.proofs.OnlyReading.{is_refused, read_early}
 use Rattle.reuse_journal.proofs.OpeningDoubt.{doubt_stays, reads_standing, refused_in_doubt}
 use Rattle.reuse_journal.proofs.RecoveryDoubt.{awaits_still, recovers_in_doubt, refused_on_the_way}
-use Rattle.reuse_tree.specs.Tree.{undo_folder_of}
+use Rattle.reuse_change.specs.Tree.{undo_folder_of}
 use Rattle.reuse_journal.specs.JournalFiles.{number_of}
 use Rattle.reuse_journal.specs.Losses.{AreSafeOn}
 use Rattle.reuse_journal.specs.Opening.{IsRead, IsStuckAt}

@@ -2,17 +2,17 @@ use Rattle.std.proofs.Common.{◌≡◌, inr, List, None, Some, Result, Ok, Err,
 use Rattle.std.specs.FinMap.{get}
 use Rattle.std.specs.List.{All}
 use Rattle.std.proofs.lemmas.Result.{on_ok_weaker}
-use Rattle.reuse_tree.specs.Asked.{IsSynced, Leaves, OnlyReads}
-use Rattle.reuse_tree.specs.Entry.{ArePartlyMade, CanBeRolledBack, IsEntry, SomeMade}
-use Rattle.reuse_tree.specs.Files.{Clashes, Files, tree_of}
+use Rattle.reuse_store.specs.Asked.{IsSynced, Leaves, OnlyReads}
+use Rattle.reuse_change.specs.Entry.{ArePartlyMade, CanBeRolledBack, IsEntry, SomeMade}
+use Rattle.reuse_change.specs.Files.{Clashes, Files, tree_of}
 use Rattle.reuse_tree.specs.Head.{direction_of, IsGoodHead}
-use Rattle.reuse_tree.specs.Listing.{ArePaths}
-use Rattle.reuse_tree.specs.Tree.{undo_folder_of}
-use Rattle.reuse_tree.specs.declared.change.Change.{Change}
-use Rattle.reuse_tree.specs.declared.cause.Cause.{Cause}
+use Rattle.reuse_change.specs.Listing.{ArePaths}
+use Rattle.reuse_change.specs.Tree.{undo_folder_of}
+use Rattle.reuse_change.specs.declared.change.Change.{Change}
+use Rattle.reuse_store.specs.declared.cause.Cause.{Cause}
 use Rattle.reuse_tree.specs.declared.journal.head.PendingDirection.{PendingDirection}
-use Rattle.reuse_tree.specs.declared.direction.Direction.{Direction}
-use Rattle.reuse_tree.proofs.AskedLemmas.{reads_more}
+use Rattle.reuse_change.specs.declared.direction.Direction.{Direction}
+use Rattle.reuse_store.proofs.AskedLemmas.{reads_more}
 use Rattle.reuse_command.specs.Answer.{IsNoClash}
 use Rattle.reuse_journal.specs.Carried.{IsRolledBack, StopsBack}
 use Rattle.reuse_journal.specs.History.{head_listing}

@@ -1,10 +1,10 @@
 use Rattle.std.proofs.Common.{◌≡◌, ◌<◌, inl, inr, ⊎_elim, List, [], ◌∷◌, length, arith, refl, ap}
 use Rattle.std.proofs.lemmas.Bool.Decides.{nat_tests}
 use Rattle.std.proofs.lemmas.Result.{on_ok_weaker}
-use Rattle.reuse_tree.specs.Entry.{CanBeRolledBack, IsEntry}
-use Rattle.reuse_tree.specs.Files.{tree_of}
-use Rattle.reuse_tree.specs.declared.change.Change.{Change}
-use Rattle.reuse_tree.proofs.Walk.{none_without}
+use Rattle.reuse_change.specs.Entry.{CanBeRolledBack, IsEntry}
+use Rattle.reuse_change.specs.Files.{tree_of}
+use Rattle.reuse_change.specs.declared.change.Change.{Change}
+use Rattle.reuse_change.proofs.Walk.{none_without}
 use Rattle.reuse_journal.specs.Recovery.{ArePart}
 use Rattle.reuse_journal.proofs.ClearedHeads.{cleared, cleared_alone, cleared_or_not, cleared_with_doubt, starts_certain}
 use Rattle.reuse_journal.proofs.recovery.roll_back_part.Goals as goal

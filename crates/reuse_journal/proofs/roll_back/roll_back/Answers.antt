@@ -1,23 +1,23 @@
 use Rattle.std.proofs.Common.{rules, ◌≡◌, ◌≢◌, ◌<◌, ◌≤◌, ℕ, Bool, true, false, List, Result, Err, OnErr, OnOk, arith, refl, sym, ap, subst, ◌∙◌}
 use Rattle.std.specs.List.{All}
 use Rattle.std.proofs.lemmas.Result.{err_from_is_err_and}
-use Rattle.reuse_tree.proofs.AskedLemmas.{reads_more}
-use Rattle.reuse_tree.specs.Asked.{OnlyReads, IsSynced, Leaves}
-use Rattle.reuse_tree.specs.Files.{Files, Clashes, tree_of}
-use Rattle.reuse_tree.specs.Lasting.{IsMidway}
-use Rattle.reuse_tree.specs.Tree.{undo_folder_of}
+use Rattle.reuse_store.proofs.AskedLemmas.{reads_more}
+use Rattle.reuse_store.specs.Asked.{OnlyReads, IsSynced, Leaves}
+use Rattle.reuse_change.specs.Files.{Files, Clashes, tree_of}
+use Rattle.reuse_store.specs.Lasting.{IsMidway}
+use Rattle.reuse_change.specs.Tree.{undo_folder_of}
 use Rattle.reuse_command.specs.Answer.{told_of, HasCause, IsEarly, IsNoClash, IsRollBackRefusal}
 use Rattle.reuse_journal.specs.Carried.{StopsBack, StopsRollingBack}
 use Rattle.reuse_journal.specs.Losses.{StopsBackWithDoubt}
-use Rattle.reuse_tree.specs.Entry.{ArePartlyMade, CanBeRolledBack, SomeMade}
+use Rattle.reuse_change.specs.Entry.{ArePartlyMade, CanBeRolledBack, SomeMade}
 use Rattle.reuse_journal.specs.JournalFiles.{head_path}
-use Rattle.reuse_tree.specs.declared.cause.Cause.{Cause}
-use Rattle.reuse_tree.specs.declared.cause.Cause.TheVariants as causes
+use Rattle.reuse_store.specs.declared.cause.Cause.{Cause}
+use Rattle.reuse_store.specs.declared.cause.Cause.TheVariants as causes
 use Rattle.reuse_command.specs.declared.reply.Refusal.{Refusal}
 use Rattle.reuse_command.specs.declared.failure.Failure.TheVariants.{Interrupted}
 use Rattle.reuse_command.specs.declared.reply.Refusal.TheVariants.{Moved, Failed}
-use Rattle.reuse_tree.proofs.Walk.{none_without}
-use Rattle.reuse_tree.proofs.MadeLemmas.{settles_from}
+use Rattle.reuse_change.proofs.Walk.{none_without}
+use Rattle.reuse_store.proofs.MadeLemmas.{settles_from}
 use Rattle.reuse_journal.proofs.Barriers.{IsBehind}
 use Rattle.reuse_journal.proofs.LeftByRollBacks.{certain_midway}
 use Rattle.reuse_journal.proofs.roll_back.roll_back.Given.{Over}

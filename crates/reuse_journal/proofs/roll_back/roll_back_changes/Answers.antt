@@ -2,22 +2,22 @@ use Rattle.std.proofs.Common.{◌≡◌, ◌⊎◌, inl, inr, ⊎_elim, ◌+◌,
 use Rattle.std.specs.FinMap.{get}
 use Rattle.std.proofs.Math.Seq.{take-length}
 use Rattle.std.proofs.lemmas.Result.{err_from_is_err_and, on_ok_weaker, on_err_weaker}
-use Rattle.reuse_tree.specs.Files.{Files, tree_of}
-use Rattle.reuse_tree.specs.Change.{path_of}
-use Rattle.reuse_tree.specs.declared.change.Change.{Change}
-use Rattle.reuse_tree.proofs.NotedMutations.{notes_none, notes_more, notes_last}
-use Rattle.reuse_tree.specs.declared.direction.Direction.{Direction}
+use Rattle.reuse_change.specs.Files.{Files, tree_of}
+use Rattle.reuse_change.specs.Change.{path_of}
+use Rattle.reuse_change.specs.declared.change.Change.{Change}
+use Rattle.reuse_store.proofs.NotedMutations.{notes_none, notes_more, notes_last}
+use Rattle.reuse_change.specs.declared.direction.Direction.{Direction}
 use Rattle.reuse_journal.specs.Carried.{IsRolledBack, StopsBack, StopsRollingBack}
-use Rattle.reuse_tree.specs.Tree.{undo_folder_of, Sets}
-use Rattle.reuse_tree.specs.Entry.{IsEntry, IsReady, CanBeRolledBack, SomeMade, ArePartlyMade, LeadsByOneChange, AppliesBy, opposite}
+use Rattle.reuse_change.specs.Tree.{undo_folder_of, Sets}
+use Rattle.reuse_change.specs.Entry.{IsEntry, IsReady, CanBeRolledBack, SomeMade, ArePartlyMade, LeadsByOneChange, AppliesBy, opposite}
 use Rattle.reuse_journal.specs.JournalFiles.{head_path}
 use Rattle.reuse_journal.specs.Losses.{StopsBackWithDoubt}
 use Rattle.reuse_journal.specs.Remembered.{IsSameBut}
-use Rattle.reuse_tree.specs.Asked.{IsSynced, Leaves}
-use Rattle.reuse_tree.specs.Lasting.{IsMidway}
-use Rattle.reuse_tree.proofs.AtChange.{IsOfEntry, at_change, folder_at_stop, of_entry, walked, stays_none, stays_on}
-use Rattle.reuse_tree.proofs.OfTree.{tree_at, step_of_tree, clash_in_tree}
-use Rattle.reuse_tree.proofs.MadeLemmas.{made_none, back_none, back_more, still_made, still_free, roll_back_of_tree, folder_stays_back, made_from_start, back_at_start}
+use Rattle.reuse_store.specs.Asked.{IsSynced, Leaves}
+use Rattle.reuse_store.specs.Lasting.{IsMidway}
+use Rattle.reuse_store.proofs.AtChange.{IsOfEntry, at_change, folder_at_stop, of_entry, walked, stays_none, stays_on}
+use Rattle.reuse_store.proofs.OfTree.{tree_at, step_of_tree, clash_in_tree}
+use Rattle.reuse_store.proofs.MadeLemmas.{made_none, back_none, back_more, still_made, still_free, roll_back_of_tree, folder_stays_back, made_from_start, back_at_start}
 use Rattle.reuse_journal.proofs.BackAgain.{made_in_front, seen_from_there}
 use Rattle.reuse_journal.proofs.LeftByRollBacks.{certain_back, head_or_not, midway_back, notes_reads}
 use Rattle.reuse_journal.proofs.HeadPuts.{head_sets, head_keeps_tree, head_clashed}

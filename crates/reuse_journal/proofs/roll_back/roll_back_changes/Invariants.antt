@@ -1,11 +1,11 @@
 use Rattle.std.proofs.Common.{take}
-use Rattle.reuse_tree.specs.Asked.{Leaves}
-use Rattle.reuse_tree.specs.Files.{Files, tree_of}
-use Rattle.reuse_tree.specs.Lasting.{IsMidway}
-use Rattle.reuse_tree.specs.Tree.{undo_folder_of}
-use Rattle.reuse_tree.specs.Apply.{NotesMutations}
-use Rattle.reuse_tree.specs.Entry.{IsEntry, ArePartlyMade}
-use Rattle.reuse_tree.proofs.AtChange.{StaysBeside}
+use Rattle.reuse_store.specs.Asked.{Leaves}
+use Rattle.reuse_change.specs.Files.{Files, tree_of}
+use Rattle.reuse_store.specs.Lasting.{IsMidway}
+use Rattle.reuse_change.specs.Tree.{undo_folder_of}
+use Rattle.reuse_store.specs.Apply.{NotesMutations}
+use Rattle.reuse_change.specs.Entry.{IsEntry, ArePartlyMade}
+use Rattle.reuse_store.proofs.AtChange.{StaysBeside}
 use Rattle.reuse_journal.proofs.roll_back.roll_back_changes.Given as goal
 
 -- the changes so far are taken back or weren't made, and the folder of the journal stays

@@ -2,18 +2,18 @@ use Rattle.std.proofs.Common.{◌≡◌, ◌⊎◌, inl, inr, ⊎_elim, List, �
 use Rattle.std.specs.List.{All}
 use Rattle.std.specs.FinMap.{get}
 use Rattle.std.proofs.lemmas.Result.{err_from_is_err_and, on_ok_weaker, on_err_weaker}
-use Rattle.reuse_tree.specs.Files.{Files, AreFiles, Clashes, tree_of}
-use Rattle.reuse_tree.specs.declared.change.Change.{Change}
-use Rattle.reuse_tree.specs.declared.direction.Direction.{Direction}
-use Rattle.reuse_tree.specs.declared.cause.Cause.TheVariants.{Clash, Moved}
-use Rattle.reuse_tree.specs.Asked.{IsSynced}
-use Rattle.reuse_tree.specs.Lasting.{WithOrWithout}
+use Rattle.reuse_change.specs.Files.{Files, AreFiles, Clashes, tree_of}
+use Rattle.reuse_change.specs.declared.change.Change.{Change}
+use Rattle.reuse_change.specs.declared.direction.Direction.{Direction}
+use Rattle.reuse_store.specs.declared.cause.Cause.TheVariants.{Clash, Moved}
+use Rattle.reuse_store.specs.Asked.{IsSynced}
+use Rattle.reuse_store.specs.Lasting.{WithOrWithout}
 use Rattle.reuse_journal.specs.Carried.{IsCarriedOut, IsStopped}
 use Rattle.reuse_journal.specs.Losses.{HaveTree, StopsWithDoubt}
-use Rattle.reuse_tree.specs.Tree.{undo_folder_of, Sets}
-use Rattle.reuse_tree.specs.Entry.{LeadsBy, SomeMade, CanBeMade, CanGo, IsEntry}
+use Rattle.reuse_change.specs.Tree.{undo_folder_of, Sets}
+use Rattle.reuse_change.specs.Entry.{LeadsBy, SomeMade, CanBeMade, CanGo, IsEntry}
 use Rattle.reuse_journal.specs.JournalFiles.{head_path}
-use Rattle.reuse_tree.proofs.MadeLemmas.{made_none, made_all, made_of_front}
+use Rattle.reuse_store.proofs.MadeLemmas.{made_none, made_all, made_of_front}
 use Rattle.reuse_journal.proofs.HeadPuts.{head_sets, head_keeps_tree, head_is_free, sets_again}
 use Rattle.reuse_command.proofs.OnlyReading.{passed_on}
 use Rattle.reuse_journal.proofs.step.commit_step.Given.{Over}

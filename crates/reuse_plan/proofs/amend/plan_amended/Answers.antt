@@ -1,6 +1,6 @@
 use Rattle.std.proofs.Common.{◌≡◌, ◌∙◌, List, ℕ, Some, None, IsSome, sym, ap, subst, Err}
 use Rattle.reuse_command.specs.Reading.{get, tree_of}
-use Rattle.reuse_tree.specs.Listing.{is_among}
+use Rattle.reuse_change.specs.Listing.{is_among}
 use Rattle.reuse_plan.specs.AmendmentPlan.{amended_by, names_of}
 use Rattle.reuse_plan.specs.Annotate.{neighbour_of}
 use Rattle.reuse_command.specs.Covered.{is_covered}

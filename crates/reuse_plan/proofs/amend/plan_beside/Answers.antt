@@ -1,7 +1,7 @@
 use Rattle.std.proofs.Common.{◌≡◌, ◌∙◌, false, nat_lt, length, IfSome, ap, subst}
 use Rattle.reuse_command.specs.Reading.{get, tree_of}
 use Rattle.reuse_text.specs.declared.TheConstants.{LONGEST_FILE}
-use Rattle.reuse_tree.proofs.TreeLemmas.{read_there}
+use Rattle.reuse_store.proofs.TreeLemmas.{read_there}
 use Rattle.reuse_plan.specs.Annotate.{neighbour_of}
 use Rattle.reuse_plan.proofs.amend.plan_beside.Goals as goal
 

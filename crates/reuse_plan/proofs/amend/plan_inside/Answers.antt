@@ -1,6 +1,6 @@
 use Rattle.reuse_text.specs.declared.TheConstants.{LONGEST_FILE}
-use Rattle.reuse_tree.specs.Files.{tree_of}
-use Rattle.reuse_tree.proofs.TreeLemmas.{read_there}
+use Rattle.reuse_change.specs.Files.{tree_of}
+use Rattle.reuse_store.proofs.TreeLemmas.{read_there}
 use Rattle.reuse_plan.proofs.amend.plan_inside.Goals as goal
 
 pub returns-clause-edit : goal.returns-clause-edit

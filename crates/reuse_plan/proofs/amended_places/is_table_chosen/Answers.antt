@@ -1,7 +1,7 @@
 use Rattle.std.proofs.Common.{◌∙◌, ◌&&◌, sym, ap, subst, is_some}
 use Rattle.reuse_command.specs.Reading.{get, tree_of}
-use Rattle.reuse_tree.specs.Listing.{is_among}
-use Rattle.reuse_tree.proofs.TreeLemmas.{among_keys}
+use Rattle.reuse_change.specs.Listing.{is_among}
+use Rattle.reuse_store.proofs.TreeLemmas.{among_keys}
 use Rattle.reuse_plan.specs.Conversion.{toml_path}
 use Rattle.reuse_plan.specs.Shown.{Shows}
 use Rattle.reuse_plan.proofs.amended_places.is_table_chosen.Goals as goal

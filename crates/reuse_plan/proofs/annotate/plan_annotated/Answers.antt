@@ -5,14 +5,14 @@ use Rattle.reuse_command.specs.declared.reply.Refusal.TheVariants as refusals
 use Rattle.reuse_plan.specs.AnnotationPlan.{own_of, path_by, path_beside_by, path_by_place, place_by}
 use Rattle.reuse_plan.specs.declared.target.Target.TheVariants as target
 use Rattle.reuse_command.specs.Covered.{is_covered}
-use Rattle.reuse_tree.specs.Listing.{is_among}
+use Rattle.reuse_change.specs.Listing.{is_among}
 use Rattle.reuse_plan.specs.Shown.{ShowsPair}
 use Rattle.reuse_plan.specs.PathPlans.{AnswersPlan, IsPlanOf}
 use Rattle.reuse_plan.specs.Plan.{IsRefusalOf}
 use Rattle.reuse_plan.specs.Steps.{StepsTo}
-use Rattle.reuse_tree.proofs.AskedLemmas.{reads_none}
+use Rattle.reuse_store.proofs.AskedLemmas.{reads_none}
 use Rattle.reuse_command.proofs.Asking.{no_fault, short, failed, later, plan_faults}
-use Rattle.reuse_tree.proofs.TreeLemmas.{read_there}
+use Rattle.reuse_store.proofs.TreeLemmas.{read_there}
 use Rattle.reuse_plan.proofs.Annotating.{told_as, some_file}
 use Rattle.reuse_plan.proofs.EditLemmas.{some_bytes, uncovered_is, path_is}
 use Rattle.reuse_plan.proofs.PathPlanning.{is_refusal_of}

@@ -4,16 +4,16 @@ use Rattle.std.proofs.lemmas.Result.{err_from_is_err_and}
 use Rattle.reuse_text.specs.declared.TheConstants.{LONGEST_FILE}
 use Rattle.reuse_plan.specs.Annotate.{neighbour_of}
 use Rattle.reuse_plan.specs.AnnotationPlan.{beside_by, neighbour_by, path_beside_by}
-use Rattle.reuse_tree.specs.Listing.{is_among}
+use Rattle.reuse_change.specs.Listing.{is_among}
 use Rattle.reuse_plan.specs.PathEdits.{PathEdit}
 use Rattle.reuse_plan.specs.PathPlans.{AnswersPlan}
 use Rattle.reuse_plan.specs.Plan.{IsRefusalOf}
 use Rattle.reuse_plan.specs.declared.path_plan.Policy.TheVariants.{Stop}
 use Rattle.reuse_plan.proofs.EditLemmas.{path_beside_is, new_is_unskipped, some_bytes}
-use Rattle.reuse_tree.proofs.AskedLemmas.{reads_none}
+use Rattle.reuse_store.proofs.AskedLemmas.{reads_none}
 use Rattle.reuse_command.specs.declared.reply.Refusal.TheVariants as refusals
 use Rattle.reuse_command.proofs.Asking.{no_fault, short, failed, plan_faults}
-use Rattle.reuse_tree.proofs.TreeLemmas.{of_store}
+use Rattle.reuse_store.proofs.TreeLemmas.{of_store}
 use Rattle.reuse_plan.proofs.Annotating.{told_as, is_absent, some_file}
 use Rattle.reuse_plan.proofs.annotate.plan_beside.Goals as goal
 

@@ -3,7 +3,7 @@ use Rattle.std.specs.FinMap.{get}
 use Rattle.reuse_text.specs.declared.TheConstants.{LONGEST_FILE}
 use Rattle.reuse_plan.specs.Conversion.{dep5_path}
 use Rattle.reuse_command.specs.declared.reply.Refusal.TheVariants as refusals
-use Rattle.reuse_tree.proofs.ReadingLemmas.{found_is}
+use Rattle.reuse_store.proofs.ReadingLemmas.{found_is}
 use Rattle.reuse_plan.proofs.Converting.{none_read, long_read}
 use Rattle.reuse_plan.proofs.convert.conversion_of.Goals as goal
 

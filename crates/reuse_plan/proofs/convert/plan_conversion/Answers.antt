@@ -3,7 +3,7 @@ use Rattle.reuse_command.specs.Reading.{get, tree_of, reading_of}
 use Rattle.reuse_text.specs.declared.TheConstants.{LONGEST_FILE}
 use Rattle.reuse_plan.specs.Conversion.{dep5_path, toml_path}
 use Rattle.reuse_plan.specs.Shown.{Shows}
-use Rattle.reuse_tree.proofs.TreeLemmas.{tree_file}
+use Rattle.reuse_store.proofs.TreeLemmas.{tree_file}
 use Rattle.reuse_plan.proofs.convert.plan_conversion.Goals as goal
 
 pub returns-clause-edits : goal.returns-clause-edits

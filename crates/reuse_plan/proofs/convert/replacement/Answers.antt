@@ -2,9 +2,9 @@ use Rattle.std.proofs.Common.{◌≤◌, ◌∙◌, [], ◌∷◌, length, sym, 
 use Rattle.reuse_dep5.specs.Answers as answers
 use Rattle.reuse_dep5.specs.Conversion.{converted}
 use Rattle.reuse_text.specs.declared.TheConstants.{LONGEST_FILE}
-use Rattle.reuse_tree.specs.Change.{sealed_drop, sealed_make}
-use Rattle.reuse_tree.specs.Clash.{is_clash_of}
-use Rattle.reuse_tree.specs.Listing.{is_among}
+use Rattle.reuse_change.specs.Change.{sealed_drop, sealed_make}
+use Rattle.reuse_change.specs.Clash.{is_clash_of}
+use Rattle.reuse_change.specs.Listing.{is_among}
 use Rattle.reuse_plan.specs.Conversion.{conversion_edits}
 use Rattle.reuse_plan.specs.Plan.{IsRefusalOf, MakesEdits}
 use Rattle.reuse_command.specs.declared.reply.Refusal.TheVariants as refusals

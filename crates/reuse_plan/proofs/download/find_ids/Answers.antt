@@ -1,8 +1,8 @@
 use Rattle.std.proofs.Common.{◌+◌, ◌∷◌, ◌∙◌, ◌++◌, drop, map, IfErr, refl, sym, ap, subst}
 use Rattle.std.specs.List.{AllByRecursion}
 use Rattle.std.proofs.lemmas.Result.{err_from_is_err_and}
-use Rattle.reuse_tree.specs.Files.{Files}
-use Rattle.reuse_tree.proofs.AtChange.{left_here}
+use Rattle.reuse_change.specs.Files.{Files}
+use Rattle.reuse_store.proofs.AtChange.{left_here}
 use Rattle.reuse_plan.specs.DownloadPlan.{HasText}
 use Rattle.reuse_plan.specs.Downloads.{id_refusals}
 use Rattle.reuse_plan.specs.Licence.{licence_path}

@@ -1,6 +1,6 @@
 use Rattle.std.proofs.Common.{◌≡◌, ◌++◌, [], drop, map}
 use Rattle.std.specs.List.{AllByRecursion}
-use Rattle.reuse_tree.specs.Files.{Files}
+use Rattle.reuse_change.specs.Files.{Files}
 use Rattle.reuse_plan.specs.DownloadPlan.{HasText}
 use Rattle.reuse_plan.specs.Downloads.{id_refusals}
 use Rattle.reuse_plan.specs.Licence.{licence_path}

@@ -1,5 +1,5 @@
 use Rattle.std.proofs.Common.{◌≡◌, ◌∙◌, ◌++◌, IsTrue, codes, sym, ap, subst}
-use Rattle.reuse_tree.specs.Path.{is_path}
+use Rattle.reuse_change.specs.Path.{is_path}
 use Rattle.reuse_plan.specs.Licence.{licence_path}
 use Rattle.reuse_plan.proofs.LicenceLemmas.{path_is_good}
 use Rattle.reuse_plan.proofs.licence_file.licence_path.Goals as goal

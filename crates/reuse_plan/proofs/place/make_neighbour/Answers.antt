@@ -1,7 +1,7 @@
 use Rattle.std.proofs.Common.{◌∙◌, [], sym, ap, subst}
 use Rattle.reuse_header.specs.Neighbour.{neighbour_annotation_of}
 use Rattle.reuse_plan.specs.Annotate.{edit_by}
-use Rattle.reuse_tree.specs.Clash.{is_clash}
+use Rattle.reuse_change.specs.Clash.{is_clash}
 use Rattle.reuse_plan.specs.Plan.{AnswersEdit}
 use Rattle.reuse_plan.proofs.EditLemmas.{fits_by, new_is}
 use Rattle.reuse_plan.proofs.place.make_neighbour.Goals as goal

@@ -1,8 +1,8 @@
 use Rattle.std.proofs.Common.{◌≡◌, ◌∙◌, ℕ, Bool, true, false, Err, nat_lt, List, ◌++◌, codes, length, refl, sym, ap}
 use Rattle.std.proofs.lemmas.Bool.{false≢true, ltb-false}
-use Rattle.reuse_tree.specs.Path.{is_path}
+use Rattle.reuse_change.specs.Path.{is_path}
 use Rattle.reuse_plan.specs.Annotate.{neighbour_of}
-use Rattle.reuse_tree.proofs.NeighbourLemmas.{good_neighbour}
+use Rattle.reuse_change.proofs.NeighbourLemmas.{good_neighbour}
 use Rattle.reuse_plan.proofs.place.neighbour_path.Goals as goal
 
 too_long : (path : List ℕ) → is_path path ≡ true → is_path (neighbour_of path) ≡ false → nat_lt 4096 (length (neighbour_of path)) ≡ true

@@ -1,8 +1,8 @@
 use Rattle.std.proofs.Common.{◌≡◌, ◌∙◌, true, Err, sym, ap}
 use Rattle.reuse_plan.proofs.Annotating.{told_as}
-use Rattle.reuse_tree.specs.Clash.{is_clash}
+use Rattle.reuse_change.specs.Clash.{is_clash}
 use Rattle.reuse_command.specs.Reading.{tree_of, IsOfPlan}
-use Rattle.reuse_tree.specs.Tree.{is_of_tree}
+use Rattle.reuse_change.specs.Tree.{is_of_tree}
 use Rattle.reuse_command.specs.declared.reply.Refusal.TheVariants as refusals
 use Rattle.reuse_command.proofs.Asking.{no_fault, failed, plan_faults}
 use Rattle.reuse_plan.proofs.AtTree.{clash_of_tree}

@@ -1,13 +1,13 @@
 use Rattle.std.proofs.Common.{◌∙◌, IfOk, Some, None, sym, ap, subst}
 use Rattle.std.specs.FinMap.{get}
-use Rattle.reuse_tree.specs.Change.{path_of, IsProper}
-use Rattle.reuse_tree.specs.declared.change.Change.{Change}
-use Rattle.reuse_tree.specs.declared.change.Change.TheVariants.{Drop}
+use Rattle.reuse_change.specs.Change.{path_of, IsProper}
+use Rattle.reuse_change.specs.declared.change.Change.{Change}
+use Rattle.reuse_change.specs.declared.change.Change.TheVariants.{Drop}
 use Rattle.reuse_text.specs.declared.TheConstants.{LONGEST_FILE}
-use Rattle.reuse_tree.specs.Entry.{IsSmall}
+use Rattle.reuse_change.specs.Entry.{IsSmall}
 use Rattle.reuse_plan.specs.Plan.{MakesEdit}
 use Rattle.reuse_plan.specs.Reverting.{taken_back}
-use Rattle.reuse_tree.proofs.ReadingLemmas.{absent_is, found_is, given_as}
+use Rattle.reuse_store.proofs.ReadingLemmas.{absent_is, found_is, given_as}
 use Rattle.reuse_plan.proofs.RevertPlanning.{found, make_makes}
 use Rattle.reuse_plan.proofs.revert.change_back.Goals as goal
 

@@ -1,7 +1,7 @@
 use Rattle.std.proofs.Common.{◌∙◌, Some, sym, ap₂, subst, bytes_eq}
 use Rattle.std.proofs.lemmas.Bool.{not-false}
-use Rattle.reuse_tree.specs.declared.change.Change.{Change}
-use Rattle.reuse_tree.specs.declared.change.Change.TheVariants.{Make}
+use Rattle.reuse_change.specs.declared.change.Change.{Change}
+use Rattle.reuse_change.specs.declared.change.Change.TheVariants.{Make}
 use Rattle.reuse_plan.specs.Plan.{MakesEdit}
 use Rattle.reuse_plan.specs.Reverting.{taken_back}
 use Rattle.reuse_plan.proofs.RevertPlanning.{found, drop_makes}

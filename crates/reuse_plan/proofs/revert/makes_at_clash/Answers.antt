@@ -1,9 +1,9 @@
 use Rattle.std.proofs.Common.{◌≡◌, ◌&&◌, IfOk, true, sym, ap, subst, ◌∙◌}
-use Rattle.reuse_tree.specs.Change.{path_of}
-use Rattle.reuse_tree.specs.Clash.{is_clash}
-use Rattle.reuse_tree.specs.Entry.{makes}
-use Rattle.reuse_tree.specs.Files.{tree_of}
-use Rattle.reuse_tree.specs.declared.direction.Direction.TheVariants.{Backward}
+use Rattle.reuse_change.specs.Change.{path_of}
+use Rattle.reuse_change.specs.Clash.{is_clash}
+use Rattle.reuse_change.specs.Entry.{makes}
+use Rattle.reuse_change.specs.Files.{tree_of}
+use Rattle.reuse_change.specs.declared.direction.Direction.TheVariants.{Backward}
 use Rattle.reuse_plan.proofs.AtTree.{clash_of_tree}
 use Rattle.reuse_plan.proofs.revert.makes_at_clash.Goals as goal
 

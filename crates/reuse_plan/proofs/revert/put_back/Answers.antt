@@ -1,7 +1,7 @@
 use Rattle.std.proofs.Common.{◌≡◌, ◌∙◌, ◌+◌, ◌-◌, ◌≤◌, length, true, Some, sym, ap, ap₂, subst, arith}
-use Rattle.reuse_tree.specs.Change.{sealed_splice}
-use Rattle.reuse_tree.specs.declared.change.Change.{Change}
-use Rattle.reuse_tree.specs.declared.change.Change.TheVariants.{Splice}
+use Rattle.reuse_change.specs.Change.{sealed_splice}
+use Rattle.reuse_change.specs.declared.change.Change.{Change}
+use Rattle.reuse_change.specs.declared.change.Change.TheVariants.{Splice}
 use Rattle.reuse_text.specs.declared.TheConstants.{LONGEST_FILE}
 use Rattle.reuse_plan.specs.Plan.{MakesEdit}
 use Rattle.reuse_plan.specs.Reverting.{stands_as_written, taken_back}

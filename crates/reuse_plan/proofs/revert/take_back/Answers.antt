@@ -1,10 +1,10 @@
 use Rattle.std.proofs.Common.{◌≡◌, ◌∙◌, false, Ok, sym, ap, subst}
 use Rattle.reuse_command.specs.Reading.{get, tree_of, reading_of}
-use Rattle.reuse_tree.specs.Change.{path_of}
-use Rattle.reuse_tree.specs.Listing.{is_among}
+use Rattle.reuse_change.specs.Change.{path_of}
+use Rattle.reuse_change.specs.Listing.{is_among}
 use Rattle.reuse_text.specs.declared.TheConstants.{LONGEST_FILE}
-use Rattle.reuse_tree.proofs.AskedLemmas.{reads_more}
-use Rattle.reuse_tree.proofs.OfTree.{tree_at}
+use Rattle.reuse_store.proofs.AskedLemmas.{reads_more}
+use Rattle.reuse_store.proofs.OfTree.{tree_at}
 use Rattle.reuse_plan.specs.Plan.{MakesEdit}
 use Rattle.reuse_command.specs.Answer.{IsEarlyFailure}
 use Rattle.reuse_command.proofs.Asking.{told}

@@ -1,9 +1,9 @@
 use Rattle.std.proofs.Common.{◌≡◌, ◌∙◌, sym, ap, ap₂, subst, IfErr, ◌+◌, ◌||◌, nat_lt, List, length, IsPermutation}
 use Rattle.std.proofs.lemmas.List.Sorted.{length_permutation, sum_by-IsPermutation}
 use Rattle.std.proofs.lemmas.Result.{err_from_is_err_and}
-use Rattle.reuse_tree.specs.Files.{Files, tree_of}
-use Rattle.reuse_tree.specs.declared.change.Change.{Change}
-use Rattle.reuse_tree.specs.Entry.{change_size, entry_size}
+use Rattle.reuse_change.specs.Files.{Files, tree_of}
+use Rattle.reuse_change.specs.declared.change.Change.{Change}
+use Rattle.reuse_change.specs.Entry.{change_size, entry_size}
 use Rattle.reuse_plan.specs.Counted.{skipped_planned}
 use Rattle.reuse_plan.specs.Outcome.{outcome_of, path_edits_of, edits_of, tree_after}
 use Rattle.reuse_plan.specs.PathPlans.{ArePlansOf, changes_planned}
@@ -12,7 +12,7 @@ use Rattle.reuse_plan.specs.declared.path_plan.PathPlan.{PathPlan}
 use Rattle.reuse_plan.specs.declared.path_plan.Policy.TheVariants.{Stop}
 use Rattle.reuse_plan.proofs.PathPlanning.{changes_made, none_refused}
 use Rattle.reuse_plan.specs.Plan.{IsRefusalOf, MakesEdits}
-use Rattle.reuse_tree.proofs.TreeLemmas.{tree_are_files}
+use Rattle.reuse_store.proofs.TreeLemmas.{tree_are_files}
 use Rattle.reuse_plan.proofs.Annotating.{refusal_passes, too_many}
 use Rattle.reuse_plan.proofs.Counting.{skips_are}
 use Rattle.reuse_plan.proofs.EditOrder.{sorted_plan}

@@ -1,9 +1,9 @@
 use Rattle.std.proofs.Common.{◌≡◌, ◌∙◌, ◌++◌, ◌+◌, ◌||◌, nat_lt, List, length, sym, ap, ap₂, subst, IsPermutation}
 use Rattle.std.proofs.lemmas.List.Sorted.{length_permutation, sum_by-IsPermutation}
-use Rattle.reuse_tree.specs.Entry.{change_size, entry_size}
-use Rattle.reuse_tree.specs.Files.{tree_of}
-use Rattle.reuse_tree.specs.declared.change.Change.{Change}
-use Rattle.reuse_tree.proofs.TreeLemmas.{tree_are_files}
+use Rattle.reuse_change.specs.Entry.{change_size, entry_size}
+use Rattle.reuse_change.specs.Files.{tree_of}
+use Rattle.reuse_change.specs.declared.change.Change.{Change}
+use Rattle.reuse_store.proofs.TreeLemmas.{tree_are_files}
 use Rattle.reuse_plan.specs.Counted.{skipped_planned}
 use Rattle.reuse_plan.specs.PathOutcomes.{path_outcomes_of, first_refusal}
 use Rattle.reuse_plan.specs.Outcome.{edits_of, outcome_of, path_edits_of}

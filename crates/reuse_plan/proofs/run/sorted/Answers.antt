@@ -2,7 +2,7 @@ use Rattle.std.proofs.Common.{rules, of_calls}
 use Rattle.std.specs.Cmp.Lexicographic.{nat_list_cmp_total}
 use Rattle.std.proofs.lemmas.Fn.{always_returns_same}
 use Rattle.std.proofs.lemmas.List.Sorted.{ranks_by}
-use Rattle.reuse_tree.specs.Change.{path_of}
+use Rattle.reuse_change.specs.Change.{path_of}
 use Rattle.reuse_plan.specs.Plan.{is_before}
 use Rattle.reuse_plan.proofs.run.sorted.Goals as goal
 

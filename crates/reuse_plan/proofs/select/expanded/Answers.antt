@@ -1,6 +1,6 @@
 use Rattle.std.proofs.Common.{◌≡◌, ◌++◌, ◌∙◌, sym, ap, subst}
-use Rattle.reuse_tree.specs.Files.{tree_of}
-use Rattle.reuse_tree.proofs.AskedLemmas.{reads_more}
+use Rattle.reuse_change.specs.Files.{tree_of}
+use Rattle.reuse_store.proofs.AskedLemmas.{reads_more}
 use Rattle.reuse_plan.specs.Shown.{ShowsPlace}
 use Rattle.reuse_plan.specs.Selected.{expanded}
 use Rattle.reuse_plan.proofs.PlaceLemmas.{expanded_more}

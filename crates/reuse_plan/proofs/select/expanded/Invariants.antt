@@ -1,6 +1,6 @@
 use Rattle.std.proofs.Common.{◌≡◌, take, flat_map, All}
 use Rattle.reuse_command.specs.Reading.{OnlyReads, tree_of}
-use Rattle.reuse_tree.specs.Listing.{ArePaths}
+use Rattle.reuse_change.specs.Listing.{ArePaths}
 use Rattle.reuse_plan.specs.Shown.{ShowsPlace}
 use Rattle.reuse_plan.specs.Selected.{expanded}
 use Rattle.reuse_plan.proofs.select.expanded.Given as goal

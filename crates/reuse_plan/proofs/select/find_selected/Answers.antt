@@ -1,9 +1,9 @@
 use Rattle.std.proofs.Common.{◌≡◌, ◌∙◌, cond, Ok, map, sym, ap, ap₂, subst, flat_map, All}
 use Rattle.reuse_notice.specs.Sets.{set_of}
 use Rattle.reuse_notice.proofs.SetLemmas.{sorted-set_of}
-use Rattle.reuse_tree.specs.Files.{tree_of}
-use Rattle.reuse_tree.specs.Listing.{ArePaths, listed_paths}
-use Rattle.reuse_tree.proofs.TreeLemmas.{tree_are_files}
+use Rattle.reuse_change.specs.Files.{tree_of}
+use Rattle.reuse_change.specs.Listing.{ArePaths, listed_paths}
+use Rattle.reuse_store.proofs.TreeLemmas.{tree_are_files}
 use Rattle.reuse_command.specs.Choice.{is_passed_over}
 use Rattle.reuse_plan.specs.Shown.{folders_for, ShowsEach, ShowsPlace}
 use Rattle.reuse_command.specs.Command.{paths_among}
@@ -11,7 +11,7 @@ use Rattle.reuse_plan.specs.Unused.{leaves_none_out, unmet_count, AreUnusedWhere
 use Rattle.reuse_plan.specs.Selected.{expanded, selected_paths}
 use Rattle.reuse_plan.specs.declared.select.Listing.TheVariants.{Listed}
 use Rattle.reuse_plan.proofs.Annotating.{told_as}
-use Rattle.reuse_tree.proofs.AskedLemmas.{reads_more}
+use Rattle.reuse_store.proofs.AskedLemmas.{reads_more}
 use Rattle.reuse_command.specs.Answer.{IsEarlyFailure}
 use Rattle.reuse_command.proofs.Asking.{told, short, failed, later, look_faults}
 use Rattle.reuse_plan.proofs.Choosing.{listed, listed_ascend, shows_each_place, shows_selected}

@@ -1,8 +1,8 @@
 use Rattle.std.proofs.Common.{◌∙◌, Ok, Err, ap}
 use Rattle.std.proofs.lemmas.Result.{err_from_is_err_and}
-use Rattle.reuse_tree.specs.Files.{tree_of}
-use Rattle.reuse_tree.specs.Listing.{listed_paths}
-use Rattle.reuse_tree.proofs.AskedLemmas.{reads_none}
+use Rattle.reuse_change.specs.Files.{tree_of}
+use Rattle.reuse_change.specs.Listing.{listed_paths}
+use Rattle.reuse_store.proofs.AskedLemmas.{reads_none}
 use Rattle.reuse_command.specs.Choice.{is_passed_over}
 use Rattle.reuse_command.specs.Answer.{IsEarlyFailure}
 use Rattle.reuse_plan.proofs.Annotating.{told_as}

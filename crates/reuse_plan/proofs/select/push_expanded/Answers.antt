@@ -1,7 +1,7 @@
 use Rattle.std.proofs.Common.{◌≡◌, ◌∙◌, ◌++◌, not, true, false, Bool, refl, sym, ap, subst}
 use Rattle.std.proofs.lemmas.Bool.{false≢true}
-use Rattle.reuse_tree.specs.Files.{tree_of}
-use Rattle.reuse_tree.specs.Listing.{is_folder}
+use Rattle.reuse_change.specs.Files.{tree_of}
+use Rattle.reuse_change.specs.Listing.{is_folder}
 use Rattle.reuse_plan.specs.Shown.{ShowsPlace}
 use Rattle.reuse_plan.specs.Selected.{expanded}
 use Rattle.reuse_command.specs.declared.command.Place.{Place}

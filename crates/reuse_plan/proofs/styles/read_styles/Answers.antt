@@ -2,7 +2,7 @@ use Rattle.std.proofs.Common.{◌∙◌, sym, ap}
 use Rattle.reuse_command.specs.Reading.{get, tree_of, reading_of}
 use Rattle.reuse_text.specs.declared.TheConstants.{LONGEST_FILE}
 use Rattle.reuse_plan.specs.TreeStyles.{styles_path}
-use Rattle.reuse_tree.proofs.TreeLemmas.{tree_file}
+use Rattle.reuse_store.proofs.TreeLemmas.{tree_file}
 use Rattle.reuse_plan.proofs.styles.read_styles.Goals as goal
 
 pub returns-clause-styles : goal.returns-clause-styles

@@ -7,7 +7,7 @@ use Rattle.reuse_plan.specs.Plan.{IsRefusalOf}
 use Rattle.reuse_plan.specs.TreeStyles.{OwnNames, styles_path, styles_refusal, styles_read, styles_where}
 use Rattle.reuse_command.specs.declared.reply.Refusal.{Refusal}
 use Rattle.reuse_command.specs.declared.reply.Refusal.TheVariants as refusals
-use Rattle.reuse_tree.proofs.ReadingLemmas.{absent_is, found_is}
+use Rattle.reuse_store.proofs.ReadingLemmas.{absent_is, found_is}
 use Rattle.reuse_plan.proofs.styles.styles_by.Goals as goal
 use Rattle.reuse_plan.proofs.styles.styles_by.Goals.{in-Absent, in-Found}
 use Rattle.std.proofs.lemmas.Bool.{le-ltb}

@@ -1,7 +1,7 @@
 use Rattle.std.proofs.Common.{◌≡◌, ◌∙◌, ◌||◌, is_some, sym, ap}
 use Rattle.std.specs.FinMap.{get}
-use Rattle.reuse_tree.specs.Listing.{is_among}
-use Rattle.reuse_tree.proofs.TreeLemmas.{among_keys}
+use Rattle.reuse_change.specs.Listing.{is_among}
+use Rattle.reuse_store.proofs.TreeLemmas.{among_keys}
 use Rattle.reuse_plan.specs.Annotate.{neighbour_of, goes_beside_unread}
 use Rattle.reuse_plan.specs.AnnotationPlan.{own_of}
 use Rattle.reuse_plan.proofs.target_choice.goes_beside.Goals as goal

@@ -3,9 +3,9 @@ use Rattle.reuse_command.specs.Reading.{keys, tree_of}
 use Rattle.std.specs.Ordering.{nat_cmp}
 use Rattle.std.specs.Cmp.Lexicographic.{slice_cmp}
 use Rattle.std.proofs.lemmas.List.Kept.{IsStrictlySortedBy-filter}
-use Rattle.reuse_tree.specs.Listing.{ArePaths, is_folder_of, is_wanted, listed_paths}
-use Rattle.reuse_tree.proofs.NeedLemmas.{folder_listed}
-use Rattle.reuse_tree.proofs.TreeLemmas.{keys_ascend}
+use Rattle.reuse_change.specs.Listing.{ArePaths, is_folder_of, is_wanted, listed_paths}
+use Rattle.reuse_change.proofs.NeedLemmas.{folder_listed}
+use Rattle.reuse_store.proofs.TreeLemmas.{keys_ascend}
 use Rattle.reuse_plan.proofs.tree_paths.is_folder_alone.Goals as goal
 
 pub returns-clause-folder : goal.returns-clause-folder

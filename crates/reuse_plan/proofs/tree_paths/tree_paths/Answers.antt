@@ -1,6 +1,6 @@
 use Rattle.std.proofs.Common.{◌∙◌, ap, not, filter, rules}
 use Rattle.std.proofs.lemmas.Fn.{filter_same}
-use Rattle.reuse_tree.specs.Path.{lies_under, journal_folder}
+use Rattle.reuse_change.specs.Path.{lies_under, journal_folder}
 use Rattle.reuse_plan.proofs.ShownLemmas.{listed_of_tree}
 use Rattle.reuse_plan.proofs.tree_paths.tree_paths.Goals as goal
 

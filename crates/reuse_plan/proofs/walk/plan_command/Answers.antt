@@ -1,6 +1,6 @@
 use Rattle.std.proofs.Common.{Ok, OnOk, sym, ap, subst}
 use Rattle.reuse_header.specs.Names.{lookup}
-use Rattle.reuse_tree.specs.Files.{tree_of}
+use Rattle.reuse_change.specs.Files.{tree_of}
 use Rattle.reuse_plan.specs.Conversion.{conversion_edits}
 use Rattle.reuse_plan.specs.Outcome.{annotations_by, path_edits_of}
 use Rattle.reuse_plan.specs.PathPlans.{AnswersPlans}

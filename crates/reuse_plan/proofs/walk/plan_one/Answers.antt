@@ -1,5 +1,5 @@
 use Rattle.std.proofs.Common.{sym, subst}
-use Rattle.reuse_tree.specs.Files.{tree_of}
+use Rattle.reuse_change.specs.Files.{tree_of}
 use Rattle.reuse_plan.specs.Asked.{at_by}
 use Rattle.reuse_plan.specs.PathPlans.{AnswersPlan}
 use Rattle.reuse_plan.specs.Shown.{ShowsOne, ShowsPair}

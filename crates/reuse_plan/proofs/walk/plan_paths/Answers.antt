@@ -2,13 +2,13 @@ use Rattle.std.proofs.Common.{◌≡◌, ◌+◌, ◌∷◌, drop, map, sym, sub
 use Rattle.std.proofs.lemmas.List.{drop_all}
 use Rattle.reuse_plan.specs.Shown.{ShowsEach, ShowsOne}
 use Rattle.reuse_plan.proofs.ShownLemmas.{one_of_each}
-use Rattle.reuse_tree.specs.Files.{tree_of}
-use Rattle.reuse_tree.proofs.AskedLemmas.{reads_more}
+use Rattle.reuse_change.specs.Files.{tree_of}
+use Rattle.reuse_store.proofs.AskedLemmas.{reads_more}
 use Rattle.reuse_plan.specs.Asked.{at_by}
 use Rattle.reuse_plan.specs.PathPlans.{IsPlanOf}
 use Rattle.reuse_plan.specs.Plan.{IsRefusalOf}
 use Rattle.reuse_plan.proofs.PathPlanning.{WalkedSoFar, after_plan, at_refusal, at_end}
-use Rattle.reuse_tree.proofs.AtChange.{left_here}
+use Rattle.reuse_store.proofs.AtChange.{left_here}
 use Rattle.reuse_plan.proofs.walk.plan_paths.Given.{Over}
 use Rattle.reuse_plan.proofs.walk.plan_paths.Goals.{After-plan_one}
 use Rattle.reuse_plan.proofs.walk.plan_paths.Goals as goal

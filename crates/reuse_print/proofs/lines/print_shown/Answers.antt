@@ -1,7 +1,7 @@
 use Rattle.std.proofs.Common.{subst, List}
 use Rattle.std.proofs.lemmas.Result.{on_ok_weaker}
 use Rattle.std.specs.Io.KnownBytes.{Appends}
-use Rattle.reuse_tree.specs.declared.change.Change.{Change}
+use Rattle.reuse_change.specs.declared.change.Change.{Change}
 use Rattle.reuse_print.specs.Lines.{change_lines}
 use Rattle.reuse_print.proofs.RowLemmas.{AppendsSome-shown}
 use Rattle.reuse_print.proofs.lines.print_shown.Goals as goal

@@ -1,12 +1,12 @@
 use Rattle.std.proofs.Common.{◌<◌, IfErr, Some, arith, ap, sym, subst, ◌∙◌}
 use Rattle.std.proofs.lemmas.Bool.{false≢true}
-use Rattle.reuse_tree.specs.Files.{Files}
+use Rattle.reuse_change.specs.Files.{Files}
 use Rattle.reuse_command.specs.Answer.{HasCause}
 use Rattle.reuse_journal.specs.JournalFiles.{IsFree}
 use Rattle.reuse_session.specs.session.Driven.{IsSafelyAt}
 use Rattle.reuse_session.specs.session.Stops.{Point, open_at, Continues, AreLeft}
 use Rattle.reuse_session.specs.declared.events.Driven.TheVariants.{Closed}
-use Rattle.reuse_tree.specs.Tree.{undo_folder_of}
+use Rattle.reuse_change.specs.Tree.{undo_folder_of}
 use Rattle.reuse_session.proofs.lemmas.session.Driving.{goes_on, closes}
 use Rattle.reuse_session.proofs.lemmas.session.SafeAnswers.{follows, stands, stops, goes_safely}
 use Rattle.reuse_session.proofs.lemmas.session.SafeDriving.{goes_on_safely, closes_safely}

@@ -1,5 +1,5 @@
 use Rattle.std.proofs.Common.{◌≡◌, [], Result, Ok, sym, ◌∙◌}
-use Rattle.reuse_tree.specs.Files.{Files}
+use Rattle.reuse_change.specs.Files.{Files}
 use Rattle.reuse_command.specs.declared.command.Command.TheVariants.{Revert}
 use Rattle.reuse_command.specs.declared.reply.Refusal.{Refusal}
 use Rattle.reuse_session.proofs.lemmas.session.LeftByRuns.{left_by_run}

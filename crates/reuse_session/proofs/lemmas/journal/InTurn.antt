@@ -12,18 +12,18 @@ use Rattle.std.proofs.lemmas.List.Elements.{All-cons, All-nil}
 use Rattle.std.proofs.lemmas.List.Sorted.{All-permutation, IsPermutation-sym, list_any-IsPermutation}
 use Rattle.std.proofs.lemmas.Map.Keys.{IsDistinct-IsPermutation, sorted_head, sorted_tail}
 use Rattle.std.proofs.lemmas.Slice.Eq.{bytes_eq-Decides}
-use Rattle.reuse_tree.specs.Files.{Files}
-use Rattle.reuse_tree.specs.Change.{path_of, inverse_of, Applies, Leads}
-use Rattle.reuse_tree.specs.declared.change.Change.{Change}
-use Rattle.reuse_tree.proofs.FileMaps.{same_files, same_or_other}
-use Rattle.reuse_tree.proofs.Applying.{applies_back, inverse_twice, path_of-inverse}
-use Rattle.reuse_tree.specs.declared.direction.Direction.{Direction}
-use Rattle.reuse_tree.specs.declared.direction.Direction.TheVariants.{Backward}
-use Rattle.reuse_tree.specs.Entry.{touches, paths_of, IsEntry, AppliesBy, LeadsBy, LeadsAll}
+use Rattle.reuse_change.specs.Files.{Files}
+use Rattle.reuse_change.specs.Change.{path_of, inverse_of, Applies, Leads}
+use Rattle.reuse_change.specs.declared.change.Change.{Change}
+use Rattle.reuse_change.proofs.FileMaps.{same_files, same_or_other}
+use Rattle.reuse_change.proofs.Applying.{applies_back, inverse_twice, path_of-inverse}
+use Rattle.reuse_change.specs.declared.direction.Direction.{Direction}
+use Rattle.reuse_change.specs.declared.direction.Direction.TheVariants.{Backward}
+use Rattle.reuse_change.specs.Entry.{touches, paths_of, IsEntry, AppliesBy, LeadsBy, LeadsAll}
 use Rattle.reuse_journal.specs.InTurn.{LeadsInTurn}
 use Rattle.reuse_plan.specs.Outcome.{with_file}
 use Rattle.reuse_plan.proofs.Planning.{with_same, with_other}
-use Rattle.reuse_tree.proofs.Walk.{of_no_change}
+use Rattle.reuse_change.proofs.Walk.{of_no_change}
 
 -- ---- one change before others of other paths
 

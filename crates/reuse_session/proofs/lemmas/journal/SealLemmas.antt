@@ -6,18 +6,18 @@ use Rattle.std.specs.List.{All}
 use Rattle.std.specs.FinMap.{get}
 use Rattle.std.proofs.lemmas.List.Sorted.{All-permutation}
 use Rattle.sha2.specs.Sha256.{sha256}
-use Rattle.reuse_tree.specs.Files.{Files}
-use Rattle.reuse_tree.specs.Change.{path_of, is_sealed}
-use Rattle.reuse_tree.specs.declared.change.Change.{Change}
-use Rattle.reuse_tree.proofs.Sealed.{same_after, same_before}
-use Rattle.reuse_tree.specs.Entry.{IsReady, CanBeMade, AreAllSealed}
+use Rattle.reuse_change.specs.Files.{Files}
+use Rattle.reuse_change.specs.Change.{path_of, is_sealed}
+use Rattle.reuse_change.specs.declared.change.Change.{Change}
+use Rattle.reuse_change.proofs.Sealed.{same_after, same_before}
+use Rattle.reuse_change.specs.Entry.{IsReady, CanBeMade, AreAllSealed}
 use Rattle.reuse_journal.specs.Journal.{State}
 use Rattle.reuse_journal.specs.Seals.{tree_for, IsAsLeft, IsUntouched, IsToldApart}
-use Rattle.reuse_tree.specs.Apply.{IsReadyByRange}
+use Rattle.reuse_store.specs.Apply.{IsReadyByRange}
 use Rattle.reuse_session.specs.session.Session.{IsRun}
 use Rattle.reuse_command.specs.declared.command.Command.{Command}
-use Rattle.reuse_tree.specs.declared.direction.Direction.{Direction}
-use Rattle.reuse_tree.specs.declared.direction.Direction.TheVariants.{Forward, Backward}
+use Rattle.reuse_change.specs.declared.direction.Direction.{Direction}
+use Rattle.reuse_change.specs.declared.direction.Direction.TheVariants.{Forward, Backward}
 use Rattle.reuse_plan.proofs.Planning.{sealed_each}
 
 -- a file that is ready is so by range and length

@@ -3,8 +3,8 @@ use Rattle.std.proofs.Common.{◌≡◌, ◌≢◌, inl, inr, ℕ, ◌+◌, ◌<
 use Rattle.std.proofs.lemmas.Bool.{false≢true, or_from}
 use Rattle.std.proofs.lemmas.List.{length-append, length-map, length-reverse, get_or-append-add, append-nil}
 use Rattle.std.specs.FinMap.{get}
-use Rattle.reuse_tree.specs.Path.{lies_under}
-use Rattle.reuse_tree.specs.Files.{Files, Clashes, tree_of}
+use Rattle.reuse_change.specs.Path.{lies_under}
+use Rattle.reuse_change.specs.Files.{Files, Clashes, tree_of}
 use Rattle.reuse_command.specs.declared.failure.Fault.TheVariants as faults
 use Rattle.reuse_command.specs.Answer.{IsEarly, TellsNoFault, IsReadRefusal, IsFailure, HasClash, IsNoClash, IsEarlyFailure}
 use Rattle.reuse_tree.specs.Head.{IsSoundHead}
@@ -12,15 +12,15 @@ use Rattle.reuse_journal.specs.History.{Memory}
 use Rattle.reuse_journal.specs.Journal.{Recorded, Journal, State, ahead, moved_on}
 use Rattle.reuse_journal.specs.Labels.{is_full}
 use Rattle.reuse_journal.specs.JournalFiles.{head_path, entry_path, head_of, number_of, EntrySays, IsFree, IsJournalPath}
-use Rattle.reuse_tree.specs.declared.journal.entry.Entry.{Entry}
+use Rattle.reuse_json.specs.declared.entry.Entry.{Entry}
 use Rattle.reuse_session.specs.session.Session.{store_of, memory_of, StandsOn}
 use Rattle.reuse_journal.specs.Remembered.{listed_count, IsSameBut, Remembers}
 use Rattle.reuse_journal.specs.Standing.{IsTree, IsStanding}
-use Rattle.reuse_tree.specs.Tree.{undo_folder_of}
+use Rattle.reuse_change.specs.Tree.{undo_folder_of}
 use Rattle.reuse_session.specs.declared.session.Session.{Session}
-use Rattle.reuse_tree.specs.declared.direction.Direction.{Direction}
-use Rattle.reuse_tree.specs.declared.direction.Direction.TheVariants.{Forward, Backward}
-use Rattle.reuse_tree.specs.declared.cause.Cause.TheVariants as causes
+use Rattle.reuse_change.specs.declared.direction.Direction.{Direction}
+use Rattle.reuse_change.specs.declared.direction.Direction.TheVariants.{Forward, Backward}
+use Rattle.reuse_store.specs.declared.cause.Cause.TheVariants as causes
 use Rattle.reuse_command.specs.declared.reply.Response.{Response}
 use Rattle.reuse_command.specs.declared.reply.Refusal.{Refusal}
 use Rattle.reuse_command.specs.declared.failure.Failure.TheVariants.{Memory as OutOfMemory, Fault, Interrupted}
@@ -28,7 +28,7 @@ use Rattle.reuse_command.specs.declared.reply.Refusal.TheVariants.{BadJournal, F
 use Rattle.reuse_command.proofs.OnlyReading.{is_refused}
 use Rattle.reuse_journal.proofs.HeadMutations.{below}
 use Rattle.reuse_journal.proofs.JournalLemmas.{clash_beneath, entry_in_folder, like, paths_apart}
-use Rattle.reuse_tree.proofs.OfTree.{get-folder}
+use Rattle.reuse_store.proofs.OfTree.{get-folder}
 use Rattle.reuse_journal.proofs.Standings.{after_entry}
 use Rattle.reuse_session.proofs.lemmas.journal.Stepping.{last_number}
 use Rattle.reuse_journal.proofs.MemoryLemmas.{counted}

@@ -2,20 +2,20 @@
 use Rattle.std.proofs.Common.{◌≡◌, ◌⊎◌, inl, inr, ⊎_elim, ℕ, ◌+◌, ◌<◌, List, Option, Some, None, Result, Ok, Err, refl, sym, ap, subst, ◌∙◌, arith}
 use Rattle.std.specs.FinMap.{get}
 use Rattle.std.specs.List.{All}
-use Rattle.reuse_tree.specs.Asked.{Leaves, IsSynced, OnlyReads}
-use Rattle.reuse_tree.specs.Entry.{IsEntry, LeadsBy, SomeMade, ArePartlyMade}
-use Rattle.reuse_tree.specs.Files.{Files, AreFiles, tree_of}
+use Rattle.reuse_store.specs.Asked.{Leaves, IsSynced, OnlyReads}
+use Rattle.reuse_change.specs.Entry.{IsEntry, LeadsBy, SomeMade, ArePartlyMade}
+use Rattle.reuse_change.specs.Files.{Files, AreFiles, tree_of}
 use Rattle.reuse_tree.specs.Head.{direction_of, listed_direction, IsGoodHead}
-use Rattle.reuse_tree.specs.Tree.{undo_folder_of, Sets}
+use Rattle.reuse_change.specs.Tree.{undo_folder_of, Sets}
 use Rattle.reuse_tree.specs.declared.journal.head.Pending.{Pending}
 use Rattle.reuse_tree.specs.declared.journal.head.PendingDirection.{PendingDirection}
 use Rattle.reuse_tree.specs.declared.journal.head.PendingDirection.TheVariants.{Do, Undo, Redo}
-use Rattle.reuse_tree.specs.declared.store.Store.{Ghosts}
-use Rattle.reuse_tree.specs.declared.direction.Direction.{Direction}
-use Rattle.reuse_tree.specs.declared.direction.Direction.TheVariants as go
-use Rattle.reuse_tree.proofs.MadeLemmas.{made_none, made_all, reach_ready}
-use Rattle.reuse_tree.proofs.TreeLemmas.{tree_are_files}
-use Rattle.reuse_tree.proofs.Walk.{leads_once}
+use Rattle.reuse_store.specs.declared.store.Store.{Ghosts}
+use Rattle.reuse_change.specs.declared.direction.Direction.{Direction}
+use Rattle.reuse_change.specs.declared.direction.Direction.TheVariants as go
+use Rattle.reuse_store.proofs.MadeLemmas.{made_none, made_all, reach_ready}
+use Rattle.reuse_store.proofs.TreeLemmas.{tree_are_files}
+use Rattle.reuse_change.proofs.Walk.{leads_once}
 use Rattle.reuse_journal.specs.Carried.{SetsHead, IsStopped}
 use Rattle.reuse_journal.specs.Journal.{Recorded, Journal, State, reply_of}
 use Rattle.reuse_journal.specs.JournalFiles.{head_path, entry_path, entry_in, head_of, number_of, EntrySays, IsKeptIn, KeepsJournal}

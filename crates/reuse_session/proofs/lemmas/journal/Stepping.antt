@@ -2,10 +2,10 @@
 use Rattle.std.proofs.Common.{◌≡◌, ℕ, ◌+◌, false, List, [], ◌∷◌, ◌++◌, length, map, reverse, get_or, Some, None, Ok, refl, sym, ap, subst, ◌∙◌, append_assoc}
 use Rattle.std.proofs.lemmas.List.{map-append, reverse-append}
 use Rattle.std.proofs.Math.Seq.{get_or-append_seam}
-use Rattle.reuse_tree.specs.Files.{Files}
-use Rattle.reuse_tree.specs.declared.change.Change.{Change}
+use Rattle.reuse_change.specs.Files.{Files}
+use Rattle.reuse_change.specs.declared.change.Change.{Change}
 use Rattle.reuse_command.specs.Command.{name_of}
-use Rattle.reuse_tree.specs.Entry.{IsEntry, LeadsBy}
+use Rattle.reuse_change.specs.Entry.{IsEntry, LeadsBy}
 use Rattle.reuse_tree.specs.Head.{direction_of, IsGoodHead, IsSoundHead}
 use Rattle.reuse_journal.specs.History.{Memory, head_listing, remember_run, remember_moved}
 use Rattle.reuse_journal.specs.Journal.{Recorded, Journal, State, moved_on}
@@ -16,16 +16,16 @@ use Rattle.reuse_plan.specs.Plan.{IsPlan, Records}
 use Rattle.reuse_session.specs.session.Session.{IsRun, IsStepOf}
 use Rattle.reuse_journal.specs.Remembered.{listed_as, Remembers}
 use Rattle.reuse_journal.specs.Standing.{IsStanding, IsStep}
-use Rattle.reuse_tree.specs.Tree.{undo_folder_of}
+use Rattle.reuse_change.specs.Tree.{undo_folder_of}
 use Rattle.reuse_command.specs.declared.command.Command.{Command}
-use Rattle.reuse_tree.specs.declared.direction.Direction.{Direction}
-use Rattle.reuse_tree.specs.declared.direction.Direction.TheVariants as go
+use Rattle.reuse_change.specs.declared.direction.Direction.{Direction}
+use Rattle.reuse_change.specs.declared.direction.Direction.TheVariants as go
 use Rattle.reuse_journal.specs.declared.history.ListedEntry.{ListedEntry}
 use Rattle.reuse_tree.specs.declared.journal.head.Pending.{Pending}
 use Rattle.reuse_tree.specs.declared.journal.head.PendingDirection.TheVariants.{Do}
 use Rattle.reuse_command.specs.Answer.{HasClash}
-use Rattle.reuse_tree.specs.declared.cause.Cause.{Cause}
-use Rattle.reuse_tree.specs.declared.cause.Cause.TheVariants as causes
+use Rattle.reuse_store.specs.declared.cause.Cause.{Cause}
+use Rattle.reuse_store.specs.declared.cause.Cause.TheVariants as causes
 use Rattle.reuse_command.specs.declared.failure.Failure.TheVariants.{Interrupted}
 use Rattle.reuse_command.specs.declared.reply.Refusal.TheVariants.{Failed}
 use Rattle.reuse_journal.proofs.HeadMutations.{sound_pending, sound_moved}

@@ -3,13 +3,13 @@ use Rattle.std.proofs.Common.{◌≡◌, ◌↔◌, ⊎_elim, ◌+◌, ℕ, Bool
 use Rattle.std.proofs.lemmas.Bool.{false≢true}
 use Rattle.std.specs.FinMap.{get}
 use Rattle.std.specs.List.{Contains}
-use Rattle.reuse_tree.specs.Asked.{OnlyReads}
-use Rattle.reuse_tree.specs.Files.{Files, Clashes}
-use Rattle.reuse_tree.specs.Tree.{undo_folder_of}
-use Rattle.reuse_tree.specs.declared.change.Change.{Change}
-use Rattle.reuse_tree.specs.declared.journal.entry.Entry.{Entry}
-use Rattle.reuse_tree.specs.declared.store.Store.{Ghosts}
-use Rattle.reuse_tree.specs.declared.cause.Cause.{Cause}
+use Rattle.reuse_store.specs.Asked.{OnlyReads}
+use Rattle.reuse_change.specs.Files.{Files, Clashes}
+use Rattle.reuse_change.specs.Tree.{undo_folder_of}
+use Rattle.reuse_change.specs.declared.change.Change.{Change}
+use Rattle.reuse_json.specs.declared.entry.Entry.{Entry}
+use Rattle.reuse_store.specs.declared.store.Store.{Ghosts}
+use Rattle.reuse_store.specs.declared.cause.Cause.{Cause}
 use Rattle.reuse_command.specs.Answer.{IsBrokenOrMemory, IsEarly, IsStop, IsNoClash, IsRunAnswer, HasClash, RefusedAsRead, TellsNoFault}
 use Rattle.reuse_session.specs.session.Calls.{files_of, folder_of, IsCall, LeavesRun}
 use Rattle.reuse_journal.specs.Journal.{Recorded, State, rows_in}
@@ -34,7 +34,7 @@ use Rattle.reuse_command.specs.declared.request.Call.{Call}
 use Rattle.reuse_command.specs.declared.request.Request.{Request}
 use Rattle.reuse_command.specs.declared.request.Request.TheVariants as requests
 use Rattle.reuse_session.specs.declared.session.Session.{Session}
-use Rattle.reuse_tree.specs.declared.cause.Cause.TheVariants as causes
+use Rattle.reuse_store.specs.declared.cause.Cause.TheVariants as causes
 use Rattle.reuse_journal.proofs.JournalLemmas.{same_entry}
 use Rattle.reuse_session.proofs.lemmas.session.Peeking.{refused, same_refusal, read_only_call, read_only_unclashed, still_stands, unclashed_read}
 use Rattle.reuse_session.proofs.lemmas.journal.StepDoubt.{reads_are_safe}

@@ -1,7 +1,7 @@
 -- What a call counts is no part of what its session stands at or leaves.
 use Rattle.std.proofs.Common.{ℕ, Result, Ok, Err, OnOk}
-use Rattle.reuse_tree.specs.Files.{Files}
-use Rattle.reuse_tree.specs.declared.store.Store.{Ghosts}
+use Rattle.reuse_change.specs.Files.{Files}
+use Rattle.reuse_store.specs.declared.store.Store.{Ghosts}
 use Rattle.reuse_session.specs.session.Calls.{LeavesRun}
 use Rattle.reuse_journal.specs.Journal.{State}
 use Rattle.reuse_session.specs.session.Previews.{path_outcomes_alone}

@@ -2,8 +2,8 @@
 use Rattle.std.proofs.Common.{◌≡◌, ◌⊎◌, inl, inr, ⊎_elim, ℕ, Bool, true, false, List, [], ◌∷◌, length, Option, Some, None, Result, Ok, Err, IfErr, refl, sym, ap, subst, ◌∙◌, arith}
 use Rattle.std.specs.FinMap.{get}
 use Rattle.std.proofs.lemmas.Option.{none-some}
-use Rattle.reuse_tree.specs.Files.{Files}
-use Rattle.reuse_tree.specs.declared.direction.Direction.TheVariants as direction
+use Rattle.reuse_change.specs.Files.{Files}
+use Rattle.reuse_change.specs.declared.direction.Direction.TheVariants as direction
 use Rattle.reuse_command.specs.declared.command.Command.{Command}
 use Rattle.reuse_session.specs.declared.events.Driven.{Driven}
 use Rattle.reuse_session.specs.declared.events.Driven.TheVariants.{Open, Closed}
@@ -12,7 +12,7 @@ use Rattle.reuse_tree.specs.declared.journal.head.Head.{Head}
 use Rattle.reuse_tree.specs.declared.journal.head.Pending.{Pending}
 use Rattle.reuse_tree.specs.declared.journal.head.PendingDirection.{PendingDirection}
 use Rattle.reuse_tree.specs.declared.journal.head.PendingDirection.TheVariants as pending
-use Rattle.reuse_tree.specs.declared.cause.Cause.{Cause}
+use Rattle.reuse_store.specs.declared.cause.Cause.{Cause}
 use Rattle.reuse_command.specs.declared.reply.Response.{Response}
 use Rattle.reuse_command.specs.declared.reply.Response.TheVariants.{Opened}
 use Rattle.reuse_command.specs.declared.reply.Refusal.{Refusal}
@@ -21,7 +21,7 @@ use Rattle.reuse_command.specs.declared.reply.Refusal.TheVariants.{Failed}
 use Rattle.reuse_command.specs.declared.request.Request.{Request}
 use Rattle.reuse_session.specs.declared.session.Session.{Session}
 use Rattle.reuse_command.specs.Answer.{IsEarly, IsFailure, TellsNoFault}
-use Rattle.reuse_tree.specs.Entry.{LeadsBy}
+use Rattle.reuse_change.specs.Entry.{LeadsBy}
 use Rattle.reuse_journal.specs.Journal.{Recorded, Journal, State}
 use Rattle.reuse_journal.specs.JournalFiles.{head_path, head_of, number_of}
 use Rattle.reuse_journal.specs.Losses.{IsNextBy}
@@ -34,11 +34,11 @@ use Rattle.reuse_journal.specs.Remembered.{Remembers}
 use Rattle.reuse_journal.specs.Standing.{IsStanding, IsStep, IsUnderWay, InDoubt, Mutations}
 use Rattle.reuse_session.specs.session.Driven.{IsAt, store_in}
 use Rattle.reuse_session.specs.session.Stops.{Point, open_at, closed, Reopens, Continues, AnswersEvent, AreLeft}
-use Rattle.reuse_tree.specs.Tree.{undo_folder_of}
+use Rattle.reuse_change.specs.Tree.{undo_folder_of}
 use Rattle.reuse_session.proofs.lemmas.session.Following.{back_from, on_from}
 use Rattle.reuse_journal.proofs.OpeningLemmas.{same_head}
 use Rattle.reuse_session.proofs.lemmas.session.RunFollowing.{step_follows}
-use Rattle.reuse_tree.proofs.Walk.{leads_once}
+use Rattle.reuse_change.proofs.Walk.{leads_once}
 
 -- ---- the state after a step that stopped
 

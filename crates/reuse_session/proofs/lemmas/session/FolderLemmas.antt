@@ -1,17 +1,17 @@
 -- What a call leaves of the journal's folder, from what its parts leave.
 use Rattle.std.proofs.Common.{◌≡◌, ℕ, ◌<◌, List, length, arith, cond, None, refl, sym, ap, ◌∙◌}
 use Rattle.std.specs.FinMap.{get}
-use Rattle.reuse_tree.specs.Files.{Files}
-use Rattle.reuse_tree.specs.Path.{lies_under, journal_folder}
+use Rattle.reuse_change.specs.Files.{Files}
+use Rattle.reuse_change.specs.Path.{lies_under, journal_folder}
 use Rattle.reuse_tree.specs.Head.{head_text}
 use Rattle.reuse_journal.specs.JournalFiles.{head_path, entry_path}
 use Rattle.reuse_journal.specs.Remembered.{HasEntryText, IsSameBut, IsSameButTwo}
-use Rattle.reuse_tree.specs.Tree.{undo_folder_of}
-use Rattle.reuse_tree.specs.declared.journal.entry.Entry.{Entry}
+use Rattle.reuse_change.specs.Tree.{undo_folder_of}
+use Rattle.reuse_json.specs.declared.entry.Entry.{Entry}
 use Rattle.reuse_tree.specs.declared.journal.head.Head.{Head}
 use Rattle.reuse_journal.proofs.JournalLemmas.{entry_in_folder, entry_path_is_not_head}
 use Rattle.reuse_journal.proofs.JournalReading.{file_in_folder}
-use Rattle.reuse_tree.proofs.OfTree.{get-folder}
+use Rattle.reuse_store.proofs.OfTree.{get-folder}
 
 -- where the files stay, so does the folder
 pub folder_stays : (files new : Files) (path : List ℕ) → new ≡ files → IsSameBut path (undo_folder_of files) (undo_folder_of new)

@@ -1,12 +1,12 @@
 -- A tree and a journal follow the reference model.
 use Rattle.std.proofs.Common.{◌≡◌, ◌⊎◌, ⊎_elim, ℕ, suc, ◌+◌, ◌<◌, true, false, cond, List, [], ◌∷◌, ◌++◌, length, map, reverse, Result, Ok, Err, refl, sym, ap, subst, ◌∙◌, arith}
 use Rattle.std.proofs.lemmas.List.{map-append, reverse-append, length-map, nil_from_length}
-use Rattle.reuse_tree.specs.Files.{Files, AreFiles}
-use Rattle.reuse_tree.specs.declared.change.Change.{Change}
-use Rattle.reuse_tree.specs.Change.{path_of}
-use Rattle.reuse_tree.specs.declared.direction.Direction.TheVariants as direction
+use Rattle.reuse_change.specs.Files.{Files, AreFiles}
+use Rattle.reuse_change.specs.declared.change.Change.{Change}
+use Rattle.reuse_change.specs.Change.{path_of}
+use Rattle.reuse_change.specs.declared.direction.Direction.TheVariants as direction
 use Rattle.reuse_command.specs.declared.command.Command.{Command}
-use Rattle.reuse_tree.specs.declared.command_name.CommandName.{CommandName}
+use Rattle.reuse_change.specs.declared.command_name.CommandName.{CommandName}
 use Rattle.reuse_command.specs.declared.reply.Response.{Response}
 use Rattle.reuse_command.specs.declared.reply.Response.TheVariants.{Changed, NothingChanged, Undone, Redone}
 use Rattle.reuse_command.specs.declared.reply.Refusal.{Refusal}
@@ -14,14 +14,14 @@ use Rattle.reuse_command.specs.declared.reply.Refusal.TheVariants.{JournalFull, 
 use Rattle.reuse_command.specs.Answer.{TellsNoFault, IsTestRefusal}
 use Rattle.reuse_command.specs.Command.{name_of}
 use Rattle.reuse_plan.specs.Outcome.{outcome_of}
-use Rattle.reuse_tree.specs.Entry.{paths_of, IsEntry, LeadsBy, LeadsAll}
-use Rattle.reuse_tree.specs.Tree.{changed_paths}
+use Rattle.reuse_change.specs.Entry.{paths_of, IsEntry, LeadsBy, LeadsAll}
+use Rattle.reuse_change.specs.Tree.{changed_paths}
 use Rattle.reuse_session.specs.session.Machine.{Kept, Snapshots, Step, taken, ran, ran_by, undone, redone, rows_before, rows_behind, rows_of}
 use Rattle.reuse_journal.specs.Labels.{Label, is_full, row_of}
 use Rattle.reuse_journal.specs.Journal.{Recorded, State, Undoes, Redoes, rows_in}
 use Rattle.reuse_session.specs.session.Session.{LeadUpTo, LeadOn, HoldsSnapshots}
-use Rattle.reuse_tree.proofs.Differ.{changed_by_entry, changed_by_none}
-use Rattle.reuse_tree.proofs.Walk.{leads_once, leads_back, can_lead, none_stuck}
+use Rattle.reuse_change.proofs.Differ.{changed_by_entry, changed_by_none}
+use Rattle.reuse_change.proofs.Walk.{leads_once, leads_back, can_lead, none_stuck}
 
 -- as many trees are kept as steps
 length_up_to : (tree : Files) (steps : List Recorded) (past : List Kept) → LeadUpTo tree steps past → length steps ≡ length past

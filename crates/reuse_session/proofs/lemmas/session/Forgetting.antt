@@ -4,13 +4,13 @@ use Rattle.std.specs.Prelude.{IfOk}
 use Rattle.std.specs.FinMap.{get}
 use Rattle.std.specs.List.{Contains}
 use Rattle.std.proofs.lemmas.List.{length-map, length-reverse}
-use Rattle.reuse_tree.specs.Asked.{Leaves}
-use Rattle.reuse_tree.specs.Files.{Files, Clashes, tree_of}
+use Rattle.reuse_store.specs.Asked.{Leaves}
+use Rattle.reuse_change.specs.Files.{Files, Clashes, tree_of}
 use Rattle.reuse_tree.specs.Head.{head_text, IsGoodHead, IsSoundHead}
-use Rattle.reuse_tree.specs.Tree.{undo_folder_of}
-use Rattle.reuse_tree.specs.declared.cause.Cause.{Cause}
-use Rattle.reuse_tree.specs.declared.cause.Cause.TheVariants as causes
-use Rattle.reuse_tree.specs.declared.store.Store.{Ghosts}
+use Rattle.reuse_change.specs.Tree.{undo_folder_of}
+use Rattle.reuse_store.specs.declared.cause.Cause.{Cause}
+use Rattle.reuse_store.specs.declared.cause.Cause.TheVariants as causes
+use Rattle.reuse_store.specs.declared.store.Store.{Ghosts}
 use Rattle.reuse_command.specs.Answer.{IsFailure, TellsNoFault}
 use Rattle.reuse_session.specs.session.Calls.{files_of}
 use Rattle.reuse_session.specs.session.Forgetting.{AreInOrder, Forgets, IsWithoutOldest, LeavesForgetting, SurvivesForgetting, PutsAndRemoves, PutsAndRemovesSome, alone, first_absent, journal_besides, state_besides}

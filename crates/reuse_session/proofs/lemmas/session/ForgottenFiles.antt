@@ -8,18 +8,18 @@ use Rattle.std.proofs.lemmas.List.{take-append-drop, take-map, take_more, revers
 use Rattle.std.proofs.lemmas.List.Elements.{All-filter, Contains-append_left, Contains-append_right, Contains-get_or, Contains-push, Contains-push_cases, filter_passes}
 use Rattle.std.proofs.lemmas.List.Kept.{AllPairs-from_increasing}
 use Rattle.std.proofs.Math.ListN.{get_or-append}
-use Rattle.reuse_tree.specs.Asked.{Leaves, IsRemoval}
-use Rattle.reuse_tree.specs.Files.{Files, tree_of}
+use Rattle.reuse_store.specs.Asked.{Leaves, IsRemoval}
+use Rattle.reuse_change.specs.Files.{Files, tree_of}
 use Rattle.reuse_tree.specs.Head.{IsGoodHead, IsSoundHead}
-use Rattle.reuse_tree.specs.Lasting.{WithOrWithout}
-use Rattle.reuse_tree.specs.Path.{lies_under, journal_folder}
-use Rattle.reuse_tree.specs.Tree.{undo_folder_of, Sets}
-use Rattle.reuse_tree.specs.declared.fault.StoreFault.{StoreFault}
-use Rattle.reuse_tree.specs.declared.store.Store.{Ghosts}
-use Rattle.reuse_tree.proofs.FileMaps.{same_files, same_or_other}
-use Rattle.reuse_tree.proofs.OfTree.{get-folder}
-use Rattle.reuse_tree.proofs.TreeLemmas.{tree_file}
-use Rattle.reuse_tree.proofs.ApplyLemmas.{removal_sets}
+use Rattle.reuse_store.specs.Lasting.{WithOrWithout}
+use Rattle.reuse_change.specs.Path.{lies_under, journal_folder}
+use Rattle.reuse_change.specs.Tree.{undo_folder_of, Sets}
+use Rattle.reuse_store.specs.declared.fault.StoreFault.{StoreFault}
+use Rattle.reuse_store.specs.declared.store.Store.{Ghosts}
+use Rattle.reuse_change.proofs.FileMaps.{same_files, same_or_other}
+use Rattle.reuse_store.proofs.OfTree.{get-folder}
+use Rattle.reuse_store.proofs.TreeLemmas.{tree_file}
+use Rattle.reuse_store.proofs.ApplyLemmas.{removal_sets}
 use Rattle.reuse_session.specs.session.Forgetting.{AreInOrder, steps_besides, journal_besides, state_besides, AreGone, AreGoneFromTheTop, IsSameButGone, Removes, RemovesSome, PutsAndRemoves, PutsAndRemovesSome}
 use Rattle.reuse_journal.specs.Numbered.{is_one_of}
 use Rattle.reuse_journal.specs.Journal.{Recorded, State}

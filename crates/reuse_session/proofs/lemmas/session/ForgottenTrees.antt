@@ -4,7 +4,7 @@ use Rattle.std.specs.List.{AllPairs, Contains}
 use Rattle.std.proofs.lemmas.List.{append-nil, length-append, map-append, reverse-append, get_or-append-add}
 use Rattle.std.proofs.lemmas.List.Elements.{Contains-append_left, Contains-append_right, filter-append}
 use Rattle.std.proofs.Math.ListN.{get_or-append}
-use Rattle.reuse_tree.specs.Files.{Files}
+use Rattle.reuse_change.specs.Files.{Files}
 use Rattle.reuse_tree.specs.Head.{IsSoundHead}
 use Rattle.reuse_session.specs.session.Forgetting.{IsWithoutOldest, steps_besides, state_besides, alone}
 use Rattle.reuse_journal.specs.Numbered.{is_one_of, all_numbers}

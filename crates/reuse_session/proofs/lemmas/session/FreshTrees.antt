@@ -2,18 +2,18 @@
 use Rattle.std.proofs.Common.{◌≡◌, ℕ, Bool, true, false, cond, not, List, [], Option, Some, None, IsSome, refl, sym, subst, ◌∙◌}
 use Rattle.std.specs.FinMap.{get}
 use Rattle.std.proofs.lemmas.List.Elements.{All-nil}
-use Rattle.reuse_tree.specs.Path.{lies_under, journal_folder}
-use Rattle.reuse_tree.specs.Files.{Files, tree_of}
-use Rattle.reuse_tree.proofs.FileMaps.{same_files}
+use Rattle.reuse_change.specs.Path.{lies_under, journal_folder}
+use Rattle.reuse_change.specs.Files.{Files, tree_of}
+use Rattle.reuse_change.proofs.FileMaps.{same_files}
 use Rattle.reuse_session.specs.session.Fresh.{IsFresh, first_state}
 use Rattle.reuse_journal.specs.Journal.{Journal}
 use Rattle.reuse_journal.specs.JournalFiles.{head_path, IsFree, IsKeptIn, HeadSays, head_of}
 use Rattle.reuse_journal.specs.Standing.{IsStanding}
 use Rattle.reuse_session.specs.session.Stops.{HoldState}
-use Rattle.reuse_tree.specs.Tree.{undo_folder_of}
-use Rattle.reuse_tree.proofs.ApplyLemmas.{none_is_some}
-use Rattle.reuse_tree.proofs.TreeLemmas.{tree_file}
-use Rattle.reuse_tree.proofs.OfTree.{get-folder}
+use Rattle.reuse_change.specs.Tree.{undo_folder_of}
+use Rattle.reuse_store.proofs.ApplyLemmas.{none_is_some}
+use Rattle.reuse_store.proofs.TreeLemmas.{tree_file}
+use Rattle.reuse_store.proofs.OfTree.{get-folder}
 
 abbrev no_steps : Journal
 no_steps = record { done = []; undone = []; used = 0 }

@@ -1,15 +1,15 @@
 -- What a run records is sealed, and so of a format that knows its command.
 use Rattle.std.proofs.Common.{◌≡◌, ◌<◌, true, ◌||◌, List, [], ◌∷◌, length, ap, arith, Result}
 use Rattle.std.proofs.lemmas.List.Sorted.{All-permutation}
-use Rattle.reuse_tree.specs.Files.{Files}
-use Rattle.reuse_tree.specs.Change.{is_sealed}
-use Rattle.reuse_tree.specs.declared.change.Change.{Change}
+use Rattle.reuse_change.specs.Files.{Files}
+use Rattle.reuse_change.specs.Change.{is_sealed}
+use Rattle.reuse_change.specs.declared.change.Change.{Change}
 use Rattle.reuse_plan.specs.Edit.{Edit}
-use Rattle.reuse_tree.specs.Entry.{AreAllSealed, IsEntry}
-use Rattle.reuse_tree.specs.EntryText.{is_any_sealed}
-use Rattle.reuse_tree.specs.Format.{knows}
+use Rattle.reuse_change.specs.Entry.{AreAllSealed, IsEntry}
+use Rattle.reuse_json.specs.EntryText.{is_any_sealed}
+use Rattle.reuse_json.specs.Format.{knows}
 use Rattle.reuse_plan.specs.Plan.{Records}
-use Rattle.reuse_tree.specs.declared.command_name.CommandName.{CommandName}
+use Rattle.reuse_change.specs.declared.command_name.CommandName.{CommandName}
 use Rattle.reuse_command.specs.declared.reply.Refusal.{Refusal}
 use Rattle.reuse_plan.proofs.Planning.{sealed_each}
 

@@ -14,13 +14,13 @@ use Rattle.std.specs.Ordering.{nat_cmp}
 use Rattle.std.specs.Cmp.Lexicographic.{slice_cmp}
 use Rattle.reuse_notice.specs.Sets.{set_of}
 use Rattle.reuse_notice.proofs.SetLemmas.{set_of-sorted}
-use Rattle.reuse_tree.specs.Entry.{paths_of, touches}
-use Rattle.reuse_tree.specs.Files.{Files}
-use Rattle.reuse_tree.specs.Listing.{ArePaths, is_among}
-use Rattle.reuse_tree.specs.Tree.{changed_paths}
-use Rattle.reuse_tree.specs.declared.change.Change.{Change}
-use Rattle.reuse_tree.specs.declared.journal.entry.Entry.{Entry}
-use Rattle.reuse_tree.proofs.Differ.{changed_by_entry}
+use Rattle.reuse_change.specs.Entry.{paths_of, touches}
+use Rattle.reuse_change.specs.Files.{Files}
+use Rattle.reuse_change.specs.Listing.{ArePaths, is_among}
+use Rattle.reuse_change.specs.Tree.{changed_paths}
+use Rattle.reuse_change.specs.declared.change.Change.{Change}
+use Rattle.reuse_json.specs.declared.entry.Entry.{Entry}
+use Rattle.reuse_change.proofs.Differ.{changed_by_entry}
 use Rattle.reuse_journal.specs.History.{Memory, numbers_after}
 use Rattle.reuse_journal.specs.Journal.{Recorded, Journal, State}
 use Rattle.reuse_journal.specs.JournalFiles.{entry_path, entry_in, number_of, EntrySays, IsKeptIn, KeepsJournal}

@@ -1,9 +1,9 @@
 -- What a session answers from a committed state is what the model gives in the state that this holds.
 use Rattle.std.proofs.Common.{◌≡◌, ◌⊎◌, inl, inr, ⊎_elim, ◌∙◌, ℕ, Bool, cond, List, [], ◌∷◌, Some, Result, Ok, Err, IfOk, ◌<◌, refl, sym, ap, subst, length, get_or, zero, suc, arith}
 use Rattle.std.specs.List.{Contains}
-use Rattle.reuse_tree.specs.Files.{Files}
-use Rattle.reuse_tree.specs.Entry.{paths_of}
-use Rattle.reuse_tree.specs.declared.change.Change.{Change}
+use Rattle.reuse_change.specs.Files.{Files}
+use Rattle.reuse_change.specs.Entry.{paths_of}
+use Rattle.reuse_change.specs.declared.change.Change.{Change}
 use Rattle.reuse_plan.specs.PathOutcomes.{path_outcomes_of}
 use Rattle.reuse_journal.specs.Journal.{State, Recorded}
 use Rattle.reuse_journal.specs.JournalFiles.{number_of}

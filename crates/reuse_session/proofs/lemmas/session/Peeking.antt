@@ -1,17 +1,17 @@
 -- Calls of a session that only read.
 use Rattle.std.proofs.Common.{◌≡◌, ◌≢◌, ◌∙◌, ◌<◌, Bool, true, false, Result, Ok, Err, IfErr, refl, sym, ap, subst, arith}
 use Rattle.std.proofs.lemmas.Bool.{false≢true}
-use Rattle.reuse_tree.specs.Asked.{OnlyReads}
-use Rattle.reuse_tree.proofs.AskedLemmas.{later_reads, reads_more, reads_none}
+use Rattle.reuse_store.specs.Asked.{OnlyReads}
+use Rattle.reuse_store.proofs.AskedLemmas.{later_reads, reads_more, reads_none}
 use Rattle.reuse_command.specs.declared.failure.Fault.TheVariants as stores
-use Rattle.reuse_tree.specs.declared.store.Store.{Ghosts}
+use Rattle.reuse_store.specs.declared.store.Store.{Ghosts}
 use Rattle.reuse_command.specs.Answer.{TellsNoFault, IsBrokenOrMemory, IsEarly, IsStop, HasCause, IsNoClash, RefusedAsRead}
 use Rattle.reuse_journal.specs.Journal.{State}
 use Rattle.reuse_session.specs.session.Calls.{IsCall}
 use Rattle.reuse_session.specs.session.Previews.{ReadsOnly, IsPreviewRefusal}
 use Rattle.reuse_session.specs.session.Requests.{ReadsOnlyWithCause}
 use Rattle.reuse_session.specs.session.Session.{store_of, is_broken, StandsOn, IsKept}
-use Rattle.reuse_tree.specs.declared.cause.Cause.TheVariants as causes
+use Rattle.reuse_store.specs.declared.cause.Cause.TheVariants as causes
 use Rattle.reuse_command.specs.declared.reply.Refusal.{Refusal}
 use Rattle.reuse_command.specs.declared.failure.Failure.TheVariants.{Fault as StoreFailed, Memory, Interrupted}
 use Rattle.reuse_command.specs.declared.reply.Refusal.TheVariants.{Broken, Failed}

@@ -2,12 +2,12 @@
 use Rattle.std.proofs.Common.{◌≡◌, ◌↔◌, ℕ, Bool, true, false, cond, List, [], ◌∷◌, ◌++◌, length, map, Result, Ok, Err, IfOk, IfErr, refl, sym, ap, subst, ◌∙◌}
 use Rattle.std.specs.List.{All}
 use Rattle.std.proofs.lemmas.List.Elements.{All-head, All-tail}
-use Rattle.reuse_tree.specs.Files.{Files}
-use Rattle.reuse_tree.specs.Change.{path_of}
-use Rattle.reuse_tree.specs.declared.change.Change.{Change}
-use Rattle.reuse_tree.specs.declared.store.Store.{Ghosts}
+use Rattle.reuse_change.specs.Files.{Files}
+use Rattle.reuse_change.specs.Change.{path_of}
+use Rattle.reuse_change.specs.declared.change.Change.{Change}
+use Rattle.reuse_store.specs.declared.store.Store.{Ghosts}
 use Rattle.reuse_command.specs.Answer.{IsEarly, RefusedAsRead, TellsNoFault, IsEarlyFailure}
-use Rattle.reuse_tree.specs.Entry.{paths_of, CanBeMade}
+use Rattle.reuse_change.specs.Entry.{paths_of, CanBeMade}
 use Rattle.reuse_plan.specs.PathOutcomes.{path_outcomes_of, IsPathOutcomeOf, ArePathOutcomesOf}
 use Rattle.reuse_journal.specs.Journal.{Recorded, State, ahead}
 use Rattle.reuse_session.specs.session.Machine.{Kept, Snapshots, run_path_outcomes, undo_path_outcomes, redo_path_outcomes, step_path_outcomes}
@@ -15,8 +15,8 @@ use Rattle.reuse_journal.specs.Labels.{is_full}
 use Rattle.reuse_session.specs.session.Previews.{path_outcomes_alone, PreviewsReplay, ReadsOnly, run_path_outcomes_on}
 use Rattle.reuse_session.specs.session.Session.{store_of, LeadUpTo, LeadOn, HoldsSnapshots}
 use Rattle.reuse_command.specs.declared.command.Command.{Command}
-use Rattle.reuse_tree.specs.declared.direction.Direction.{Direction}
-use Rattle.reuse_tree.specs.declared.direction.Direction.TheVariants as direction
+use Rattle.reuse_change.specs.declared.direction.Direction.{Direction}
+use Rattle.reuse_change.specs.declared.direction.Direction.TheVariants as direction
 use Rattle.reuse_command.specs.declared.path_outcome.PathOutcome.{PathOutcome}
 use Rattle.reuse_command.specs.declared.path_outcome.PathOutcome.TheVariants as path_outcome
 use Rattle.reuse_command.specs.declared.path_outcome.Previewed.{Previewed}
@@ -24,8 +24,8 @@ use Rattle.reuse_command.specs.declared.reply.Refusal.{Refusal}
 use Rattle.reuse_command.specs.declared.reply.Refusal.TheVariants as refusals
 use Rattle.reuse_session.specs.declared.session.Session.{Session}
 use Rattle.reuse_session.proofs.lemmas.session.Following.{back_from, on_from}
-use Rattle.reuse_tree.proofs.Differ.{changed_by_entry}
-use Rattle.reuse_tree.proofs.Walk.{can_lead}
+use Rattle.reuse_change.proofs.Differ.{changed_by_entry}
+use Rattle.reuse_change.proofs.Walk.{can_lead}
 
 -- ---- the path outcomes of changes
 

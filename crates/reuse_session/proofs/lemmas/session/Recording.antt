@@ -3,16 +3,16 @@ use Rattle.std.proofs.Common.{◌≡◌, ◌+◌, ◌<◌, ◌≤◌, ℕ, true,
 use Rattle.std.specs.FinMap.{get}
 use Rattle.std.specs.List.{All}
 use Rattle.std.proofs.lemmas.List.{length-append}
-use Rattle.reuse_tree.specs.Files.{Files, Clashes, tree_of}
-use Rattle.reuse_tree.specs.declared.change.Change.{Change}
+use Rattle.reuse_change.specs.Files.{Files, Clashes, tree_of}
+use Rattle.reuse_change.specs.declared.change.Change.{Change}
 use Rattle.reuse_command.specs.declared.failure.Fault.TheVariants as faults
-use Rattle.reuse_tree.specs.declared.store.Store.{Ghosts}
+use Rattle.reuse_store.specs.declared.store.Store.{Ghosts}
 use Rattle.reuse_command.specs.Answer.{IsEarly, IsStop, HasClash, IsEarlyFailure}
 use Rattle.reuse_session.specs.session.Calls.{files_of, folder_of, next_path, LeavesRun}
 use Rattle.reuse_command.specs.Command.{name_of}
-use Rattle.reuse_tree.specs.Entry.{paths_of, entry_size, IsEntry, LeadsAll, CanBeMade, CanGo}
-use Rattle.reuse_tree.specs.EntryText.{entry_text, is_any_sealed}
-use Rattle.reuse_tree.specs.Format.{knows}
+use Rattle.reuse_change.specs.Entry.{paths_of, entry_size, IsEntry, LeadsAll, CanBeMade, CanGo}
+use Rattle.reuse_json.specs.EntryText.{entry_text, is_any_sealed}
+use Rattle.reuse_json.specs.Format.{knows}
 use Rattle.reuse_tree.specs.Head.{IsSoundHead}
 use Rattle.reuse_journal.specs.History.{Memory, head_listing, remember_run}
 use Rattle.reuse_journal.specs.Journal.{State}
@@ -22,11 +22,11 @@ use Rattle.reuse_plan.specs.Outcome.{edits_of, edit_count, recorded_size}
 use Rattle.reuse_session.specs.session.Session.{store_of, memory_of, IsPlanned, IsRecordOf, IsRun, IsStepOf, Runs, StandsOn}
 use Rattle.reuse_journal.specs.Remembered.{listed_as, listed_count, head_room, HasEntryText, HasHeadText, IsSameBut, IsSameButTwo, Remembers}
 use Rattle.reuse_journal.specs.Standing.{InDoubt}
-use Rattle.reuse_tree.specs.Tree.{undo_folder_of}
+use Rattle.reuse_change.specs.Tree.{undo_folder_of}
 use Rattle.reuse_command.specs.declared.command.Command.{Command}
-use Rattle.reuse_tree.specs.declared.direction.Direction.TheVariants as direction
+use Rattle.reuse_change.specs.declared.direction.Direction.TheVariants as direction
 use Rattle.reuse_journal.specs.declared.history.ListedEntry.{ListedEntry}
-use Rattle.reuse_tree.specs.declared.journal.entry.Entry.{Entry}
+use Rattle.reuse_json.specs.declared.entry.Entry.{Entry}
 use Rattle.reuse_tree.specs.declared.journal.head.Pending.{Pending}
 use Rattle.reuse_tree.specs.declared.journal.head.PendingDirection.TheVariants as directions
 use Rattle.reuse_command.specs.declared.reply.Response.{Response}
@@ -38,14 +38,14 @@ use Rattle.reuse_session.specs.declared.session.Session.{Session}
 use Rattle.reuse_session.proofs.lemmas.session.FolderLemmas.{folder_put, folder_stepped, entry_text_stays}
 use Rattle.reuse_journal.proofs.HeadMutations.{below}
 use Rattle.reuse_journal.proofs.JournalLemmas.{free_stays, free_beside, tree_beside}
-use Rattle.reuse_tree.specs.Asked.{OnlyReads}
+use Rattle.reuse_store.specs.Asked.{OnlyReads}
 use Rattle.reuse_command.proofs.OnlyReading.{early_is_no_stop}
 use Rattle.reuse_session.proofs.lemmas.session.RunFollowing.{runs_step}
 use Rattle.reuse_session.proofs.lemmas.session.Running.{full_alike, count_recorded, size_recorded}
 use Rattle.reuse_session.proofs.lemmas.session.KnownCommands.{recorded_known}
 use Rattle.reuse_session.proofs.lemmas.journal.StepAnswers.{still_stands, stands_beside, kept_put, fault_clash, clash_of, head_clash_before}
 use Rattle.reuse_session.proofs.lemmas.journal.Stepping.{step_of, second_of, run_step, is_run, remembers_run, sound_between, sound_second}
-use Rattle.reuse_tree.proofs.Walk.{can_lead}
+use Rattle.reuse_change.proofs.Walk.{can_lead}
 
 -- the step of a run from the standing, and what is answered of it
 pub record Recording {S : Type 0} (files : S → Files) (command : Command) (when : ℕ) (session : Session S) (changes made : List Change) (pending : Pending) (moved : Memory) (held : State) : Type 0 where

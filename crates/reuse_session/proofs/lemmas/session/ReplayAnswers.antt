@@ -1,11 +1,11 @@
 -- How an undo and a redo answer a request: alike, but for their direction.
 use Rattle.std.proofs.Common.{◌≡◌, ◌↔◌, true, List, [], ◌∷◌, Result, Ok, Err, IfErr, refl, sym, subst}
-use Rattle.reuse_tree.specs.Files.{Files, Clashes}
+use Rattle.reuse_change.specs.Files.{Files, Clashes}
 use Rattle.reuse_tree.specs.Head.{listed_direction}
-use Rattle.reuse_tree.specs.declared.direction.Direction.{Direction}
-use Rattle.reuse_tree.specs.declared.direction.Direction.TheVariants as direction
+use Rattle.reuse_change.specs.declared.direction.Direction.{Direction}
+use Rattle.reuse_change.specs.declared.direction.Direction.TheVariants as direction
 use Rattle.reuse_tree.specs.declared.journal.head.PendingDirection.{PendingDirection}
-use Rattle.reuse_tree.specs.declared.store.Store.{Ghosts}
+use Rattle.reuse_store.specs.declared.store.Store.{Ghosts}
 use Rattle.reuse_journal.specs.Journal.{Recorded, State, Replays, ahead}
 use Rattle.reuse_journal.specs.JournalFiles.{head_path}
 use Rattle.reuse_journal.specs.Losses.{IsNextBy, Survives}

@@ -2,12 +2,12 @@
 use Rattle.std.proofs.Common.{◌≡◌, ◌+◌, ◌*◌, ◌<◌, ◌≤◌, ℕ, List, [], ◌∷◌, ◌++◌, length, None, Some, Ok, Err, inl, refl, sym, ap, subst, ◌∙◌, arith}
 use Rattle.std.specs.FinMap.{get}
 use Rattle.std.specs.List.{All}
-use Rattle.reuse_tree.specs.Files.{Files, Clashes, tree_of}
-use Rattle.reuse_tree.specs.declared.change.Change.{Change}
-use Rattle.reuse_tree.specs.declared.store.Store.{Ghosts}
+use Rattle.reuse_change.specs.Files.{Files, Clashes, tree_of}
+use Rattle.reuse_change.specs.declared.change.Change.{Change}
+use Rattle.reuse_store.specs.declared.store.Store.{Ghosts}
 use Rattle.reuse_command.specs.Answer.{IsEarly, IsStop, HasClash}
 use Rattle.reuse_session.specs.session.Calls.{files_of, folder_of, LeavesReplay}
-use Rattle.reuse_tree.specs.Entry.{paths_of, IsEntry, LeadsBy, CanBeMade, IsFirstStuck}
+use Rattle.reuse_change.specs.Entry.{paths_of, IsEntry, LeadsBy, CanBeMade, IsFirstStuck}
 use Rattle.reuse_tree.specs.Head.{listed_direction, direction_of, IsSoundHead}
 use Rattle.reuse_journal.specs.History.{Memory, head_listing, entries_ahead, remember_moved}
 use Rattle.reuse_journal.specs.Journal.{Recorded, Journal, State, Replays, ahead, next_count, moved_on, end_of, reply_of}
@@ -15,11 +15,11 @@ use Rattle.reuse_journal.specs.JournalFiles.{head_path, IsFree, entry_path, entr
 use Rattle.reuse_session.specs.session.Session.{store_of, memory_of, IsStepOf, StandsOn}
 use Rattle.reuse_journal.specs.Remembered.{listed_count, head_room, IsSameBut, HasHeadText, Remembers}
 use Rattle.reuse_journal.specs.Standing.{IsStep, InDoubt, Mutations}
-use Rattle.reuse_tree.specs.Tree.{undo_folder_of}
-use Rattle.reuse_tree.specs.declared.direction.Direction.{Direction}
-use Rattle.reuse_tree.specs.declared.direction.Direction.TheVariants.{Forward, Backward}
+use Rattle.reuse_change.specs.Tree.{undo_folder_of}
+use Rattle.reuse_change.specs.declared.direction.Direction.{Direction}
+use Rattle.reuse_change.specs.declared.direction.Direction.TheVariants.{Forward, Backward}
 use Rattle.reuse_journal.specs.declared.history.ListedEntry.{ListedEntry}
-use Rattle.reuse_tree.specs.declared.journal.entry.Entry.{Entry}
+use Rattle.reuse_json.specs.declared.entry.Entry.{Entry}
 use Rattle.reuse_tree.specs.declared.journal.head.Pending.{Pending}
 use Rattle.reuse_tree.specs.declared.journal.head.PendingDirection.TheVariants as directions
 use Rattle.reuse_command.specs.declared.reply.Response.{Response}
@@ -27,10 +27,10 @@ use Rattle.reuse_command.specs.declared.reply.Refusal.{Refusal}
 use Rattle.reuse_command.specs.declared.reply.Refusal.TheVariants.{Moved}
 use Rattle.reuse_session.specs.declared.session.Session.{Session}
 use Rattle.reuse_journal.proofs.JournalLemmas.{same_entry, sound_head, free_stays}
-use Rattle.reuse_tree.proofs.MadeLemmas.{can_reach}
+use Rattle.reuse_store.proofs.MadeLemmas.{can_reach}
 use Rattle.reuse_journal.proofs.MemoryLemmas.{next_step, none_ahead}
-use Rattle.reuse_tree.specs.Asked.{OnlyReads}
-use Rattle.reuse_tree.proofs.AskedLemmas.{reads_more}
+use Rattle.reuse_store.specs.Asked.{OnlyReads}
+use Rattle.reuse_store.proofs.AskedLemmas.{reads_more}
 use Rattle.reuse_session.proofs.lemmas.journal.StepAnswers.{as_many, low_of, still_stands}
 use Rattle.reuse_session.proofs.lemmas.journal.Stepping.{remembers_moved, sound_between, sound_second}
 

@@ -3,16 +3,16 @@ use Rattle.std.proofs.Common.{◌≡◌, ◌≢◌, ◌⊎◌, inl, inr, ℕ, Bo
 use Rattle.std.specs.List.{Contains}
 use Rattle.std.specs.List.Sorted.{IsStrictlySortedBy}
 use Rattle.std.specs.FinMap.{get}
-use Rattle.reuse_tree.specs.Files.{Files}
-use Rattle.reuse_tree.specs.declared.change.Change.{Change}
+use Rattle.reuse_change.specs.Files.{Files}
+use Rattle.reuse_change.specs.declared.change.Change.{Change}
 use Rattle.reuse_command.specs.declared.failure.Fault.TheVariants as faults
-use Rattle.reuse_tree.specs.declared.store.Store.{Ghosts}
+use Rattle.reuse_store.specs.declared.store.Store.{Ghosts}
 use Rattle.reuse_command.specs.Answer.{IsNoClash, IsReadRefusal, IsRunAnswer, RefusedAsRead, TellsNoFault}
 use Rattle.reuse_session.specs.session.Calls.{folder_of, LeavesRun}
-use Rattle.reuse_tree.specs.Entry.{paths_of}
+use Rattle.reuse_change.specs.Entry.{paths_of}
 use Rattle.reuse_journal.specs.Journal.{State}
 use Rattle.reuse_journal.specs.JournalFiles.{entry_path, EntrySays}
-use Rattle.reuse_tree.specs.Listing.{ArePaths}
+use Rattle.reuse_change.specs.Listing.{ArePaths}
 use Rattle.reuse_session.specs.session.Machine.{Snapshots}
 use Rattle.reuse_session.specs.session.RevertCalls.{changed_or_none, as_run, left_of, touched_later, changed_later, IsBackOf, LeavesRevert, Reverts, RevertFollows, TakesBack}
 use Rattle.reuse_session.specs.session.Session.{store_of, memory_of, StandsOn, StandsAt, Runs}
@@ -20,14 +20,14 @@ use Rattle.reuse_session.specs.session.Showing.{IsUnused}
 use Rattle.reuse_journal.specs.Numbered.{lists}
 use Rattle.reuse_command.specs.declared.command.Command.{Command}
 use Rattle.reuse_command.specs.declared.command.Command.TheVariants.{Revert}
-use Rattle.reuse_tree.specs.declared.journal.entry.Entry.{Entry}
+use Rattle.reuse_json.specs.declared.entry.Entry.{Entry}
 use Rattle.reuse_command.specs.declared.reply.Refusal.{Refusal}
 use Rattle.reuse_command.specs.declared.failure.Failure.TheVariants.{Fault}
 use Rattle.reuse_command.specs.declared.reply.Refusal.TheVariants.{BadJournal, JournalFull, NoSuchStep, Failed}
 use Rattle.reuse_command.specs.declared.reply.Response.{Response}
 use Rattle.reuse_command.specs.declared.reply.Reverted.{Reverted}
 use Rattle.reuse_session.specs.declared.session.Session.{Session}
-use Rattle.reuse_tree.proofs.DifferingPaths.{changed_ascend}
+use Rattle.reuse_store.proofs.DifferingPaths.{changed_ascend}
 use Rattle.reuse_command.proofs.OnlyReading.{read_early}
 use Rattle.reuse_session.proofs.lemmas.session.Peeking.{unclashed_read}
 use Rattle.reuse_session.proofs.lemmas.session.LaterSteps.{later_as_machine}

@@ -1,8 +1,8 @@
 -- What a run answers.
 use Rattle.std.proofs.Common.{◌≡◌, ◌<◌, List, [], ◌∷◌, length, Result, Ok, Err, IfOk, IfErr, sym, subst, arith}
-use Rattle.reuse_tree.specs.declared.change.Change.{Change}
+use Rattle.reuse_change.specs.declared.change.Change.{Change}
 use Rattle.reuse_command.specs.Answer.{IsFailure, IsOfPlan, IsRunAnswer}
-use Rattle.reuse_tree.specs.Entry.{paths_of}
+use Rattle.reuse_change.specs.Entry.{paths_of}
 use Rattle.reuse_command.specs.declared.reply.Response.{Response}
 use Rattle.reuse_command.specs.declared.reply.Response.TheVariants.{Changed}
 use Rattle.reuse_command.specs.declared.reply.Refusal.{Refusal}

@@ -1,14 +1,14 @@
 -- What a loss of power leaves of a run, from the entry that it puts and the step that it makes.
 use Rattle.std.proofs.Common.{◌≡◌, ⊎_elim, ℕ, ◌+◌, true, false, List, Option, length, sym, subst, ◌∙◌}
-use Rattle.reuse_tree.specs.Asked.{Leaves, IsSynced, MaySet}
-use Rattle.reuse_tree.specs.Entry.{IsEntry}
-use Rattle.reuse_tree.specs.EntryText.{is_any_sealed}
-use Rattle.reuse_tree.specs.Files.{Files, tree_of}
-use Rattle.reuse_tree.specs.Format.{knows}
-use Rattle.reuse_tree.specs.Tree.{undo_folder_of, Sets}
-use Rattle.reuse_tree.specs.declared.change.Change.{Change}
-use Rattle.reuse_tree.specs.declared.journal.entry.Entry.{Entry}
-use Rattle.reuse_tree.specs.declared.store.Store.{Ghosts}
+use Rattle.reuse_store.specs.Asked.{Leaves, IsSynced, MaySet}
+use Rattle.reuse_change.specs.Entry.{IsEntry}
+use Rattle.reuse_json.specs.EntryText.{is_any_sealed}
+use Rattle.reuse_change.specs.Files.{Files, tree_of}
+use Rattle.reuse_json.specs.Format.{knows}
+use Rattle.reuse_change.specs.Tree.{undo_folder_of, Sets}
+use Rattle.reuse_change.specs.declared.change.Change.{Change}
+use Rattle.reuse_json.specs.declared.entry.Entry.{Entry}
+use Rattle.reuse_store.specs.declared.store.Store.{Ghosts}
 use Rattle.reuse_session.specs.session.Calls.{files_of}
 use Rattle.reuse_journal.specs.Journal.{Recorded, State}
 use Rattle.reuse_journal.specs.JournalFiles.{entry_path, EntrySays, IsKeptIn}

@@ -2,11 +2,11 @@
 use Rattle.std.proofs.Common.{◌≡◌, ℕ, ◌+◌, false, List, [], ◌∷◌, length, Result, Ok, Err, refl, sym, ap, subst, ◌∙◌}
 use Rattle.std.proofs.lemmas.List.Elements.{All-nil}
 use Rattle.std.proofs.lemmas.List.{nil_from_length}
-use Rattle.reuse_tree.specs.Files.{Files, AreFiles}
-use Rattle.reuse_tree.specs.declared.change.Change.{Change}
+use Rattle.reuse_change.specs.Files.{Files, AreFiles}
+use Rattle.reuse_change.specs.declared.change.Change.{Change}
 use Rattle.reuse_command.specs.Answer.{TellsNoFault, IsOfPlan}
 use Rattle.reuse_command.specs.Command.{name_of}
-use Rattle.reuse_tree.specs.Entry.{paths_of, IsEntry, LeadsAll}
+use Rattle.reuse_change.specs.Entry.{paths_of, IsEntry, LeadsAll}
 use Rattle.reuse_journal.specs.Journal.{Journal, State}
 use Rattle.reuse_session.specs.session.Machine.{Snapshots, Step, ran_by}
 use Rattle.reuse_journal.specs.Labels.{is_full}
@@ -14,15 +14,15 @@ use Rattle.reuse_plan.specs.Outcome.{outcome_of}
 use Rattle.reuse_plan.specs.Plan.{IsRefusalOf}
 use Rattle.reuse_session.specs.session.Session.{HoldsSnapshots, StandsOn, StandsAt, Follows, IsRun, Runs}
 use Rattle.reuse_command.specs.declared.command.Command.{Command}
-use Rattle.reuse_tree.specs.declared.direction.Direction.TheVariants as direction
+use Rattle.reuse_change.specs.declared.direction.Direction.TheVariants as direction
 use Rattle.reuse_command.specs.declared.reply.Response.{Response}
 use Rattle.reuse_command.specs.declared.reply.Response.TheVariants.{Changed, NothingChanged}
 use Rattle.reuse_command.specs.declared.reply.Refusal.{Refusal}
 use Rattle.reuse_command.specs.declared.reply.Refusal.TheVariants.{JournalFull, Failed}
 use Rattle.reuse_session.specs.declared.session.Session.{Session}
-use Rattle.reuse_tree.proofs.Differ.{changed_by_entry}
+use Rattle.reuse_change.proofs.Differ.{changed_by_entry}
 use Rattle.reuse_session.proofs.lemmas.session.Following.{journal_full, run_refused, run_nothing, run_follows}
-use Rattle.reuse_tree.proofs.Walk.{leads_once}
+use Rattle.reuse_change.proofs.Walk.{leads_once}
 
 -- no change leads from files to the same
 stays_by_none : (files : Files) → LeadsAll [] files files

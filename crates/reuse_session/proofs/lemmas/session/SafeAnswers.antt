@@ -1,9 +1,9 @@
 -- What a session that stands at a state of the model answers and leaves, from how it answers a request.
 use Rattle.std.proofs.Common.{◌≡◌, ⊎_elim, ℕ, Bool, List, [], ◌∷◌, Some, Result, Ok, Err, IfErr, refl, sym, ap, subst, ◌∙◌}
-use Rattle.reuse_tree.specs.declared.cause.Cause.{Cause}
-use Rattle.reuse_tree.specs.declared.store.Store.{Ghosts}
-use Rattle.reuse_tree.specs.declared.direction.Direction.{Direction}
-use Rattle.reuse_tree.specs.declared.direction.Direction.TheVariants as direction
+use Rattle.reuse_store.specs.declared.cause.Cause.{Cause}
+use Rattle.reuse_store.specs.declared.store.Store.{Ghosts}
+use Rattle.reuse_change.specs.declared.direction.Direction.{Direction}
+use Rattle.reuse_change.specs.declared.direction.Direction.TheVariants as direction
 use Rattle.reuse_command.specs.Answer.{IsEarly, IsNoStep, TellsNoFault}
 use Rattle.reuse_session.specs.session.Calls.{files_of}
 use Rattle.reuse_session.specs.session.Driven.{StandsSafely, GoesSafely}

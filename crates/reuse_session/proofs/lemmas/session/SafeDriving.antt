@@ -1,8 +1,8 @@
 -- A driven session, and what a loss of power may leave of it.
 use Rattle.std.proofs.Common.{◌≡◌, ◌⊎◌, inl, inr, ⊎_elim, false, Option, Some, None, Result, Ok, Err, IfErr, refl, sym, ap, subst}
-use Rattle.reuse_tree.specs.Asked.{IsSynced}
-use Rattle.reuse_tree.specs.declared.cause.Cause.{Cause}
-use Rattle.reuse_tree.specs.declared.store.Store.{Ghosts}
+use Rattle.reuse_store.specs.Asked.{IsSynced}
+use Rattle.reuse_store.specs.declared.cause.Cause.{Cause}
+use Rattle.reuse_store.specs.declared.store.Store.{Ghosts}
 use Rattle.reuse_command.specs.Answer.{IsFailure}
 use Rattle.reuse_session.specs.session.Driven.{StandsSafely, IsSafelyAt, GoesSafely, store_in}
 use Rattle.reuse_journal.specs.Journal.{State}

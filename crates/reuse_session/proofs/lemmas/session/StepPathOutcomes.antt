@@ -3,20 +3,20 @@ use Rattle.std.proofs.Common.{◌≡◌, ◌↔◌, ◌⊎◌, inl, inr, ℕ, Li
 use Rattle.std.specs.List.{All}
 use Rattle.std.proofs.lemmas.List.Elements.{All-cons, All-nil}
 use Rattle.std.proofs.lemmas.Option.{none-some, same_Some}
-use Rattle.reuse_tree.specs.Files.{Files}
-use Rattle.reuse_tree.specs.Change.{path_of}
-use Rattle.reuse_tree.specs.declared.change.Change.{Change}
-use Rattle.reuse_tree.specs.Entry.{paths_of, CanBeMade, IsFirstWithout, IsFirstStuck}
+use Rattle.reuse_change.specs.Files.{Files}
+use Rattle.reuse_change.specs.Change.{path_of}
+use Rattle.reuse_change.specs.declared.change.Change.{Change}
+use Rattle.reuse_change.specs.Entry.{paths_of, CanBeMade, IsFirstWithout, IsFirstStuck}
 use Rattle.reuse_plan.specs.PathOutcomes.{first_refusal, IsPathOutcomeOf, ArePathOutcomesOf}
 use Rattle.reuse_journal.specs.Journal.{Recorded, State, Replays}
 use Rattle.reuse_session.specs.session.Previews.{PreviewsReplay}
-use Rattle.reuse_tree.specs.declared.direction.Direction.{Direction}
+use Rattle.reuse_change.specs.declared.direction.Direction.{Direction}
 use Rattle.reuse_command.specs.declared.path_outcome.PathOutcome.{PathOutcome}
 use Rattle.reuse_command.specs.declared.path_outcome.PathOutcome.TheVariants as path_outcome
 use Rattle.reuse_command.specs.declared.reply.Refusal.{Refusal}
 use Rattle.reuse_command.specs.declared.reply.Refusal.TheVariants as refusals
 use Rattle.reuse_command.specs.declared.reply.Response.{Response}
-use Rattle.reuse_tree.proofs.Walk.{none_stuck}
+use Rattle.reuse_change.proofs.Walk.{none_stuck}
 use Rattle.reuse_journal.proofs.OneOpening.{without_once}
 use Rattle.reuse_session.proofs.lemmas.session.Previewing.{all_change}
 

@@ -7,9 +7,9 @@ use Rattle.std.proofs.lemmas.Option.{none-some, same_Some}
 use Rattle.std.proofs.lemmas.List.{reverse-append, reverse-reverse}
 use Rattle.std.proofs.lemmas.List.Elements.{Contains-append_left, Contains-append_right, Contains-get_or, Contains-push_cases}
 use Rattle.std.proofs.lemmas.List.Folds.{list_any_at, Any-from_list_any}
-use Rattle.reuse_tree.specs.Files.{Files}
+use Rattle.reuse_change.specs.Files.{Files}
 use Rattle.reuse_command.specs.Answer.{IsReadRefusal}
-use Rattle.reuse_tree.specs.Entry.{IsEntry, LeadsAll}
+use Rattle.reuse_change.specs.Entry.{IsEntry, LeadsAll}
 use Rattle.reuse_journal.specs.History.{Memory, row_listing}
 use Rattle.reuse_journal.specs.Journal.{Recorded, Journal, State, rows_in}
 use Rattle.reuse_journal.specs.JournalFiles.{entry_path, entry_in, number_of, EntrySays, IsKeptIn, KeepsJournal}
@@ -20,9 +20,9 @@ use Rattle.reuse_journal.specs.Remembered.{listed_as, Remembers}
 use Rattle.reuse_session.specs.session.Showing.{steps_in, IsUnused, Shows, ShowsAt, LedTo, LedOn}
 use Rattle.reuse_journal.specs.Numbered.{entry_of, row_among, row_in}
 use Rattle.reuse_journal.specs.Numbered.{lists}
-use Rattle.reuse_tree.specs.Tree.{undo_folder_of}
+use Rattle.reuse_change.specs.Tree.{undo_folder_of}
 use Rattle.reuse_journal.specs.declared.history.ListedEntry.{ListedEntry}
-use Rattle.reuse_tree.specs.declared.journal.entry.Entry.{Entry}
+use Rattle.reuse_json.specs.declared.entry.Entry.{Entry}
 use Rattle.reuse_command.specs.declared.reply.Refusal.{Refusal}
 use Rattle.reuse_command.specs.declared.reply.Refusal.TheVariants.{NoSuchStep}
 use Rattle.reuse_command.specs.declared.reply.Row.{Row}

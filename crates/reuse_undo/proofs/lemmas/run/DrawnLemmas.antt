@@ -5,21 +5,21 @@ use Rattle.std.specs.Option.{option_map}
 use Rattle.std.specs.Prelude.{unwrap_or}
 use Rattle.reuse_text.specs.Text.{spliced}
 use Rattle.reuse_text.specs.declared.TheConstants.{LONGEST_FILE}
-use Rattle.reuse_tree.specs.Change.{path_of, AppliesByRange}
-use Rattle.reuse_tree.specs.Digest.{swapped}
-use Rattle.reuse_tree.specs.Entry.{IsSmall, AppliesBy}
-use Rattle.reuse_tree.specs.Files.{Files, tree_of}
-use Rattle.reuse_tree.specs.Store.{reading_of}
-use Rattle.reuse_tree.specs.declared.change.Change.{Change}
-use Rattle.reuse_tree.specs.declared.change.Change.TheVariants.{Make, Drop, Splice}
-use Rattle.reuse_tree.specs.declared.digest.Seal.{Seal}
-use Rattle.reuse_tree.specs.declared.direction.Direction.{Direction}
-use Rattle.reuse_tree.specs.declared.direction.Direction.TheVariants as go
-use Rattle.reuse_tree.specs.declared.store.Reading.TheVariants.{Absent, Found, TooLong}
-use Rattle.reuse_tree.proofs.ReadingLemmas.{absent_is, found_is, long_is}
-use Rattle.reuse_tree.proofs.Sealed.{splices}
-use Rattle.reuse_tree.proofs.TreeLemmas.{read_there}
-use Rattle.reuse_tree.proofs.Applying.{applies_back_by_range, applies_once_by_range}
+use Rattle.reuse_change.specs.Change.{path_of, AppliesByRange}
+use Rattle.reuse_change.specs.Digest.{swapped}
+use Rattle.reuse_change.specs.Entry.{IsSmall, AppliesBy}
+use Rattle.reuse_change.specs.Files.{Files, tree_of}
+use Rattle.reuse_store.specs.Store.{reading_of}
+use Rattle.reuse_change.specs.declared.change.Change.{Change}
+use Rattle.reuse_change.specs.declared.change.Change.TheVariants.{Make, Drop, Splice}
+use Rattle.reuse_change.specs.declared.digest.Seal.{Seal}
+use Rattle.reuse_change.specs.declared.direction.Direction.{Direction}
+use Rattle.reuse_change.specs.declared.direction.Direction.TheVariants as go
+use Rattle.reuse_store.specs.declared.store.Reading.TheVariants.{Absent, Found, TooLong}
+use Rattle.reuse_store.proofs.ReadingLemmas.{absent_is, found_is, long_is}
+use Rattle.reuse_change.proofs.Sealed.{splices}
+use Rattle.reuse_store.proofs.TreeLemmas.{read_there}
+use Rattle.reuse_change.proofs.Applying.{applies_back_by_range, applies_once_by_range}
 use Rattle.reuse_diff.specs.DiffText.{part_before, part_after, IsDiff}
 use Rattle.reuse_undo.specs.run.Drawn.{gone, AreDiffs, AreSmallSteps, IsPathDiff, IsRangeWithin}
 use Rattle.reuse_shown.specs.JoinedTexts.{AppendsSome}

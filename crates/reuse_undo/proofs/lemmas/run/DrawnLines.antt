@@ -1,7 +1,7 @@
 -- Behind the lines of a dry run stands the diff of two trees.
 use Rattle.std.proofs.Common.{◌≡◌, inl, inr, ℕ, List, Result, Ok, Err, IfOk, IsOkAnd, subst}
 use Rattle.std.specs.declared.vec.Vec.{Vec}
-use Rattle.reuse_tree.specs.Files.{Files}
+use Rattle.reuse_change.specs.Files.{Files}
 use Rattle.reuse_journal.specs.Journal.{State}
 use Rattle.reuse_session.specs.session.Requests.{IsReading, Meets, as_answer}
 use Rattle.reuse_command.specs.declared.path_outcome.PathOutcome.{PathOutcome}

@@ -1,7 +1,7 @@
 -- What forgetting leaves of files on which a session is opened.
 use Rattle.std.proofs.Common.{◌≡◌, ◌⊎◌, inr, ℕ, List, Result, Ok, Err, IfErr, refl, ap}
 use Rattle.std.specs.Prelude.{IfOk}
-use Rattle.reuse_tree.specs.Files.{Files}
+use Rattle.reuse_change.specs.Files.{Files}
 use Rattle.reuse_command.specs.Answer.{IsEarly, IsStop, TellsNoFault}
 use Rattle.reuse_session.specs.session.Forgetting.{Forgets, IsForgetRefusal, state_besides}
 use Rattle.reuse_journal.specs.Journal.{State}

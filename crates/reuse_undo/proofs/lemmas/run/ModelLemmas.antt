@@ -1,6 +1,6 @@
 -- What comes of a session's one call from a state of the model, and what is reported of it.
 use Rattle.std.proofs.Common.{◌≡◌, inl, inr, ⊎_elim, ℕ, List, Result, Ok, Err, sym, subst}
-use Rattle.reuse_tree.specs.Files.{Files}
+use Rattle.reuse_change.specs.Files.{Files}
 use Rattle.reuse_command.specs.Answer.{IsFailure}
 use Rattle.reuse_journal.specs.Journal.{State}
 use Rattle.reuse_session.specs.session.Machine.{Snapshots}

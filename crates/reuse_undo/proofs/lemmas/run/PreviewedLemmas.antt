@@ -1,11 +1,11 @@
 -- Dry runs that are answered with what would change.
 use Rattle.std.proofs.Common.{◌≡◌, ◌↔◌, ◌∙◌, Bool, true, false, List, [], ◌∷◌, Option, Some, None, IfSome, IsSomeAnd, Result, Ok, Err, IfOk, refl, sym, ap, subst}
 use Rattle.std.proofs.lemmas.Bool.{false≢true}
-use Rattle.reuse_tree.specs.Entry.{IsEntry}
-use Rattle.reuse_tree.specs.Files.{Files}
-use Rattle.reuse_tree.specs.declared.store.Store.{Ghosts}
-use Rattle.reuse_tree.specs.declared.direction.Direction.{Direction}
-use Rattle.reuse_tree.specs.declared.direction.Direction.TheVariants as go
+use Rattle.reuse_change.specs.Entry.{IsEntry}
+use Rattle.reuse_change.specs.Files.{Files}
+use Rattle.reuse_store.specs.declared.store.Store.{Ghosts}
+use Rattle.reuse_change.specs.declared.direction.Direction.{Direction}
+use Rattle.reuse_change.specs.declared.direction.Direction.TheVariants as go
 use Rattle.reuse_command.specs.Answer.{TellsNoFault}
 use Rattle.reuse_plan.specs.PathOutcomes.{first_refusal}
 use Rattle.reuse_journal.specs.Journal.{State, ahead, changes_ahead, Replays}

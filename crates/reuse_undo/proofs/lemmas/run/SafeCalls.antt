@@ -1,7 +1,7 @@
 -- What a loss of power may leave of what a line asks for.
 use Rattle.std.proofs.Common.{◌≡◌, ◌⊎◌, inl, inr, false, Option, Some, None, Result, Ok, Err, IfErr, refl, sym, ap, subst}
-use Rattle.reuse_tree.specs.Files.{Files}
-use Rattle.reuse_tree.specs.declared.store.Store.{Ghosts}
+use Rattle.reuse_change.specs.Files.{Files}
+use Rattle.reuse_store.specs.declared.store.Store.{Ghosts}
 use Rattle.reuse_journal.specs.Journal.{State}
 use Rattle.reuse_journal.specs.Losses.{AreSafeOn, AreInDoubt}
 use Rattle.reuse_journal.specs.Standing.{IsStanding, IsUnderWay}

@@ -7,17 +7,17 @@ use Rattle.std.specs.Str.{bytes_eq}
 use Rattle.std.specs.declared.vec.Vec.{Vec}
 use Rattle.std.proofs.lemmas.Bool.{false≢true}
 use Rattle.std.proofs.lemmas.Slice.Eq.{bytes_eq-Decides}
-use Rattle.reuse_tree.specs.Change.{path_of}
-use Rattle.reuse_tree.specs.Entry.{paths_of, IsEntry, LeadsAll, LeadsBy}
-use Rattle.reuse_tree.specs.Files.{Files}
-use Rattle.reuse_tree.specs.Tree.{same_file, changed_paths, undo_folder_of}
-use Rattle.reuse_tree.specs.declared.change.Change.{Change}
-use Rattle.reuse_tree.specs.declared.journal.entry.Entry.{Entry}
-use Rattle.reuse_tree.specs.declared.direction.Direction.{Direction}
-use Rattle.reuse_tree.specs.declared.direction.Direction.TheVariants as go
-use Rattle.reuse_tree.proofs.Differ.{changed_by_entry, changed_by_none, only_keys}
-use Rattle.reuse_tree.proofs.DifferingPaths.{among_changed, changed_ascend}
-use Rattle.reuse_tree.proofs.TreeLemmas.{among_keys}
+use Rattle.reuse_change.specs.Change.{path_of}
+use Rattle.reuse_change.specs.Entry.{paths_of, IsEntry, LeadsAll, LeadsBy}
+use Rattle.reuse_change.specs.Files.{Files}
+use Rattle.reuse_change.specs.Tree.{same_file, changed_paths, undo_folder_of}
+use Rattle.reuse_change.specs.declared.change.Change.{Change}
+use Rattle.reuse_json.specs.declared.entry.Entry.{Entry}
+use Rattle.reuse_change.specs.declared.direction.Direction.{Direction}
+use Rattle.reuse_change.specs.declared.direction.Direction.TheVariants as go
+use Rattle.reuse_change.proofs.Differ.{changed_by_entry, changed_by_none, only_keys}
+use Rattle.reuse_store.proofs.DifferingPaths.{among_changed, changed_ascend}
+use Rattle.reuse_store.proofs.TreeLemmas.{among_keys}
 use Rattle.reuse_journal.specs.Journal.{Recorded, State, changes_ahead, Replays}
 use Rattle.reuse_journal.specs.JournalFiles.{entry_in, entry_path}
 use Rattle.reuse_plan.specs.Outcome.{outcome_of}

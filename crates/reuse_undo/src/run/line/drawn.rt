@@ -3,10 +3,10 @@ ghost use Rattle.std.specs.Prelude.{◌≡◌, ◌+◌, ◌≤◌, ℕ, List, []
 ghost use Rattle.std.specs.FinMap.{get};
 ghost use Rattle.std.specs.Option.{option_copied};
 ghost use Rattle.reuse_text.specs.Text.{spliced};
-ghost use Rattle.reuse_tree.specs.Asked.{OnlyReads};
-ghost use Rattle.reuse_tree.specs.Change.{path_of};
-ghost use Rattle.reuse_tree.specs.Entry.{IsSmall, AppliesBy};
-ghost use Rattle.reuse_tree.specs.Files.{Files, tree_of};
+ghost use Rattle.reuse_store.specs.Asked.{OnlyReads};
+ghost use Rattle.reuse_change.specs.Change.{path_of};
+ghost use Rattle.reuse_change.specs.Entry.{IsSmall, AppliesBy};
+ghost use Rattle.reuse_change.specs.Files.{Files, tree_of};
 ghost use Rattle.reuse_diff.specs.DiffText.{part_before, part_after, IsDiff};
 ghost use Rattle.reuse_undo.specs.run.Drawn.{gone, AreDiffs, AreSmallSteps, IsPathDiff, IsRangeWithin, WouldLead};
 ghost use Rattle.reuse_shown.specs.JoinedTexts.{AppendsSome};
@@ -14,11 +14,12 @@ ghost use Rattle.reuse_undo.specs.print.WriterFaults.{IsOfDiff};
 ghost use Rattle.reuse_print.specs.declared.fault.Fault.TheVariants as faults;
 
 use super::planned::PlannedChanges;
+use reuse_change::{Change, Direction, PathText};
 use reuse_diff::{Turn, bytes_of, print_diff};
 use reuse_print::fault::{Fault, in_memory};
 use reuse_session::Refusal;
+use reuse_store::{Reading, Store};
 use reuse_text::{LONGEST_FILE, splice};
-use reuse_tree::{Change, Direction, PathText, Reading, Store};
 use std::alloc::Global;
 
 /// The diff of what would change: of each path that the file as it is and as the call leaves it, in

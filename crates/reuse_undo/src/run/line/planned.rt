@@ -6,9 +6,10 @@ ghost use Rattle.reuse_undo.specs.run.Drawn.{planned_in, planned_unless, IsAnswe
 ghost use Rattle.reuse_session.specs.session.Requests.{as_answer};
 
 use super::printed::is_refused;
+use reuse_change::Direction::{Backward, Forward};
+use reuse_change::Direction;
 use reuse_session::{Answer, Call, Changes, Previewed, Refusal, Request, Response, Session};
-use reuse_tree::Direction::{Backward, Forward};
-use reuse_tree::{Direction, Store};
+use reuse_store::Store;
 use std::alloc::Global;
 
 /// What a call would change, and which way the changes are gone through.

@@ -8,6 +8,7 @@ ghost use Rattle.reuse_undo.specs.print.Responses.{Accepts, Finishes, HasBehind,
 ghost use Rattle.reuse_print.specs.declared.fault.Fault.TheVariants as faults;
 
 use reuse_arguments::line::{OutputFormat, PrintOptions};
+use reuse_change::Change;
 use reuse_diff::print_record;
 use reuse_print::fault::{Fault, in_memory};
 use reuse_print::lines::{path_count, print_response};
@@ -15,7 +16,6 @@ use reuse_print::objects::{print_path_outcome_objects, print_row_objects, print_
 use reuse_print::output::{Sink, write_text};
 use reuse_session::{PathOutcome, PathOutcomes, Response};
 use reuse_shown::shown_name::Names;
-use reuse_tree::Change;
 use std::alloc::Global;
 use std::io::{self, Write};
 

@@ -1,7 +1,7 @@
 use Rattle.std.proofs.Common.{◌∷◌, [], subst}
 use Rattle.reuse_system.specs.SystemCalls.{changes_of}
 use Rattle.reuse_folder.specs.Seen.{LoseNoEdits}
-use Rattle.reuse_tree.specs.declared.file_write.FileWrite.{FileWrite}
+use Rattle.reuse_store.specs.declared.file_write.FileWrite.{FileWrite}
 use Rattle.reuse_folder.proofs.SeenLemmas.{known_here, lose_at, lose_only, lose_then, new_behind}
 use Rattle.reuse_folder.proofs.folder.RootFolder.name_each.Goals as goal
 

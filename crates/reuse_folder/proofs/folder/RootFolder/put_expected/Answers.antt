@@ -1,5 +1,5 @@
 use Rattle.std.proofs.Common.{rules, ◌≡◌, false, is_ok, subst}
-use Rattle.reuse_tree.specs.Parts.{joined}
+use Rattle.reuse_change.specs.Parts.{joined}
 use Rattle.reuse_system.specs.SystemCalls.{folders_after, held_after}
 use Rattle.reuse_folder.specs.FolderWrites.{IsPutIn}
 use Rattle.reuse_folder.specs.Written.{is_kept}

@@ -1,5 +1,5 @@
 use Rattle.std.proofs.Common.{rules, ◌≡◌, false, is_ok, refl, subst, sym}
-use Rattle.reuse_tree.specs.Parts.{joined}
+use Rattle.reuse_change.specs.Parts.{joined}
 use Rattle.reuse_system.specs.Asides.{IsNewIn, IsNewPlace}
 use Rattle.reuse_system.specs.FileStates.{place_in}
 use Rattle.reuse_folder.specs.FolderReads.{current_of}

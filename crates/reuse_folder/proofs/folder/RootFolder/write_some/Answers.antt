@@ -1,6 +1,6 @@
 use Rattle.std.proofs.Common.{◌≡◌, ◌∷◌, [], refl, sym, subst}
 use Rattle.reuse_system.specs.SystemCalls.{changes_of}
-use Rattle.reuse_tree.specs.declared.file_write.FileWrite.{FileWrite}
+use Rattle.reuse_store.specs.declared.file_write.FileWrite.{FileWrite}
 use Rattle.reuse_folder.specs.Seen.{AreKnown, LoseNoEdits}
 use Rattle.reuse_folder.proofs.SeenLemmas.{lose_at, lose_only, lose_one, lose_then}
 use Rattle.reuse_folder.proofs.folder.RootFolder.write_some.Goals as goal

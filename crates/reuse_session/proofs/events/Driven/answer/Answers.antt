@@ -1,10 +1,10 @@
 use Rattle.std.proofs.Common.{◌<◌, IfErr, arith, ap, sym, subst}
-use Rattle.reuse_tree.specs.Files.{Files}
+use Rattle.reuse_change.specs.Files.{Files}
 use Rattle.reuse_command.specs.Answer.{HasCause}
 use Rattle.reuse_journal.specs.JournalFiles.{IsFree}
 use Rattle.reuse_session.specs.session.Driven.{store_in}
 use Rattle.reuse_session.specs.session.Stops.{AnswersEvent, AreLeft, MayBeFound}
-use Rattle.reuse_tree.specs.Tree.{undo_folder_of}
+use Rattle.reuse_change.specs.Tree.{undo_folder_of}
 use Rattle.reuse_session.specs.declared.events.Event.{Event}
 use Rattle.reuse_session.proofs.lemmas.session.Driving.{left_at, answers_reopen}
 use Rattle.reuse_session.proofs.lemmas.session.SafeDriving.{found_in}

@@ -1,11 +1,11 @@
 use Rattle.std.proofs.Common.{◌≡◌, ◌<◌, Err, IfErr, refl, arith, ap, sym, subst}
-use Rattle.reuse_tree.specs.Files.{Files}
+use Rattle.reuse_change.specs.Files.{Files}
 use Rattle.reuse_command.specs.Answer.{HasCause}
 use Rattle.reuse_journal.specs.JournalFiles.{IsFree}
 use Rattle.reuse_session.specs.session.Session.{store_of}
 use Rattle.reuse_session.specs.session.Driven.{store_in}
 use Rattle.reuse_session.specs.session.Stops.{Point, AnswersEvent}
-use Rattle.reuse_tree.specs.Tree.{undo_folder_of}
+use Rattle.reuse_change.specs.Tree.{undo_folder_of}
 use Rattle.reuse_session.specs.declared.events.Event.TheVariants as asked
 use Rattle.reuse_command.specs.declared.reply.Refusal.TheVariants.{Broken}
 use Rattle.reuse_session.proofs.lemmas.session.Driving.{at_open, at_closed}

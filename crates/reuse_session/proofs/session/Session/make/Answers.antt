@@ -1,7 +1,7 @@
 use Rattle.std.proofs.Common.{◌+◌, length, Result, IfErr, refl, sym, subst}
-use Rattle.reuse_tree.specs.Files.{Clashes}
-use Rattle.reuse_tree.specs.Tree.{undo_folder_of}
-use Rattle.reuse_tree.specs.declared.direction.Direction.TheVariants as direction
+use Rattle.reuse_change.specs.Files.{Clashes}
+use Rattle.reuse_change.specs.Tree.{undo_folder_of}
+use Rattle.reuse_change.specs.declared.direction.Direction.TheVariants as direction
 use Rattle.reuse_command.specs.Answer.{HasClash, IsNoClash}
 use Rattle.reuse_session.specs.session.Calls.{files_of}
 use Rattle.reuse_journal.specs.JournalFiles.{head_path, entry_path}

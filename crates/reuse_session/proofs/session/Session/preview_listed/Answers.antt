@@ -1,8 +1,8 @@
 use Rattle.std.proofs.Common.{◌≡◌, ◌∙◌, List, Some, Ok, Err, ap, refl, sym, subst}
-use Rattle.reuse_tree.specs.Files.{tree_of}
-use Rattle.reuse_tree.specs.declared.change.Change.{Change}
+use Rattle.reuse_change.specs.Files.{tree_of}
+use Rattle.reuse_change.specs.declared.change.Change.{Change}
 use Rattle.reuse_command.specs.Answer.{TellsNoFault}
-use Rattle.reuse_tree.specs.Entry.{IsEntry}
+use Rattle.reuse_change.specs.Entry.{IsEntry}
 use Rattle.reuse_journal.specs.History.{remember_moved}
 use Rattle.reuse_journal.specs.Journal.{Recorded, changes_ahead}
 use Rattle.reuse_journal.specs.JournalFiles.{entry_in}

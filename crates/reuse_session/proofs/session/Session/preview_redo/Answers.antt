@@ -1,5 +1,5 @@
 use Rattle.std.proofs.Common.{◌∙◌, sym, subst}
-use Rattle.reuse_tree.specs.declared.direction.Direction.TheVariants as go
+use Rattle.reuse_change.specs.declared.direction.Direction.TheVariants as go
 use Rattle.reuse_session.specs.session.Previews.{PreviewsReplay}
 use Rattle.reuse_session.proofs.lemmas.session.Previewing.{alone_err, alone_looks, alone_where, told_alone}
 use Rattle.reuse_session.proofs.session.Session.preview_redo.Goals as goal

@@ -1,6 +1,6 @@
 use Rattle.std.proofs.Common.{◌≡◌, Err, IfErr, refl, sym, ap, ap₂, subst, ◌∙◌}
 use Rattle.reuse_command.specs.Answer.{IsNoClash, TellsNoFault}
-use Rattle.reuse_tree.specs.Entry.{paths_of}
+use Rattle.reuse_change.specs.Entry.{paths_of}
 use Rattle.reuse_session.specs.session.RevertCalls.{IsAfterRevert, Reverts, RevertFollows, as_run}
 use Rattle.reuse_journal.specs.Losses.{Survives}
 use Rattle.reuse_session.specs.session.Session.{store_of, IsRun}

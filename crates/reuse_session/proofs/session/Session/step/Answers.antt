@@ -1,14 +1,14 @@
 use Rattle.std.proofs.Common.{◌≡◌, ◌⊎◌, ◌≤◌, ◌+◌, List, ℕ, Some, Result, Err, length, arith, refl, sym, ap, subst, ◌∙◌}
 use Rattle.std.specs.List.{All}
-use Rattle.reuse_tree.specs.Files.{Clashes, tree_of}
-use Rattle.reuse_tree.specs.declared.change.Change.{Change}
+use Rattle.reuse_change.specs.Files.{Clashes, tree_of}
+use Rattle.reuse_change.specs.declared.change.Change.{Change}
 use Rattle.reuse_session.specs.session.Calls.{IsCall}
 use Rattle.reuse_session.specs.declared.session.Session.{Session}
-use Rattle.reuse_tree.specs.declared.store.Store.{Ghosts}
-use Rattle.reuse_tree.proofs.AskedLemmas.{later_none}
+use Rattle.reuse_store.specs.declared.store.Store.{Ghosts}
+use Rattle.reuse_store.proofs.AskedLemmas.{later_none}
 use Rattle.reuse_command.proofs.OnlyReading.{is_refused}
 use Rattle.reuse_journal.specs.Carried.{IsCarriedOut, IsStopped}
-use Rattle.reuse_tree.specs.Entry.{IsEntry, CanBeMade, CanGo}
+use Rattle.reuse_change.specs.Entry.{IsEntry, CanBeMade, CanGo}
 use Rattle.reuse_tree.specs.Head.{direction_of}
 use Rattle.reuse_command.specs.Answer.{HasCause}
 use Rattle.reuse_journal.specs.History.{head_listing}
@@ -19,12 +19,12 @@ use Rattle.reuse_journal.specs.Standing.{IsStanding}
 use Rattle.reuse_session.proofs.lemmas.journal.StepDoubt.{stops_in_doubt}
 use Rattle.reuse_session.specs.session.Session.{store_of, memory_of}
 use Rattle.reuse_journal.specs.Remembered.{head_room, listed_count}
-use Rattle.reuse_tree.specs.declared.cause.Cause.{Cause}
-use Rattle.reuse_tree.specs.declared.cause.Cause.TheVariants as causes
+use Rattle.reuse_store.specs.declared.cause.Cause.{Cause}
+use Rattle.reuse_store.specs.declared.cause.Cause.TheVariants as causes
 use Rattle.reuse_command.specs.declared.reply.Refusal.{Refusal}
 use Rattle.reuse_command.specs.declared.failure.Failure.TheVariants.{Memory, Interrupted}
 use Rattle.reuse_command.specs.declared.reply.Refusal.TheVariants.{Failed}
-use Rattle.reuse_tree.specs.declared.direction.Direction.{Direction}
+use Rattle.reuse_change.specs.declared.direction.Direction.{Direction}
 use Rattle.reuse_session.proofs.lemmas.session.FolderLemmas.{some_text}
 use Rattle.reuse_journal.proofs.JournalReading.{file_in_folder}
 use Rattle.reuse_journal.proofs.Standings.{carried, stopped}

@@ -1,9 +1,9 @@
 use Rattle.std.proofs.Common.{◌≡◌, Err, ap, sym, subst, ◌∙◌}
 use Rattle.std.specs.List.{All}
-use Rattle.reuse_tree.specs.Files.{tree_of}
+use Rattle.reuse_change.specs.Files.{tree_of}
 use Rattle.reuse_command.specs.Answer.{TellsNoFault}
 use Rattle.reuse_session.specs.session.Calls.{LeavesReplay}
-use Rattle.reuse_tree.specs.Entry.{IsEntry, CanBeMade, IsFirstStuck}
+use Rattle.reuse_change.specs.Entry.{IsEntry, CanBeMade, IsFirstStuck}
 use Rattle.reuse_tree.specs.Head.{direction_of, listed_direction}
 use Rattle.reuse_journal.specs.Journal.{Recorded, State, Replays, ahead, reply_of}
 use Rattle.reuse_journal.specs.JournalFiles.{entry_in, IsKeptIn}
@@ -12,9 +12,9 @@ use Rattle.reuse_journal.specs.Standing.{IsStep}
 use Rattle.reuse_session.specs.session.Session.{store_of, StandsOn}
 use Rattle.reuse_tree.specs.declared.journal.head.Pending.{Pending}
 use Rattle.reuse_session.proofs.lemmas.session.Following.{names_path}
-use Rattle.reuse_tree.specs.Asked.{OnlyReads, Leaves}
-use Rattle.reuse_tree.specs.Tree.{undo_folder_of}
-use Rattle.reuse_tree.proofs.AskedLemmas.{reads_more}
+use Rattle.reuse_store.specs.Asked.{OnlyReads, Leaves}
+use Rattle.reuse_change.specs.Tree.{undo_folder_of}
+use Rattle.reuse_store.proofs.AskedLemmas.{reads_more}
 use Rattle.reuse_command.proofs.OnlyReading.{is_refused, read_early, tested_early}
 use Rattle.reuse_session.proofs.lemmas.journal.StepDoubt.{kept_next, reads_are_safe, safe_entries, survives_early, survives_stop, survives_replay}
 use Rattle.reuse_session.proofs.lemmas.journal.StepAnswers.{still_stands, read_told, failed_untold}

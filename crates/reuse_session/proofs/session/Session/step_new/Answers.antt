@@ -1,12 +1,12 @@
 use Rattle.std.proofs.Common.{◌≡◌, ◌+◌, Ok, Err, length, arith, ap, sym, subst, ◌∙◌}
-use Rattle.reuse_tree.specs.Asked.{Leaves, IsSynced}
-use Rattle.reuse_tree.specs.Tree.{undo_folder_of}
+use Rattle.reuse_store.specs.Asked.{Leaves, IsSynced}
+use Rattle.reuse_change.specs.Tree.{undo_folder_of}
 use Rattle.reuse_tree.specs.declared.journal.head.PendingDirection.TheVariants as directions
 use Rattle.reuse_session.specs.session.Calls.{LeavesRun}
 use Rattle.reuse_journal.specs.Journal.{State}
 use Rattle.reuse_journal.specs.JournalFiles.{IsKeptIn}
 use Rattle.reuse_journal.specs.Losses.{AreSafeOn, Survives}
-use Rattle.reuse_tree.specs.Entry.{paths_of}
+use Rattle.reuse_change.specs.Entry.{paths_of}
 use Rattle.reuse_session.specs.session.Session.{store_of, IsRun, Runs, StandsOn}
 use Rattle.reuse_command.specs.declared.reply.Response.TheVariants.{Changed}
 use Rattle.reuse_command.proofs.OnlyReading.{is_refused}

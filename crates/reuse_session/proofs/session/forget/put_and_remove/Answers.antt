@@ -1,8 +1,8 @@
 use Rattle.std.proofs.Common.{◌≡◌, ◌⊎◌, inr, ℕ, Some, Result, Ok, Err, OnErr, OnOk, take, sym, subst}
 use Rattle.std.proofs.lemmas.Result.{err_from_is_err_and}
-use Rattle.reuse_tree.specs.Asked.{Leaves}
-use Rattle.reuse_tree.specs.Files.{tree_of}
-use Rattle.reuse_tree.specs.Tree.{Sets}
+use Rattle.reuse_store.specs.Asked.{Leaves}
+use Rattle.reuse_change.specs.Files.{tree_of}
+use Rattle.reuse_change.specs.Tree.{Sets}
 use Rattle.reuse_session.specs.session.Forgetting.{PutsAndRemoves, PutsAndRemovesSome, RemovesSome}
 use Rattle.reuse_journal.specs.JournalFiles.{head_path}
 use Rattle.reuse_journal.specs.Losses.{HaveTree}

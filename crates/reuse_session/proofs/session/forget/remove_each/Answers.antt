@@ -1,8 +1,8 @@
 use Rattle.std.proofs.Common.{ℕ, take, arith, refl, sym, subst, ◌∙◌}
 use Rattle.std.specs.Prelude.{OnErr}
 use Rattle.std.proofs.lemmas.Result.{err_from_is_err_and}
-use Rattle.reuse_tree.proofs.AskedLemmas.{later_none, later_more}
-use Rattle.reuse_tree.proofs.ApplyLemmas.{removal_sets, removal_doubt}
+use Rattle.reuse_store.proofs.AskedLemmas.{later_none, later_more}
+use Rattle.reuse_store.proofs.ApplyLemmas.{removal_sets, removal_doubt}
 use Rattle.reuse_session.specs.session.Forgetting.{Removes}
 use Rattle.reuse_session.proofs.lemmas.session.ForgottenFiles.{removes_none, removes_more, removes_or_more, removes_some_none, left_by_removal}
 use Rattle.reuse_session.proofs.session.forget.remove_each.Goals as goal

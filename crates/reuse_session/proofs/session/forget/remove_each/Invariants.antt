@@ -1,6 +1,6 @@
 use Rattle.std.proofs.Common.{◌≡◌, ◌+◌, take}
-use Rattle.reuse_tree.specs.Asked.{Leaves, IsLater}
-use Rattle.reuse_tree.specs.Files.{Files}
+use Rattle.reuse_store.specs.Asked.{Leaves, IsLater}
+use Rattle.reuse_change.specs.Files.{Files}
 use Rattle.reuse_session.specs.session.Forgetting.{Removes, RemovesSome}
 use Rattle.reuse_session.proofs.session.forget.remove_each.Given as goal
 

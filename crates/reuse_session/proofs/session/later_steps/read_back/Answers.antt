@@ -1,11 +1,11 @@
 use Rattle.std.proofs.Common.{◌≡◌, List, true, sym, ap, subst, ◌∙◌}
 use Rattle.std.specs.Prelude.{filter}
 use Rattle.std.specs.List.{All}
-use Rattle.reuse_tree.specs.Entry.{paths_of, IsEntry}
-use Rattle.reuse_tree.specs.Files.{Files}
-use Rattle.reuse_tree.specs.Tree.{undo_folder_of}
-use Rattle.reuse_tree.specs.declared.change.Change.{Change}
-use Rattle.reuse_tree.specs.declared.journal.entry.Entry.{Entry}
+use Rattle.reuse_change.specs.Entry.{paths_of, IsEntry}
+use Rattle.reuse_change.specs.Files.{Files}
+use Rattle.reuse_change.specs.Tree.{undo_folder_of}
+use Rattle.reuse_change.specs.declared.change.Change.{Change}
+use Rattle.reuse_json.specs.declared.entry.Entry.{Entry}
 use Rattle.reuse_journal.specs.JournalFiles.{entry_in, IsKeptIn}
 use Rattle.reuse_session.specs.session.RevertCalls.{done_after, touched_by}
 use Rattle.reuse_journal.specs.Numbered.{lists}

@@ -3,17 +3,17 @@ use Rattle.std.specs.List.{All}
 use Rattle.std.specs.FinMap.{get}
 use Rattle.std.proofs.lemmas.List.{drop_all, length-map}
 use Rattle.reuse_notice.specs.Sets.{set_of}
-use Rattle.reuse_tree.specs.Entry.{paths_of}
-use Rattle.reuse_tree.specs.Listing.{ArePaths}
-use Rattle.reuse_tree.specs.Tree.{undo_folder_of}
-use Rattle.reuse_tree.specs.declared.journal.entry.Entry.{Entry}
-use Rattle.reuse_tree.proofs.AskedLemmas.{reads_more}
+use Rattle.reuse_change.specs.Entry.{paths_of}
+use Rattle.reuse_change.specs.Listing.{ArePaths}
+use Rattle.reuse_change.specs.Tree.{undo_folder_of}
+use Rattle.reuse_json.specs.declared.entry.Entry.{Entry}
+use Rattle.reuse_store.proofs.AskedLemmas.{reads_more}
 use Rattle.reuse_journal.specs.Journal.{Recorded}
 use Rattle.reuse_journal.specs.JournalFiles.{entry_path, entry_in, number_of, EntrySays, IsKeptIn}
 use Rattle.reuse_session.specs.session.RevertCalls.{left_of}
 use Rattle.reuse_session.proofs.lemmas.session.LaterSteps.{left_by, left_ascend, touched_are, step_at, says_at, IsStepAt}
 use Rattle.reuse_command.proofs.OnlyReading.{passed_on}
-use Rattle.reuse_tree.specs.Files.{Files}
+use Rattle.reuse_change.specs.Files.{Files}
 use Rattle.std.specs.Prelude.{ℕ}
 use Rattle.reuse_session.proofs.session.later_steps.touched_paths.Goals as goal
 

@@ -1,8 +1,8 @@
 use Rattle.std.proofs.Common.{◌≡◌, List, drop, map}
 use Rattle.std.specs.List.{All}
-use Rattle.reuse_tree.specs.Asked.{OnlyReads}
-use Rattle.reuse_tree.specs.Entry.{paths_of}
-use Rattle.reuse_tree.specs.Tree.{undo_folder_of}
+use Rattle.reuse_store.specs.Asked.{OnlyReads}
+use Rattle.reuse_change.specs.Entry.{paths_of}
+use Rattle.reuse_change.specs.Tree.{undo_folder_of}
 use Rattle.reuse_journal.specs.Journal.{Recorded}
 use Rattle.reuse_journal.specs.JournalFiles.{number_of, IsKeptIn}
 use Rattle.reuse_session.proofs.lemmas.session.LaterSteps.{left_by}

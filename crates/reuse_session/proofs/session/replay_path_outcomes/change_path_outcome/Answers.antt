@@ -1,7 +1,7 @@
 use Rattle.std.proofs.Common.{◌∙◌, Ok, Err, sym, ap}
 use Rattle.std.proofs.lemmas.Bool.{false≢true}
 use Rattle.std.proofs.lemmas.Result.{err_from_is_err_and}
-use Rattle.reuse_tree.proofs.AskedLemmas.{reads_none}
+use Rattle.reuse_store.proofs.AskedLemmas.{reads_none}
 use Rattle.reuse_command.specs.Answer.{IsEarlyFailure}
 use Rattle.reuse_command.proofs.Asking.{told, short, failed, look_faults}
 use Rattle.reuse_session.proofs.session.replay_path_outcomes.change_path_outcome.Goals as goal

@@ -1,9 +1,9 @@
 use Rattle.std.proofs.Common.{take, ◌+◌, ◌++◌, ◌∷◌, [], arith, ap, sym, subst, ◌∙◌}
 use Rattle.std.proofs.lemmas.List.{take_more}
-use Rattle.reuse_tree.specs.Files.{tree_of}
+use Rattle.reuse_change.specs.Files.{tree_of}
 use Rattle.reuse_plan.specs.PathOutcomes.{IsPathOutcomeOf, ArePathOutcomesOf}
-use Rattle.reuse_tree.proofs.AtChange.{tested, walked}
-use Rattle.reuse_tree.proofs.AskedLemmas.{reads_more}
+use Rattle.reuse_store.proofs.AtChange.{tested, walked}
+use Rattle.reuse_store.proofs.AskedLemmas.{reads_more}
 use Rattle.reuse_session.proofs.lemmas.session.Previewing.{path_outcome_push}
 use Rattle.reuse_session.proofs.session.replay_path_outcomes.replay_path_outcomes.Goals as goal
 

@@ -1,8 +1,8 @@
 use Rattle.std.proofs.Common.{take}
-use Rattle.reuse_tree.specs.Files.{tree_of}
-use Rattle.reuse_tree.specs.Entry.{IsEntry}
+use Rattle.reuse_change.specs.Files.{tree_of}
+use Rattle.reuse_change.specs.Entry.{IsEntry}
 use Rattle.reuse_plan.specs.PathOutcomes.{ArePathOutcomesOf}
-use Rattle.reuse_tree.specs.Asked.{OnlyReads}
+use Rattle.reuse_store.specs.Asked.{OnlyReads}
 use Rattle.reuse_session.proofs.session.replay_path_outcomes.replay_path_outcomes.Given as goal
 
 -- the files stay, and the path outcomes so far are those of the changes so far

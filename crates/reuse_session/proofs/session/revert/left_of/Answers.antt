@@ -1,6 +1,6 @@
 use Rattle.std.proofs.Common.{not, rules}
 use Rattle.std.proofs.lemmas.Fn.{filter_same}
-use Rattle.reuse_tree.specs.Listing.{is_among}
+use Rattle.reuse_change.specs.Listing.{is_among}
 use Rattle.reuse_session.proofs.session.revert.left_of.Goals as goal
 
 pub returns : goal.returns

@@ -1,9 +1,9 @@
 use Rattle.std.proofs.Common.{◌≡◌, ◌-◌, ◌<◌, [], ◌∷◌, ◌++◌, length, None, Err, ap, ap₂, ◌∙◌, arith, Some}
 use Rattle.json.specs.Json.{parse_map, after_end_array, value}
 use Rattle.serde_json.specs.View.{items_of}
-use Rattle.reuse_tree.specs.EntryReading.{change_in, with_next}
-use Rattle.reuse_tree.proofs.JsonTurns.{item_read, item_refused, items_over}
-use Rattle.reuse_tree.proofs.Trimming.{before, before-no_items, none_before, one_more_item, same_fault}
+use Rattle.reuse_json.specs.EntryReading.{change_in, with_next}
+use Rattle.reuse_json.proofs.JsonTurns.{item_read, item_refused, items_over}
+use Rattle.reuse_json.proofs.Trimming.{before, before-no_items, none_before, one_more_item, same_fault}
 use Rattle.reuse_tree.proofs.TrimmedEntries.{next_change, no_changes}
 use Rattle.reuse_tree.proofs.journal.changes_reading.change_list.Goals as goal
 

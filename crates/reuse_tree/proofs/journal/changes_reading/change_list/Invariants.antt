@@ -3,9 +3,9 @@ use Rattle.json.specs.Json.{items, value, parse_map}
 use Rattle.serde_json.specs.Data.{Data}
 use Rattle.serde_json.specs.Read.{of_items, converted}
 use Rattle.serde_json.specs.View.{items_of}
-use Rattle.reuse_tree.specs.EntryReading.{change_in, if_few_changes}
-use Rattle.reuse_tree.specs.JsonReading.{read_items}
-use Rattle.reuse_tree.proofs.Trimming.{before}
+use Rattle.reuse_json.specs.EntryReading.{change_in, if_few_changes}
+use Rattle.reuse_json.specs.JsonReading.{read_items}
+use Rattle.reuse_json.proofs.Trimming.{before}
 use Rattle.reuse_tree.proofs.journal.changes_reading.change_list.Given as goal
 
 -- the items so far, and those that are left, are all; the changes are those of the items so far

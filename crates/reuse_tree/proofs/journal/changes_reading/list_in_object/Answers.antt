@@ -2,8 +2,8 @@ use Rattle.std.proofs.Common.{◌≡◌, ◌-◌, length, Some, Err, refl, ap, �
 use Rattle.json.specs.Json.{read_key, value}
 use Rattle.json.proofs.Grammar.{read_key-shorter}
 use Rattle.serde_json.specs.Data.{no_members, put}
-use Rattle.reuse_tree.proofs.JsonTurns.{member_read, member_refused, key_refused, members_over}
-use Rattle.reuse_tree.proofs.Trimming.{same_fault}
+use Rattle.reuse_json.proofs.JsonTurns.{member_read, member_refused, key_refused, members_over}
+use Rattle.reuse_json.proofs.Trimming.{same_fault}
 use Rattle.reuse_tree.proofs.TrimmedEntries.{listed_more}
 use Rattle.reuse_tree.proofs.journal.changes_reading.list_in_object.Goals as goal
 

@@ -2,7 +2,7 @@ use Rattle.std.proofs.Common.{◌≡◌, ℕ, ◌≤◌, length, option_map}
 use Rattle.json.specs.Json.{members, value}
 use Rattle.serde_json.specs.Data.{Members, no_members}
 use Rattle.serde_json.specs.Read.{of_members, converted}
-use Rattle.reuse_tree.specs.EntryReading.{listed_in}
+use Rattle.reuse_json.specs.EntryReading.{listed_in}
 use Rattle.reuse_tree.proofs.journal.changes_reading.list_in_object.Given as goal
 
 -- the members so far, and those that are left, are all; the changes are those of the members so far

@@ -6,7 +6,7 @@ use Rattle.json.proofs.Grammar.{value_is, value-begin_array}
 use Rattle.serde_json.specs.Data.{array}
 use Rattle.serde_json.specs.Read.{of_json, converted}
 use Rattle.reuse_tree.proofs.JsonKinds.{no_array}
-use Rattle.reuse_tree.proofs.JsonTurns.{array_converted}
+use Rattle.reuse_json.proofs.JsonTurns.{array_converted}
 use Rattle.reuse_tree.proofs.TrimmedEntries.{no_list, of_list}
 use Rattle.reuse_tree.proofs.journal.changes_reading.list_in_value.Goals as goal
 

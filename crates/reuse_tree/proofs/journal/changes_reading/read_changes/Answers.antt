@@ -2,10 +2,10 @@ use Rattle.std.proofs.Common.{◌≡◌, [], ◌∷◌, Some, Err, IsUtf8, is_so
 use Rattle.json.specs.Lex.{tokens}
 use Rattle.json.specs.Reads.{token_of}
 use Rattle.serde_json.specs.Data.{object}
-use Rattle.reuse_tree.specs.EntryReading.{listed_in}
-use Rattle.reuse_tree.specs.Json.{IsJson}
+use Rattle.reuse_json.specs.EntryReading.{listed_in}
+use Rattle.reuse_json.specs.Json.{IsJson}
 use Rattle.reuse_tree.proofs.JsonKinds.{empty_text, more_left, object_and_more, object_read, object_refused, other_text}
-use Rattle.reuse_tree.proofs.Trimming.{same_fault}
+use Rattle.reuse_json.proofs.Trimming.{same_fault}
 use Rattle.reuse_tree.proofs.TrimmedEntries.{no_object_read, same_members}
 use Rattle.reuse_tree.proofs.journal.changes_reading.read_changes.Goals as goal
 

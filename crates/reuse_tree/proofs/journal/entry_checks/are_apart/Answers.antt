@@ -2,9 +2,9 @@ use Rattle.std.proofs.Common.{◌≡◌, ◌∙◌, ◌+◌, List, ℕ, map, dro
 use Rattle.std.specs.List.Sorted.{IsStrictlySortedBy}
 use Rattle.std.proofs.lemmas.Bool.{false≢true}
 use Rattle.std.proofs.lemmas.List.{take_rest}
-use Rattle.reuse_tree.specs.Change.{path_of}
-use Rattle.reuse_tree.specs.declared.change.Change.{Change}
-use Rattle.reuse_tree.specs.Listing.{is_folder_of}
+use Rattle.reuse_change.specs.Change.{path_of}
+use Rattle.reuse_change.specs.declared.change.Change.{Change}
+use Rattle.reuse_change.specs.Listing.{is_folder_of}
 use Rattle.reuse_tree.proofs.EntryPaths.{before, sorted_later, apart_step, not_apart_from}
 use Rattle.reuse_tree.proofs.journal.entry_checks.are_apart.Goals.{After-has_file_under}
 use Rattle.reuse_tree.proofs.journal.entry_checks.are_apart.Goals as goal

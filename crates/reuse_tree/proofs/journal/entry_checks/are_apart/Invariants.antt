@@ -1,6 +1,6 @@
 use Rattle.std.proofs.Common.{drop, map}
 use Rattle.std.specs.Prelude.{◌↔◌}
-use Rattle.reuse_tree.specs.Change.{path_of}
+use Rattle.reuse_change.specs.Change.{path_of}
 use Rattle.reuse_tree.specs.EntryTests.{AreApart}
 use Rattle.reuse_tree.proofs.journal.entry_checks.are_apart.Given as goal
 

@@ -3,7 +3,7 @@ use Rattle.std.proofs.lemmas.Bool.{false≢true}
 use Rattle.std.proofs.lemmas.Cmp.{nat_list_cmp_total}
 use Rattle.std.proofs.lemmas.List.{length-map}
 use Rattle.std.proofs.lemmas.Map.Keys.{sorted_from_all_adjacent}
-use Rattle.reuse_tree.specs.Change.{path_of}
+use Rattle.reuse_change.specs.Change.{path_of}
 use Rattle.reuse_tree.proofs.EntryPaths.{not_ascending, ascends_more}
 use Rattle.reuse_tree.proofs.journal.entry_checks.ascend.Goals as goal
 

@@ -1,6 +1,6 @@
 use Rattle.std.proofs.Common.{◌≡◌, ◌<◌, ◌+◌, ℕ, get_or, map, Less, [], nat_cmp}
 use Rattle.std.specs.Cmp.Lexicographic.{slice_cmp}
-use Rattle.reuse_tree.specs.Change.{path_of}
+use Rattle.reuse_change.specs.Change.{path_of}
 use Rattle.reuse_tree.proofs.journal.entry_checks.ascend.Given as goal
 
 -- the paths so far ascend, each below the next

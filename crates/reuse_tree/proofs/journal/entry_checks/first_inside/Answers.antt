@@ -2,7 +2,7 @@ use Rattle.std.proofs.Common.{rules, sym, ◌∙◌, arith, eqb-true, length, �
 use Rattle.std.specs.Ordering.{is_lt}
 use Rattle.std.specs.Cmp.Lexicographic.{slice_cmp}
 use Rattle.std.proofs.lemmas.List.Sorted.{IsPartitionPoint-from_clause}
-use Rattle.reuse_tree.specs.Change.{path_of}
+use Rattle.reuse_change.specs.Change.{path_of}
 use Rattle.reuse_tree.proofs.EntryPaths.{below_parts, none_before}
 use Rattle.reuse_tree.proofs.journal.entry_checks.first_inside.Goals as goal
 use Rattle.reuse_tree.proofs.journal.entry_checks.first_inside.Goals.{then-is_empty-via-then-is_empty, then-is_empty-via-else-is_empty+then-not-precedes_inside}

@@ -1,5 +1,5 @@
 use Rattle.std.proofs.Common.{◌∙◌, ap}
-use Rattle.reuse_tree.specs.Path.{lies_under}
+use Rattle.reuse_change.specs.Path.{lies_under}
 use Rattle.reuse_tree.proofs.EntryPaths.{folder_among, no_folder_among}
 use Rattle.reuse_tree.proofs.journal.entry_checks.has_file_under.Goals as goal
 

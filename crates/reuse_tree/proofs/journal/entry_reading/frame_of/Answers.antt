@@ -1,4 +1,4 @@
-use Rattle.reuse_tree.specs.EntryReading.{frame_in}
+use Rattle.reuse_json.specs.EntryReading.{frame_in}
 use Rattle.reuse_tree.proofs.StoppedReading.{here, stopped}
 use Rattle.reuse_tree.proofs.journal.entry_reading.frame_of.Goals as goal
 

@@ -1,7 +1,7 @@
 use Rattle.std.proofs.Common.{◌≡◌, ◌∙◌, sym, subst}
 use Rattle.std.proofs.lemmas.Bool.{false≢true}
 use Rattle.reuse_tree.specs.EntryTests.{Passes}
-use Rattle.reuse_tree.specs.declared.journal.entry.Entry.{Entry}
+use Rattle.reuse_json.specs.declared.entry.Entry.{Entry}
 use Rattle.reuse_tree.proofs.EntryPaths.{entry_from_tests, paths_from_tests, tests_from_entry}
 use Rattle.reuse_tree.proofs.journal.entry_reading.judge.Goals as goal
 

@@ -1,6 +1,6 @@
 use Rattle.std.proofs.Common.{◌≤◌, Err, List, ap, sym, subst}
-use Rattle.reuse_tree.specs.EntryText.{IsJsonEntry}
-use Rattle.reuse_tree.specs.declared.change.Change.{Change}
+use Rattle.reuse_json.specs.EntryText.{IsJsonEntry}
+use Rattle.reuse_change.specs.declared.change.Change.{Change}
 use Rattle.reuse_tree.proofs.TrimmedEntries.{entry_read, entry_answers, fault_answers, frame_read, list_missed, not_none}
 use Rattle.reuse_tree.proofs.journal.entry_reading.read_entry.Goals as goal
 

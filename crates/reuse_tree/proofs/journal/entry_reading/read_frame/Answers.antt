@@ -1,7 +1,7 @@
 use Rattle.std.proofs.Common.{Err, ap}
 use Rattle.serde_json.specs.View.{view}
 use Rattle.reuse_tree.proofs.TrimmedEntries.{frame_ok, frame_refused}
-use Rattle.reuse_tree.proofs.Trimming.{same_fault}
+use Rattle.reuse_json.proofs.Trimming.{same_fault}
 use Rattle.reuse_tree.proofs.journal.entry_reading.read_frame.Goals as goal
 
 pub returns-in_err-value-clause-refused : goal.returns-in_err-value-clause-refused

@@ -1,7 +1,7 @@
 use Rattle.std.proofs.Common.{◌++◌, ◌+◌, List, ℕ, map, take, sym, ap, ◌∙◌, append-nil, take_all}
 use Rattle.std.specs.List.{join_with_byte}
-use Rattle.reuse_tree.specs.EntryText.{change_text, comma_before}
-use Rattle.reuse_tree.proofs.Appending.{joined}
+use Rattle.reuse_json.specs.EntryText.{change_text, comma_before}
+use Rattle.reuse_json.proofs.Appending.{joined}
 use Rattle.reuse_tree.proofs.JoinedTexts.{join-map-more}
 use Rattle.reuse_tree.proofs.journal.entry_writing.append_changes.Goals as goal
 

@@ -1,6 +1,6 @@
 use Rattle.std.proofs.Common.{◌≡◌, ◌++◌, take, map}
 use Rattle.std.specs.List.{join_with_byte}
-use Rattle.reuse_tree.specs.EntryText.{change_text}
+use Rattle.reuse_json.specs.EntryText.{change_text}
 use Rattle.reuse_tree.proofs.journal.entry_writing.append_changes.Given as goal
 
 -- the text so far is that of the changes so far

@@ -1,8 +1,8 @@
 use Rattle.std.proofs.Common.{◌++◌, ◌∙◌, List, ℕ, codes, decimal, map, ap}
 use Rattle.std.specs.List.{join_with_byte}
-use Rattle.reuse_tree.specs.EntryText.{change_text, command_name, is_any_sealed}
-use Rattle.reuse_tree.specs.Format.{format_number}
-use Rattle.reuse_tree.proofs.Appending.{first, then, last}
+use Rattle.reuse_json.specs.EntryText.{change_text, command_name, is_any_sealed}
+use Rattle.reuse_json.specs.Format.{format_number}
+use Rattle.reuse_json.proofs.Appending.{first, then, last}
 use Rattle.reuse_tree.proofs.journal.entry_writing.append_entry.Goals as goal
 
 pub returns : goal.returns

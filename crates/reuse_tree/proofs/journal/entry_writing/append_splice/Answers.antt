@@ -1,9 +1,9 @@
 use Rattle.std.proofs.Common.{◌++◌, ◌∙◌, List, ℕ, Option, codes, decimal, ap}
 use Rattle.std.specs.Option.{option_map}
 use Rattle.json.specs.Print.{quoted}
-use Rattle.reuse_tree.specs.declared.digest.Seal.{Seal}
-use Rattle.reuse_tree.specs.EntryText.{digest_text, hex_text}
-use Rattle.reuse_tree.proofs.Appending.{first, then, last}
+use Rattle.reuse_change.specs.declared.digest.Seal.{Seal}
+use Rattle.reuse_json.specs.EntryText.{digest_text, hex_text}
+use Rattle.reuse_json.proofs.Appending.{first, then, last}
 use Rattle.reuse_tree.proofs.journal.entry_writing.append_splice.Goals as goal
 
 pub returns : goal.returns

@@ -1,7 +1,7 @@
 use Rattle.std.proofs.Common.{◌++◌, ◌∙◌, List, ℕ, codes, ap}
 use Rattle.json.specs.Print.{quoted}
-use Rattle.reuse_tree.specs.EntryText.{digest_text, hex_text}
-use Rattle.reuse_tree.proofs.Appending.{first, then, last}
+use Rattle.reuse_json.specs.EntryText.{digest_text, hex_text}
+use Rattle.reuse_json.proofs.Appending.{first, then, last}
 use Rattle.reuse_tree.proofs.journal.entry_writing.append_whole.Goals as goal
 
 pub returns : goal.returns

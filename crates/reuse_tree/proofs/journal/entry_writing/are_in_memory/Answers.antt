@@ -1,7 +1,7 @@
 use Rattle.std.proofs.Common.{subst, take_all}
 use Rattle.std.specs.Prelude.{All}
 use Rattle.std.proofs.lemmas.List.Elements.{All-more}
-use Rattle.reuse_tree.specs.EntryText.{IsChangeInMemory}
+use Rattle.reuse_json.specs.EntryText.{IsChangeInMemory}
 use Rattle.reuse_tree.proofs.journal.entry_writing.are_in_memory.Goals as goal
 
 pub loop-change-preserved : goal.loop-change-preserved

@@ -1,6 +1,6 @@
 use Rattle.std.proofs.Common.{take}
 use Rattle.std.specs.Prelude.{All}
-use Rattle.reuse_tree.specs.EntryText.{IsChangeInMemory}
+use Rattle.reuse_json.specs.EntryText.{IsChangeInMemory}
 use Rattle.reuse_tree.proofs.journal.entry_writing.are_in_memory.Given as goal
 
 abbrev pub invariant-loop-change : goal.invariant-loop-change

@@ -1,6 +1,6 @@
 use Rattle.std.proofs.Common.{◌≡◌, ◌++◌, ◌∙◌, ◌≤◌, ap, sym, subst, List, ℕ, length}
-use Rattle.reuse_tree.specs.Entry.{entry_size, IsEntry}
-use Rattle.reuse_tree.specs.EntryText.{entry_text, IsEntryInMemory, IsGoodEntry}
+use Rattle.reuse_change.specs.Entry.{entry_size, IsEntry}
+use Rattle.reuse_json.specs.EntryText.{entry_text, IsEntryInMemory, IsGoodEntry}
 use Rattle.reuse_tree.proofs.EntryLaws.{entry_good, entry_length}
 use Rattle.reuse_tree.proofs.journal.entry_writing.encode_entry.Goals as goal
 

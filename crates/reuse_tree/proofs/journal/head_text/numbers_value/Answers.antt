@@ -3,7 +3,7 @@ use Rattle.std.proofs.lemmas.List.{map-append, map_more}
 use Rattle.serde_json.specs.Data.{Data, array}
 use Rattle.serde_json.specs.View.{items_of, view}
 use Rattle.serde_json.proofs.Views.{view-Array}
-use Rattle.reuse_tree.specs.Json.{count}
+use Rattle.reuse_json.specs.Json.{count}
 use Rattle.reuse_tree.proofs.journal.head_text.numbers_value.Goals as goal
 
 pub loop-number-preserved : goal.loop-number-preserved

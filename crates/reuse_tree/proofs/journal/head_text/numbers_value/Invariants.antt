@@ -1,6 +1,6 @@
 use Rattle.std.proofs.Common.{◌≡◌, take, map}
 use Rattle.serde_json.specs.View.{view}
-use Rattle.reuse_tree.specs.Json.{count}
+use Rattle.reuse_json.specs.Json.{count}
 use Rattle.reuse_tree.proofs.journal.head_text.numbers_value.Given as goal
 
 -- the values so far are those of the numbers so far

@@ -1,7 +1,7 @@
 use Rattle.std.proofs.Common.{◌++◌, ◌∙◌, codes, refl, sym}
 use Rattle.std.proofs.lemmas.Result.{IfOk-weaker}
-use Rattle.reuse_tree.specs.EntryText.{digest_text}
-use Rattle.reuse_tree.proofs.WrittenTexts.{step}
+use Rattle.reuse_json.specs.EntryText.{digest_text}
+use Rattle.reuse_json.proofs.WrittenTexts.{step}
 use Rattle.reuse_tree.proofs.journal.written_entry.read_change.Goals as goal
 
 pub returns-then-skip-2-clause-text : goal.returns-then-skip-2-clause-text

@@ -1,6 +1,6 @@
 use Rattle.std.proofs.Common.{refl}
 use Rattle.std.proofs.lemmas.List.Elements.{All-push}
-use Rattle.reuse_tree.specs.EntryText.{IsChangeInMemory}
+use Rattle.reuse_json.specs.EntryText.{IsChangeInMemory}
 use Rattle.reuse_tree.proofs.WrittenEntries.{all_taken, one_taken}
 use Rattle.reuse_tree.proofs.journal.written_entry.read_changes.Goals as goal
 

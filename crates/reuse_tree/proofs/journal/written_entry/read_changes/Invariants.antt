@@ -1,6 +1,6 @@
 use Rattle.std.proofs.Common.{◌≡◌, ◌++◌, length}
 use Rattle.std.specs.List.{All, flat_map}
-use Rattle.reuse_tree.specs.EntryText.{IsChangeInMemory}
+use Rattle.reuse_json.specs.EntryText.{IsChangeInMemory}
 use Rattle.reuse_tree.proofs.WrittenEntries.{with_comma}
 use Rattle.reuse_tree.proofs.journal.written_entry.read_changes.Given as goal
 

@@ -1,7 +1,7 @@
 use Rattle.std.proofs.Common.{◌++◌, ◌∙◌, codes, refl, rules}
 use Rattle.json.specs.Print.{quoted}
-use Rattle.reuse_tree.specs.EntryText.{digest_text, hex_text}
-use Rattle.reuse_tree.proofs.WrittenTexts.{four_steps, step}
+use Rattle.reuse_json.specs.EntryText.{digest_text, hex_text}
+use Rattle.reuse_json.proofs.WrittenTexts.{four_steps, step}
 use Rattle.reuse_tree.proofs.journal.written_entry.read_drop.Goals as goal
 
 pub returns-clause-text : goal.returns-clause-text

@@ -1,7 +1,7 @@
 use Rattle.std.proofs.Common.{◌++◌, ◌∙◌, codes, decimal, refl, subst, sym}
 use Rattle.json.specs.Print.{quoted}
-use Rattle.reuse_tree.specs.EntryText.{digest_text, hex_text, AreDigestBytes, IsChangeInMemory}
-use Rattle.reuse_tree.proofs.WrittenTexts.{four_steps}
+use Rattle.reuse_json.specs.EntryText.{digest_text, hex_text, AreDigestBytes, IsChangeInMemory}
+use Rattle.reuse_json.proofs.WrittenTexts.{four_steps}
 use Rattle.reuse_tree.proofs.journal.written_entry.read_splice.Goals as goal
 
 pub returns-clause-text : goal.returns-clause-text

@@ -1,12 +1,12 @@
 use Rattle.std.proofs.Common.{◌≡◌, ◌++◌, ◌∙◌, ℕ, List, codes, decimal, map, ap, sym, subst}
 use Rattle.std.specs.List.{join_with_byte}
 use Rattle.std.proofs.lemmas.List.{append-nil}
-use Rattle.reuse_tree.specs.Entry.{AreAllSealed}
+use Rattle.reuse_change.specs.Entry.{AreAllSealed}
 use Rattle.reuse_tree.specs.EntryTests.{Passes}
-use Rattle.reuse_tree.specs.EntryText.{change_text, command_name, IsGoodEntry}
-use Rattle.reuse_tree.specs.Format.{format_number}
-use Rattle.reuse_tree.specs.declared.change.Change.{Change}
-use Rattle.reuse_tree.proofs.WrittenTexts.{four_steps}
+use Rattle.reuse_json.specs.EntryText.{change_text, command_name, IsGoodEntry}
+use Rattle.reuse_json.specs.Format.{format_number}
+use Rattle.reuse_change.specs.declared.change.Change.{Change}
+use Rattle.reuse_json.proofs.WrittenTexts.{four_steps}
 use Rattle.reuse_tree.proofs.WrittenEntries.{written_good}
 use Rattle.reuse_tree.proofs.journal.written_entry.read_written.Goals as goal
 

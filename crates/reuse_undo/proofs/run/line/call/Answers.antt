@@ -1,10 +1,10 @@
 use Rattle.std.proofs.Common.{◌<◌, ◌≤◌, ◌∙◌, inl, is_some, IfErr, refl, sym, ap, subst, arith}
-use Rattle.reuse_tree.specs.Asked.{OnlyReads}
-use Rattle.reuse_tree.specs.Files.{tree_of}
+use Rattle.reuse_store.specs.Asked.{OnlyReads}
+use Rattle.reuse_change.specs.Files.{tree_of}
 use Rattle.reuse_session.specs.session.Session.{store_of}
 use Rattle.reuse_session.specs.session.Requests.{HasCallClash}
 use Rattle.reuse_undo.specs.run.RunLine.{RequestLeaves}
-use Rattle.reuse_tree.proofs.AskedLemmas.{reads_more}
+use Rattle.reuse_store.proofs.AskedLemmas.{reads_more}
 use Rattle.reuse_session.proofs.lemmas.session.Peeking.{caused}
 use Rattle.reuse_session.proofs.lemmas.session.SafeDriving.{closed_safely}
 use Rattle.reuse_undo.proofs.lemmas.run.CallLemmas.{carried, found_again, meets_by, unclashed}

@@ -1,7 +1,7 @@
 use Rattle.std.proofs.Common.{◌∙◌, ap, subst}
 use Rattle.std.proofs.lemmas.List.{take_all}
-use Rattle.reuse_tree.specs.Files.{tree_of}
-use Rattle.reuse_tree.proofs.AskedLemmas.{reads_more}
+use Rattle.reuse_change.specs.Files.{tree_of}
+use Rattle.reuse_store.proofs.AskedLemmas.{reads_more}
 use Rattle.reuse_undo.specs.run.Drawn.{AreDiffs}
 use Rattle.reuse_undo.specs.print.WriterFaults.{IsOfDiff}
 use Rattle.reuse_undo.proofs.lemmas.run.DiffLemmas.{handed, of_diff_after}

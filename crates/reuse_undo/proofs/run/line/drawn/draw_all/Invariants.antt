@@ -1,6 +1,6 @@
 use Rattle.std.proofs.Common.{◌≡◌, take}
-use Rattle.reuse_tree.specs.Asked.{OnlyReads}
-use Rattle.reuse_tree.specs.Files.{Files, tree_of}
+use Rattle.reuse_store.specs.Asked.{OnlyReads}
+use Rattle.reuse_change.specs.Files.{Files, tree_of}
 use Rattle.reuse_undo.specs.run.Drawn.{AreDiffs, AreSmallSteps}
 use Rattle.reuse_undo.proofs.run.line.drawn.draw_all.Given as goal
 

@@ -1,6 +1,6 @@
 use Rattle.std.proofs.Common.{◌∙◌, Ok, Err, inl, inr, ap, refl, subst}
-use Rattle.reuse_tree.specs.Files.{Files}
-use Rattle.reuse_tree.specs.declared.direction.Direction.TheVariants as go
+use Rattle.reuse_change.specs.Files.{Files}
+use Rattle.reuse_change.specs.declared.direction.Direction.TheVariants as go
 use Rattle.reuse_session.specs.session.Previews.{run_path_outcomes_on}
 use Rattle.reuse_command.specs.declared.command.Command.{Command}
 use Rattle.reuse_command.specs.declared.path_outcome.Previewed.{Previewed}

@@ -1,0 +1,11 @@
+pub mod FileMaps
+pub mod ChangeStates
+pub mod Cuts
+pub mod Applying
+pub mod Sealed
+pub mod ListingLemmas
+pub mod NeedLemmas
+pub mod ClashLemmas
+pub mod Differ
+pub mod NeighbourLemmas
+pub mod Walk

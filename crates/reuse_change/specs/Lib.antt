@@ -1,0 +1,9 @@
+pub mod Path
+pub mod Files
+pub mod Parts
+pub mod Digest
+pub mod Change
+pub mod Entry
+pub mod Tree
+pub mod Listing
+pub mod Clash

@@ -1,0 +1,19 @@
+//! The pieces of the journal's texts: JSON that is taken apart and written, and what an entry is.
+#![tactic(auto)]
+
+mod entry;
+mod entry_changes;
+mod fault;
+pub mod fields;
+mod json_number;
+pub mod json_writing;
+mod room;
+mod small_hex;
+pub mod trimmed;
+mod written_text;
+
+pub use entry::{Changes, Entry};
+pub use entry_changes::EntryChanges;
+pub use fault::DecodeFault;
+pub use room::Room;
+pub use written_text::WrittenText;

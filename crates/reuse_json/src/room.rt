@@ -1,0 +1,43 @@
+//! How long the lists and objects of a journal's text may be, level by level.
+ghost use Rattle.std.specs.Prelude.{◌≡◌};
+ghost use Rattle.reuse_json.specs.Trimmed.{inner, most};
+
+/// A place in a text of the journal.
+#[derive(Clone, Copy, Drop)]
+pub enum Room {
+    /// A head.
+    Head,
+    /// A member of a head: a list of numbers, what is under way, or a number.
+    Numbers,
+    /// An entry, of which the list of changes is left out.
+    Entry,
+    /// A change.
+    Change,
+    /// A text or a number.
+    Leaf,
+}
+
+impl Room {
+    /// How many items or members are kept there.
+    pub(crate) fn most(self) -> usize
+        ensures { result ≡ most self }
+    {
+        match self {
+            Room::Head => 5,
+            Room::Numbers => 4_096,
+            Room::Entry => 4,
+            Room::Change => 8,
+            Room::Leaf => 0,
+        }
+    }
+
+    /// The place of each item or member.
+    pub(crate) fn inner(self) -> Room
+        ensures { result ≡ inner self }
+    {
+        match self {
+            Room::Head => Room::Numbers,
+            _ => Room::Leaf,
+        }
+    }
+}

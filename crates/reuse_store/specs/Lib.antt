@@ -1,0 +1,10 @@
+pub mod Store
+pub mod Lasting
+pub mod StoreLaws
+pub mod Asked
+pub mod Calls
+pub mod CallParts
+pub mod FileMap
+pub mod FaultyStore
+pub mod Apply
+pub mod Batch

@@ -1,6 +1,0 @@
-use Rattle.reuse_tree.proofs.GoodFiles.{puts_keep, remove_keeps}
-use Rattle.reuse_tree.specs.FileMap.{none_are_files}
-use Rattle.reuse_tree.proofs.laws.files_stay_good.Goals as goal
-
-pub returns : goal.returns
-returns c = record { none = none_are_files; put = puts_keep; remove = remove_keeps }

@@ -1,7 +1,0 @@
--- What a file holds, in three parts.
-use Rattle.std.specs.Prelude.{ℕ, List, ◌++◌}
-use Rattle.reuse_tree.specs.declared.parts.Parts.{Parts}
-
--- the parts joined
-abbrev pub joined : Parts → List ℕ
-joined parts = parts.front.now ++ parts.middle.now ++ parts.back.now
