@@ -7,7 +7,7 @@ use Rattle.std.specs.Option.{option_to_list}
 use Rattle.std.proofs.lemmas.List.{map-append}
 use Rattle.std.proofs.lemmas.List.Elements.{filter_map-append}
 use Rattle.std.proofs.lemmas.Str.{is_utf8-from_IsUtf8}
-use Rattle.reuse_dep5.proofs.PieceLemmas.{not_utf8}
+use Rattle.reuse_toml.proofs.ReadGlobLemmas.{not_utf8}
 use Rattle.reuse_command.specs.declared.command.Place.{Place}
 use Rattle.reuse_command.specs.declared.command.Place.TheVariants.{Path}
 use Rattle.reuse_arguments.specs.FileLists.{path_at, path_of_word}

@@ -3,8 +3,8 @@ use Rattle.std.specs.Prelude.{ℕ, List, [], ◌∷◌, Option, None, Some, drop
 use Rattle.std.specs.List.{starts_with}
 use Rattle.std.specs.Option.{option_to_list}
 use Rattle.std.specs.Str.{chars}
-use Rattle.reuse_dep5.specs.declared.glob.GlobPiece.{GlobPiece}
-use Rattle.reuse_dep5.specs.GlobText.{read_glob}
+use Rattle.reuse_toml.specs.declared.glob.GlobPiece.{GlobPiece}
+use Rattle.reuse_toml.specs.GlobText.{read_glob}
 use Rattle.reuse_arguments.specs.FileLists.{path_at}
 use Rattle.reuse_arguments.specs.Places.{place_of_word}
 

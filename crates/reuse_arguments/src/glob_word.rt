@@ -4,8 +4,8 @@ ghost use Rattle.std.specs.Option.{option_map};
 ghost use Rattle.reuse_arguments.specs.Globs.{behind_any_folder, glob_texts, globs_of_word, read_globs};
 
 use crate::place_word::place_of_word;
-use reuse_dep5::Glob;
 use reuse_session::Place;
+use reuse_toml::Glob;
 use std::alloc::{AllocError, Global};
 
 /// The globs that the word stands for. It is written as a place is: parts `.` and a slash at the

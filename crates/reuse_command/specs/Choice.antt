@@ -3,8 +3,8 @@
 use Rattle.std.specs.Prelude.{ℕ, Bool, true, false, not, ◌&&◌, ◌||◌, List, ◌∷◌, Option, Some, None}
 use Rattle.std.specs.List.{list_any}
 use Rattle.std.specs.Str.{chars}
-use Rattle.reuse_dep5.specs.declared.glob.GlobPiece.{GlobPiece}
-use Rattle.reuse_dep5.specs.GlobMatch.{matches_glob}
+use Rattle.reuse_toml.specs.declared.glob.GlobPiece.{GlobPiece}
+use Rattle.reuse_toml.specs.GlobMatch.{matches_glob}
 use Rattle.reuse_command.specs.Covered.{is_covered}
 use Rattle.reuse_change.specs.Listing.{is_among, is_folder_of}
 use Rattle.reuse_change.specs.Path.{folders_above}

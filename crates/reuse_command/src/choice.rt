@@ -2,14 +2,14 @@
 ghost use Rattle.std.specs.Prelude.{◌≡◌};
 ghost use Rattle.std.specs.List.{list_any};
 ghost use Rattle.std.specs.Str.{chars};
-ghost use Rattle.reuse_dep5.specs.GlobMatch.{matches_glob};
+ghost use Rattle.reuse_toml.specs.GlobMatch.{matches_glob};
 ghost use Rattle.reuse_notice.specs.Sets.{set_of};
 ghost use Rattle.reuse_command.specs.Choice.{leaves_out, matches_folder, matches_one};
 ghost use Rattle.reuse_change.specs.Path.{folders_above};
 ghost use Rattle.reuse_change.specs.Listing.{is_among, is_folder_of};
 
 use reuse_change::{Items, PathText, is_among};
-use reuse_dep5::{Glob, glob_matches};
+use reuse_toml::{Glob, glob_matches};
 use std::marker::Model;
 
 /// Paths in byte order, without repeats.

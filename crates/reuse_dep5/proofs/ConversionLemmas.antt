@@ -11,11 +11,12 @@ use Rattle.reuse_text.specs.declared.TheConstants.{LONGEST_FILE}
 use Rattle.reuse_dep5.specs.declared.refusal.Dep5Refusal.{Dep5Refusal}
 use Rattle.reuse_dep5.specs.declared.refusal.Dep5Refusal.TheVariants as refusal
 use Rattle.reuse_dep5.specs.SourceText.{is_nil}
-use Rattle.reuse_dep5.specs.GlobText.{glob_text}
+use Rattle.reuse_toml.specs.GlobText.{glob_text}
 use Rattle.reuse_dep5.specs.Answers.{IsRefusalOf, IsAnswer}
 use Rattle.reuse_dep5.specs.Dep5.{HeaderValue, Dep5Value}
 use Rattle.reuse_dep5.specs.ReuseTable.{Annotation, annotations_of, toml_text}
-use Rattle.reuse_dep5.specs.ReadBack.{text_items, texts_data, with_text, members_with, annotation_members, annotation_items, with_annotations, with_header, table_of, read_toml}
+use Rattle.reuse_dep5.specs.ReadBack.{text_items, texts_data, with_text, members_with, annotation_members, annotation_items, with_annotations, with_header, table_of}
+use Rattle.reuse_toml.specs.TomlText.{read_toml}
 use Rattle.reuse_dep5.specs.ReuseToml.{IsReuseToml, IsTomlRefusal}
 use Rattle.reuse_dep5.specs.SameData.{is_string, is_integer, same_data, same_items, same_members, is_table}
 use Rattle.reuse_dep5.specs.Conversion.{text_unless, toml_of, converted_from}

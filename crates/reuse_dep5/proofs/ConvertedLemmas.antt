@@ -12,7 +12,8 @@ use Rattle.reuse_dep5.specs.Answers.{IsRefusalOf}
 use Rattle.reuse_dep5.specs.SourceText.{dep5_lines, paragraphs}
 use Rattle.reuse_dep5.specs.Dep5.{Dep5Value, paragraphs_of, dep5_of}
 use Rattle.reuse_dep5.specs.ReuseTable.{toml_text}
-use Rattle.reuse_dep5.specs.ReadBack.{table_of, read_toml}
+use Rattle.reuse_dep5.specs.ReadBack.{table_of}
+use Rattle.reuse_toml.specs.TomlText.{read_toml}
 use Rattle.reuse_dep5.specs.ReuseToml.{question_of, IsReuseToml, IsTomlRefusal}
 use Rattle.reuse_dep5.specs.SameData.{same_members, is_table}
 use Rattle.reuse_dep5.specs.Conversion.{text_unless, toml_of, converted_from, converted}

@@ -13,7 +13,7 @@ use Rattle.reuse_dep5.specs.SourceText.{NumberedLine}
 use Rattle.reuse_dep5.specs.PatternText.{is_special, piece_of, onto_pieces, pieces_after, word_pieces, patterns_of}
 use Rattle.reuse_dep5.specs.Dep5.{FilesValue, later_of, laters_of}
 use Rattle.reuse_dep5.specs.Scalars.{literals, names_characters, name_characters}
-use Rattle.reuse_dep5.proofs.ReadGlobLemmas.{both_parts, both_true}
+use Rattle.reuse_toml.proofs.ReadGlobLemmas.{both_parts, both_true}
 use Rattle.reuse_dep5.proofs.ReadingLemmas.{patterns_ok, files_ok, later_ok, laters_ok}
 
 -- one piece more

@@ -17,7 +17,7 @@ use Rattle.reuse_dep5.specs.PatternText.{line_words, words_of}
 use Rattle.reuse_dep5.specs.LastMatch.{EachPasses}
 use Rattle.reuse_dep5.specs.Steps.Parts.{with_front}
 use Rattle.reuse_dep5.proofs.SourceLemmas.{with_front-split, front_more}
-use Rattle.reuse_dep5.proofs.ReadGlobLemmas.{both_parts}
+use Rattle.reuse_toml.proofs.ReadGlobLemmas.{both_parts}
 
 -- cut at an ASCII byte, which is left out
 cut : (ys : List ℕ) (b : ℕ) (zs : List ℕ) → b < 128 → IsUtf8 (ys ++ b ∷ zs) → IsUtf8 ys × IsUtf8 zs

@@ -11,20 +11,21 @@ use Rattle.std.proofs.lemmas.Bool.{false≢true}
 use Rattle.toml.specs.Data.{Data, Members, get_member}
 use Rattle.reuse_dep5.specs.declared.pattern.PatternPiece.{PatternPiece}
 use Rattle.reuse_dep5.specs.declared.pattern.PatternPiece.TheVariants as pattern
-use Rattle.reuse_dep5.specs.declared.glob.GlobPiece.{GlobPiece}
-use Rattle.reuse_dep5.specs.declared.glob.GlobPiece.TheVariants as glob
+use Rattle.reuse_toml.specs.declared.glob.GlobPiece.{GlobPiece}
+use Rattle.reuse_toml.specs.declared.glob.GlobPiece.TheVariants as glob
 use Rattle.reuse_dep5.specs.PatternValue.{PatternValue}
 use Rattle.reuse_dep5.specs.Dep5.{FilesValue, Dep5Value}
 use Rattle.reuse_dep5.specs.PatternMatch.{Matches}
-use Rattle.reuse_dep5.specs.GlobMatch.{GlobMatches}
+use Rattle.reuse_toml.specs.GlobMatch.{GlobMatches}
 use Rattle.reuse_dep5.specs.Translation.{has_question, starts_with_run, translated}
-use Rattle.reuse_dep5.specs.GlobText.{glob_text, glob_literals, HasRunsApart}
+use Rattle.reuse_toml.specs.GlobText.{glob_text, glob_literals, HasRunsApart}
 use Rattle.reuse_dep5.specs.Scalars.{literals, names_characters, name_characters}
 use Rattle.reuse_dep5.specs.ReuseTable.{Annotation, annotation_of, annotations_of}
-use Rattle.reuse_dep5.specs.ReadBack.{text_items, texts_data, with_text, members_with, annotation_members, annotation_items, with_annotations, table_of, read_toml}
+use Rattle.reuse_dep5.specs.ReadBack.{text_items, texts_data, with_text, members_with, annotation_members, annotation_items, with_annotations, table_of}
+use Rattle.reuse_toml.specs.TomlText.{read_toml}
 use Rattle.reuse_dep5.specs.LastMatch.{SomePasses, IsLast, PatternsMatch, IsDep5Answer, texts_among, tables_among, texts_in, tables_in, PathMatches, PathsMatch, IsWrittenAnswer}
 use Rattle.reuse_dep5.specs.ReuseToml.{question_in, question_of}
-use Rattle.reuse_dep5.proofs.ReadGlobLemmas.{read_text, both_parts}
+use Rattle.reuse_toml.proofs.ReadGlobLemmas.{read_text, both_parts}
 use Rattle.reuse_dep5.proofs.TableLemmas.{StandFor, passes_same, last_same, first_none, or_else_none}
 use Rattle.reuse_dep5.proofs.TranslationLemmas.{translated_same}
 

@@ -5,7 +5,8 @@ use Rattle.reuse_dep5.specs.declared.refusal.Dep5Refusal.{Dep5Refusal}
 use Rattle.reuse_dep5.specs.declared.refusal.Dep5Refusal.TheVariants.{Question, NotToml, TooLong}
 use Rattle.reuse_dep5.specs.Dep5.{Dep5Value, dep5_of}
 use Rattle.reuse_dep5.specs.ReuseTable.{toml_text}
-use Rattle.reuse_dep5.specs.ReadBack.{table_of, read_toml}
+use Rattle.reuse_dep5.specs.ReadBack.{table_of}
+use Rattle.reuse_toml.specs.TomlText.{read_toml}
 use Rattle.reuse_dep5.specs.ReuseToml.{question_of}
 use Rattle.reuse_dep5.specs.SameData.{is_table}
 

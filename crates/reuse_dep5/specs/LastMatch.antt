@@ -2,11 +2,11 @@
 use Rattle.std.specs.Prelude.{◌≡◌, ◌⊎◌, ℕ, zero, suc, codes, List, [], ◌∷◌, Option, Some}
 use Rattle.std.specs.Str.{chars}
 use Rattle.toml.specs.Data.{Data, string, array, table, Items, no_items, item, Members, get_member}
-use Rattle.reuse_dep5.specs.declared.glob.GlobPiece.{GlobPiece}
+use Rattle.reuse_toml.specs.declared.glob.GlobPiece.{GlobPiece}
 use Rattle.reuse_dep5.specs.PatternValue.{PatternValue}
 use Rattle.reuse_dep5.specs.PatternMatch.{Matches}
-use Rattle.reuse_dep5.specs.GlobMatch.{GlobMatches}
-use Rattle.reuse_dep5.specs.GlobText.{read_glob}
+use Rattle.reuse_toml.specs.GlobMatch.{GlobMatches}
+use Rattle.reuse_toml.specs.GlobText.{read_glob}
 use Rattle.reuse_dep5.specs.Dep5.{FilesValue, Dep5Value}
 use Rattle.reuse_dep5.specs.ReuseTable.{Annotation}
 

@@ -3,6 +3,5 @@
 pub mod Parts
 pub mod Names
 pub mod Matching
-pub mod GlobMatching
 pub mod Parsing
 pub mod Members

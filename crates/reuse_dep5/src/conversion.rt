@@ -6,7 +6,7 @@ ghost use Rattle.reuse_dep5.specs.Conversion.{converted};
 
 use crate::dep5::read_dep5;
 use crate::refusal::Dep5Refusal;
-use crate::reuse_toml::to_toml;
+use crate::writing::to_toml;
 use reuse_text::LONGEST_FILE;
 use std::alloc::Global;
 

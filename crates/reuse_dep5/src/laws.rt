@@ -1,6 +1,6 @@
 //! Laws of what the contracts speak of: each holds of the definitions alone.
-ghost use Rattle.std.specs.Prelude.{◌≡◌, ◌≢◌, ◌↔◌, ◌⊎◌, ◌≤◌, List, ℕ, length, true, Some, Ok, Err};
-ghost use Rattle.std.specs.Str.{chars, all_scalars, IsUtf8};
+ghost use Rattle.std.specs.Prelude.{◌≡◌, ◌≢◌, ◌↔◌, ◌⊎◌, ◌≤◌, List, ℕ, length, true, Ok, Err};
+ghost use Rattle.std.specs.Str.{IsUtf8};
 ghost use Rattle.reuse_dep5.specs.SourceText.{NumberedLine, dep5_lines, paragraphs};
 ghost use Rattle.reuse_dep5.specs.Fields.{value_of};
 ghost use Rattle.reuse_dep5.specs.PatternText.{words_of};
@@ -8,16 +8,15 @@ ghost use Rattle.reuse_dep5.specs.LastMatch.{EachPasses};
 ghost use Rattle.toml.specs.Data.{Members};
 ghost use Rattle.reuse_dep5.specs.Dep5.{Dep5Value, paragraphs_of, dep5_of};
 ghost use Rattle.reuse_dep5.specs.Grammar.{IsGrammatical, IsFirstFault, IsDep5Text, IsTextFault};
-ghost use Rattle.reuse_dep5.specs.GlobMatch.{GlobMatches, matches_glob};
-ghost use Rattle.reuse_dep5.specs.GlobText.{glob_text, read_glob, glob_literals, HasRunsApart};
 ghost use Rattle.reuse_dep5.specs.ReadBack.{table_of};
 ghost use Rattle.reuse_dep5.specs.ReuseToml.{IsReuseToml, IsTomlRefusal};
 ghost use Rattle.reuse_dep5.specs.SameData.{same_members};
 ghost use Rattle.reuse_dep5.specs.Conversion.{converted};
 
-use crate::glob::GlobPiece;
 use crate::refusal::{Dep5Cause, Dep5Refusal};
 use reuse_text::LONGEST_FILE;
+
+pub use reuse_toml::{glob_text_is_read_back, globs_are_decided};
 
 /// Paragraphs are read as a dep5 exactly where they are grammatical, and refused exactly by their
 /// first fault.
@@ -47,18 +46,6 @@ pub fn values_are_text()
 {
     reuse_text::lines_are_one();
 }
-
-/// The text of a glob, read as a glob again, is that glob, where no `*` stands directly before
-/// another run.
-pub fn glob_text_is_read_back()
-    ensures { (glob : List GlobPiece) → HasRunsApart glob → all_scalars (glob_literals glob) ≡ true
-        → read_glob (chars (glob_text glob)) ≡ Some glob }
-{}
-
-/// The test of a glob is true of a path exactly where the glob matches the path.
-pub fn globs_are_decided()
-    ensures { (glob : List GlobPiece) (path : List ℕ) → (matches_glob glob path ≡ true) ↔ GlobMatches glob path }
-{}
 
 /// A table passes the test against the stated table of a dep5 exactly where it is that table.
 pub fn stated_tables_are_known()

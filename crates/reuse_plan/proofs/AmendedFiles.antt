@@ -8,11 +8,11 @@ use Rattle.std.proofs.lemmas.Slice.Eq.{bytes_eq-Decides}
 use Rattle.reuse_text.specs.Text.{mark_len_of, spliced}
 use Rattle.reuse_text.specs.declared.TheConstants.{LONGEST_FILE}
 use Rattle.reuse_notice.specs.declared.amendments.Amendments.{Amendments}
-use Rattle.reuse_dep5.specs.declared.toml_change.TomlSplice.{TomlSplice}
-use Rattle.reuse_dep5.specs.declared.toml_values.AmendTomlRefusal.{AmendTomlRefusal}
-use Rattle.reuse_dep5.specs.TomlAmending.{toml_amendment_of}
-use Rattle.reuse_dep5.specs.TomlLaws.{IsAmendedText, DiffersInStrings}
-use Rattle.reuse_dep5.proofs.TomlLawLemmas as toml
+use Rattle.reuse_toml.specs.declared.toml_change.TomlSplice.{TomlSplice}
+use Rattle.reuse_toml.specs.declared.toml_values.AmendTomlRefusal.{AmendTomlRefusal}
+use Rattle.reuse_toml.specs.TomlAmending.{toml_amendment_of}
+use Rattle.reuse_toml.specs.TomlLaws.{IsAmendedText, DiffersInStrings}
+use Rattle.reuse_toml.proofs.TomlLawLemmas as toml
 use Rattle.reuse_header.specs.declared.style.Style.{Style}
 use Rattle.reuse_header.specs.declared.style.Kind.{Kind}
 use Rattle.reuse_header.specs.declared.style.Kind.TheVariants as kind

@@ -2,7 +2,7 @@
 use Rattle.std.proofs.Common.{◌≡◌, ℕ, ◌+◌, ◌≤◌, Bool, true, false, cond, not, List, length, nat_lt, Option, Some, None, IsSome, Result, Ok, Err, refl, ap, ◌∙◌, bytes_eq}
 use Rattle.reuse_command.specs.Reading.{get, Files}
 use Rattle.std.proofs.lemmas.Bool.{false≢true}
-use Rattle.reuse_dep5.specs.TomlAmending.{toml_amendment_of}
+use Rattle.reuse_toml.specs.TomlAmending.{toml_amendment_of}
 use Rattle.reuse_header.specs.declared.amendment.AmendHeaderRefusal.{AmendHeaderRefusal}
 use Rattle.reuse_header.specs.declared.amendment.AmendHeaderRefusal.TheVariants.{BadExpression, NothingLeft, Header}
 use Rattle.reuse_header.specs.declared.annotation.HeaderRefusal.TheVariants.{NotText, NoSuchForm, HoldsCloser, TooLong, Unsettled, Memory}

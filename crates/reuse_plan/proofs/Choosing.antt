@@ -7,10 +7,10 @@ use Rattle.std.proofs.lemmas.Bool.{false≢true, false_from_ne_true, or_parts, a
 use Rattle.std.proofs.lemmas.List.Elements.{All-nil, All-cons}
 use Rattle.std.proofs.lemmas.Map.Views.{Contains-from_any, list_any-from_Contains}
 use Rattle.std.proofs.lemmas.Slice.Eq.{bytes_eq-Decides}
-use Rattle.reuse_dep5.specs.declared.glob.GlobPiece.{GlobPiece}
-use Rattle.reuse_dep5.specs.GlobMatch.{GlobMatches, matches_glob}
-use Rattle.reuse_dep5.proofs.GlobTests.{match_from_test, test_from_match}
-use Rattle.reuse_dep5.proofs.ReadGlobLemmas.{both_parts, both_true}
+use Rattle.reuse_toml.specs.declared.glob.GlobPiece.{GlobPiece}
+use Rattle.reuse_toml.specs.GlobMatch.{GlobMatches, matches_glob}
+use Rattle.reuse_toml.proofs.GlobTests.{match_from_test, test_from_match}
+use Rattle.reuse_toml.proofs.ReadGlobLemmas.{both_parts, both_true}
 use Rattle.reuse_notice.specs.Sets.{set_of}
 use Rattle.reuse_notice.proofs.ClassLemmas.{In-append, In-left, In-right}
 use Rattle.reuse_notice.proofs.SetLemmas.{In, In-from_contains, Contains-from_in, In-set_of, set_of-has, sorted-set_of}

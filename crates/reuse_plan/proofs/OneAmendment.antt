@@ -5,7 +5,7 @@ use Rattle.std.proofs.lemmas.Bool.{false≢true}
 use Rattle.std.proofs.lemmas.Option.{same_Some, none-some}
 use Rattle.reuse_notice.specs.declared.amendments.Amendments.{Amendments}
 use Rattle.reuse_notice.proofs.SetLemmas.{In, In-from_contains, Contains-from_in}
-use Rattle.reuse_dep5.specs.TomlAmending.{toml_amendment_of}
+use Rattle.reuse_toml.specs.TomlAmending.{toml_amendment_of}
 use Rattle.reuse_header.specs.declared.style.Kind.{Kind}
 use Rattle.reuse_header.specs.declared.style.Kind.TheVariants as kind
 use Rattle.reuse_header.specs.declared.style.Style.{Style}

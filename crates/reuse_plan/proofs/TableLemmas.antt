@@ -6,12 +6,12 @@ use Rattle.std.proofs.lemmas.Slice.Eq.{bytes_eq-Decides}
 use Rattle.reuse_text.specs.Text.{spliced}
 use Rattle.reuse_text.specs.declared.TheConstants.{LONGEST_FILE}
 use Rattle.reuse_notice.specs.declared.amendments.Amendments.{Amendments}
-use Rattle.reuse_dep5.specs.declared.toml_change.TomlSplice.{TomlSplice}
-use Rattle.reuse_dep5.specs.declared.toml_values.AmendTomlRefusal.{AmendTomlRefusal}
-use Rattle.reuse_dep5.specs.declared.toml_values.AmendTomlRefusal.TheVariants.{BadExpression, CannotBeAmended, TooLong, Memory}
-use Rattle.reuse_dep5.specs.TomlAmending.{toml_amendment_of}
-use Rattle.reuse_dep5.specs.TomlAnswers.{IsTomlAnswer}
-use Rattle.reuse_dep5.proofs.TomlLawLemmas as toml
+use Rattle.reuse_toml.specs.declared.toml_change.TomlSplice.{TomlSplice}
+use Rattle.reuse_toml.specs.declared.toml_values.AmendTomlRefusal.{AmendTomlRefusal}
+use Rattle.reuse_toml.specs.declared.toml_values.AmendTomlRefusal.TheVariants.{BadExpression, CannotBeAmended, TooLong, Memory}
+use Rattle.reuse_toml.specs.TomlAmending.{toml_amendment_of}
+use Rattle.reuse_toml.specs.TomlAnswers.{IsTomlAnswer}
+use Rattle.reuse_toml.proofs.TomlLawLemmas as toml
 use Rattle.reuse_header.specs.Annotation as header
 use Rattle.reuse_change.specs.Change.{sealed_splice}
 use Rattle.reuse_plan.specs.Amend.{table_refused_by, table_edit, table_amendment}

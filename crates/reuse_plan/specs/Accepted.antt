@@ -12,7 +12,7 @@ use Rattle.reuse_header.specs.declared.annotation.How.{How}
 use Rattle.reuse_header.specs.declared.style.Style.{Style}
 use Rattle.reuse_header.specs.declared.style.Kind.TheVariants as kind
 use Rattle.reuse_dep5.specs.Conversion.{converted}
-use Rattle.reuse_dep5.specs.TomlAmending.{toml_amendment_of}
+use Rattle.reuse_toml.specs.TomlAmending.{toml_amendment_of}
 use Rattle.reuse_change.specs.Files.{Files, Clashes}
 use Rattle.reuse_plan.specs.Amend.{amended_table}
 use Rattle.reuse_plan.specs.Annotate.{neighbour_of}

@@ -5,10 +5,10 @@ use Rattle.std.specs.Prelude.{ℕ, not, List, length, take, drop, nat_lt, Option
 use Rattle.std.specs.Str.{bytes_eq}
 use Rattle.std.specs.FinMap.{get}
 use Rattle.reuse_text.specs.Text.{spliced}
-use Rattle.reuse_dep5.specs.declared.toml_change.TomlSplice.{TomlSplice}
-use Rattle.reuse_dep5.specs.declared.toml_values.AmendTomlRefusal.{AmendTomlRefusal}
-use Rattle.reuse_dep5.specs.declared.toml_values.AmendTomlRefusal.TheVariants as toml_refusals
-use Rattle.reuse_dep5.specs.TomlAmending.{toml_amendment_of}
+use Rattle.reuse_toml.specs.declared.toml_change.TomlSplice.{TomlSplice}
+use Rattle.reuse_toml.specs.declared.toml_values.AmendTomlRefusal.{AmendTomlRefusal}
+use Rattle.reuse_toml.specs.declared.toml_values.AmendTomlRefusal.TheVariants as toml_refusals
+use Rattle.reuse_toml.specs.TomlAmending.{toml_amendment_of}
 use Rattle.reuse_notice.specs.declared.amendments.Amendments.{Amendments}
 use Rattle.reuse_header.specs.declared.style.Style.{Style}
 use Rattle.reuse_header.specs.declared.style.Kind.{Kind}

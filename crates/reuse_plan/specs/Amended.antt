@@ -6,8 +6,8 @@ use Rattle.std.specs.Option.{option_map}
 use Rattle.std.specs.FinMap.{get}
 use Rattle.reuse_text.specs.Text.{mark_len_of}
 use Rattle.reuse_notice.specs.declared.amendments.Amendments.{Amendments}
-use Rattle.reuse_dep5.specs.TomlAmending.{toml_amendment_of}
-use Rattle.reuse_dep5.specs.TomlLaws.{IsAmendedText, DiffersInStrings}
+use Rattle.reuse_toml.specs.TomlAmending.{toml_amendment_of}
+use Rattle.reuse_toml.specs.TomlLaws.{IsAmendedText, DiffersInStrings}
 use Rattle.reuse_header.specs.declared.style.Style.{Style}
 use Rattle.reuse_header.specs.declared.style.Kind.TheVariants as kind
 use Rattle.reuse_header.specs.Amendment.{amended_file, amendment_of, neighbour_amendment_of}

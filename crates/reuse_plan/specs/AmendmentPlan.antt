@@ -1,7 +1,7 @@
 -- What an amendment that is asked for does, by the styles of its tree, for private clauses.
 use Rattle.std.specs.Prelude.{ℕ, ◌+◌, ◌≤◌, List, length, Option, Some, None, Result, Ok, Err}
-use Rattle.reuse_dep5.specs.declared.toml_change.TomlSplice.{TomlSplice}
-use Rattle.reuse_dep5.specs.declared.toml_values.AmendTomlRefusal.{AmendTomlRefusal}
+use Rattle.reuse_toml.specs.declared.toml_change.TomlSplice.{TomlSplice}
+use Rattle.reuse_toml.specs.declared.toml_values.AmendTomlRefusal.{AmendTomlRefusal}
 use Rattle.reuse_header.specs.Annotation as header
 use Rattle.reuse_header.specs.Names.{lookup}
 use Rattle.reuse_header.specs.declared.amendment.AmendHeaderRefusal.{AmendHeaderRefusal}

@@ -4,8 +4,8 @@ use Rattle.std.specs.Prelude.{◌≡◌, ◌⊎◌, ℕ, true, false, List, Opti
 use Rattle.std.specs.List.{All, Contains}
 use Rattle.std.specs.Str.{chars}
 use Rattle.std.specs.FinMap.{keys}
-use Rattle.reuse_dep5.specs.declared.glob.GlobPiece.{GlobPiece}
-use Rattle.reuse_dep5.specs.GlobMatch.{GlobMatches}
+use Rattle.reuse_toml.specs.declared.glob.GlobPiece.{GlobPiece}
+use Rattle.reuse_toml.specs.GlobMatch.{GlobMatches}
 use Rattle.reuse_change.specs.Path.{lies_under}
 use Rattle.reuse_change.specs.Files.{Files}
 use Rattle.reuse_command.specs.Command.{has_root, paths_among}

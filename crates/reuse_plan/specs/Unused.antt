@@ -2,7 +2,7 @@
 -- paths that are no covered file beneath a place.
 use Rattle.std.specs.Prelude.{◌≡◌, ℕ, Bool, true, false, not, ◌&&◌, List, [], filter, length, map, Option, Some, None, Result, Ok, Err}
 use Rattle.std.specs.List.{list_any}
-use Rattle.reuse_dep5.specs.declared.glob.GlobPiece.{GlobPiece}
+use Rattle.reuse_toml.specs.declared.glob.GlobPiece.{GlobPiece}
 use Rattle.reuse_notice.specs.Sets.{set_of}
 use Rattle.reuse_change.specs.Files.{Files}
 use Rattle.reuse_change.specs.Listing.{is_among, listed_paths}

@@ -18,10 +18,10 @@ use crate::place::{absent_refusal, neighbour_path, short_bytes};
 use crate::target_choice::neighbour_of;
 use reuse_change::{Change, PathText, is_among};
 use reuse_command::reply::Refusal;
-use reuse_dep5::amend_toml;
 use reuse_header::{Kind, Style, amend_file, amend_neighbour, amendments_fit};
 use reuse_store::{Reading, Store};
 use reuse_text::{LONGEST_FILE, is_text};
+use reuse_toml::amend_toml;
 use std::alloc::Global;
 
 /// The change that amend makes at a path, if there is one. `paths` show it and its neighbour.

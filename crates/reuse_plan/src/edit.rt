@@ -6,8 +6,8 @@ ghost use Rattle.reuse_change.specs.Change.{sealed_splice};
 ghost use Rattle.reuse_header.specs.Splices.{IsDue, answer_of};
 ghost use Rattle.reuse_header.specs.Amendment.{amendment_answer, IsAmendmentDue};
 ghost use Rattle.reuse_notice.specs.declared.amendments.Amendments.{Amendments};
-ghost use Rattle.reuse_dep5.specs.TomlAmending.{toml_amendment_of};
-ghost use Rattle.reuse_dep5.specs.TomlAnswers.{IsTomlAnswer};
+ghost use Rattle.reuse_toml.specs.TomlAmending.{toml_amendment_of};
+ghost use Rattle.reuse_toml.specs.TomlAnswers.{IsTomlAnswer};
 ghost use Rattle.reuse_plan.specs.Amend.{amendment_edit, amend_refused_by, table_amendment, table_refused_by};
 ghost use Rattle.reuse_plan.specs.AmendmentPlan as amending;
 ghost use Rattle.reuse_plan.specs.Annotate.{edit_by};
@@ -21,9 +21,9 @@ use reuse_command::amend_fault::AmendFault;
 use reuse_command::failure::Failure;
 use reuse_command::header_fault::HeaderFault;
 use reuse_command::reply::Refusal;
-use reuse_dep5::{AmendTomlRefusal, TomlSplice};
 use reuse_header::{AmendHeaderRefusal, HeaderRefusal, Splice};
 use reuse_text::Bytes;
+use reuse_toml::{AmendTomlRefusal, TomlSplice};
 use std::alloc::{AllocError, Global};
 
 /// The change of a file that is there, of these bytes, by what an annotation makes of it. A refusal

@@ -10,7 +10,7 @@ use crate::select::is_listed;
 use reuse_change::{PathText, is_among};
 use reuse_command::choice::{leaves_out, matches_one};
 use reuse_command::command::Scope;
-use reuse_dep5::Glob;
+use reuse_toml::Glob;
 use std::alloc::{AllocError, Global};
 
 /// What of a choice came to nothing.

@@ -12,10 +12,10 @@ use crate::place_word::place_of_word;
 use crate::words::found::{flag, number, number_of, subcommand, value, values};
 use crate::words::unread_words::{or_unread, unread};
 use clap::ArgMatches;
-use reuse_dep5::Glob;
 use reuse_header::Style;
 use reuse_session::{EntryNumbers, Globs, Ids, Place, Places};
 use reuse_text::Bytes;
+use reuse_toml::Glob;
 use std::alloc::{AllocError, Global};
 
 /// The folder of the tree.

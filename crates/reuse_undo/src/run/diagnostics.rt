@@ -5,7 +5,6 @@ use crate::run::above::journal_above;
 use crate::run::damage::{Damage, Headless, damage_of, is_gone, steps_without_head};
 use reuse_arguments::line::Line;
 use reuse_change::PathText;
-use reuse_dep5::{Glob, glob_matches};
 use reuse_folder::{DiskStore, Failure, Kept};
 use reuse_print::fault::Fault;
 use reuse_session::{
@@ -14,6 +13,7 @@ use reuse_session::{
 };
 use reuse_store::{Reading, Store};
 use reuse_text::{Bytes, LONGEST_FILE};
+use reuse_toml::{Glob, glob_matches};
 use std::alloc::{AllocError, Global};
 use std::fs::{self, File};
 use std::io::{self, ErrorKind};

@@ -1,7 +1,7 @@
 use Rattle.std.proofs.Common.{◌≡◌, ◌∙◌, ◌<◌, ℕ, List, false, get_or, length, take, sym, ap, subst, arith, chars}
 use Rattle.std.specs.List.{slice_range}
 use borrow.Author.Count.{below_more}
-use Rattle.reuse_dep5.specs.GlobMatch.{matches_glob}
+use Rattle.reuse_toml.specs.GlobMatch.{matches_glob}
 use Rattle.reuse_change.proofs.NeedLemmas.{slash_found, no_slash_found}
 use Rattle.reuse_command.proofs.choice.matches_above.Goals as goal
 use Rattle.reuse_command.proofs.choice.matches_above.Goals.{else-byte-eq47-via-then-byte-eq47+else-matches_text, else-byte-eq47-via-else-byte-eq47}

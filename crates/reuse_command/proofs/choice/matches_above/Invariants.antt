@@ -1,5 +1,5 @@
 use Rattle.std.proofs.Common.{◌≡◌, ℕ, ◌<◌, false, get_or, take, chars}
-use Rattle.reuse_dep5.specs.GlobMatch.{matches_glob}
+use Rattle.reuse_toml.specs.GlobMatch.{matches_glob}
 use Rattle.reuse_command.proofs.choice.matches_above.Given as goal
 
 -- the glob matches none of the folders so far

@@ -1,5 +1,5 @@
 use Rattle.std.specs.Str.{chars}
-use Rattle.reuse_dep5.proofs.GlobTests.{glob_test_is}
+use Rattle.reuse_toml.proofs.GlobTests.{glob_test_is}
 use Rattle.reuse_command.proofs.choice.matches_text.Goals as goal
 
 pub returns : goal.returns

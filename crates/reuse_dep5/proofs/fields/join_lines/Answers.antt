@@ -1,7 +1,8 @@
 use Rattle.std.proofs.Common.{[], ◌∷◌, ◌++◌, flat_map, sym, ap, ◌∙◌}
 use Rattle.std.proofs.lemmas.List.{append-nil, drop_all}
 use Rattle.reuse_dep5.specs.SourceText.{NumberedLine}
-use Rattle.reuse_dep5.proofs.WriteLemmas.{then, left_more}
+use Rattle.reuse_toml.proofs.Appending.{then}
+use Rattle.reuse_dep5.proofs.WriteLemmas.{left_more}
 use Rattle.reuse_dep5.proofs.fields.join_lines.Goals as goal
 
 pub loop-line-preserved : goal.loop-line-preserved

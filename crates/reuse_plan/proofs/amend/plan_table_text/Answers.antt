@@ -1,6 +1,6 @@
 use Rattle.std.proofs.Common.{length, Some, sym, ap, subst, ◌∙◌, arith}
-use Rattle.reuse_dep5.specs.TomlAmending.{toml_amendment_of}
-use Rattle.reuse_dep5.specs.TomlAnswers.{IsTomlAnswer}
+use Rattle.reuse_toml.specs.TomlAmending.{toml_amendment_of}
+use Rattle.reuse_toml.specs.TomlAnswers.{IsTomlAnswer}
 use Rattle.reuse_plan.specs.Amend.{table_amendment}
 use Rattle.reuse_plan.specs.Plan.{AnswersEdit}
 use Rattle.reuse_plan.proofs.AmendmentEdits.{table_is}

@@ -1,6 +1,6 @@
 use Rattle.std.proofs.Common.{Some, Ok, sym, subst, ap, ◌∙◌}
-use Rattle.reuse_dep5.specs.TomlAmending.{toml_amendment_of}
-use Rattle.reuse_dep5.specs.TomlAnswers.{IsTomlAnswer}
+use Rattle.reuse_toml.specs.TomlAmending.{toml_amendment_of}
+use Rattle.reuse_toml.specs.TomlAnswers.{IsTomlAnswer}
 use Rattle.reuse_plan.specs.Amend.{table_amendment}
 use Rattle.reuse_plan.specs.Plan.{IsRefusalOf, MakesEdit}
 use Rattle.reuse_plan.proofs.TableLemmas.{table_made, table_refused}

@@ -1,0 +1,10 @@
+pub mod RunLemmas
+pub mod GlobLemmas
+pub mod ReadGlobLemmas
+pub mod GlobTests
+pub mod Appending
+pub mod TomlLemmas
+pub mod JudgeLemmas
+pub mod ChangeLemmas
+pub mod KeptLemmas
+pub mod TomlLawLemmas

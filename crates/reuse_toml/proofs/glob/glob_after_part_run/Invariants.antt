@@ -1,0 +1,12 @@
+use Rattle.std.proofs.Common.{length}
+use denote.Text.{Utf8}
+use denote.Shadow.{shadow}
+use Rattle.std.specs.Str.{chars}
+use Rattle.reuse_toml.proofs.GlobLemmas.{IsPartSearch}
+use Rattle.reuse_toml.proofs.glob.glob_after_part_run.Given as goal
+
+abbrev pub invariant-loop-fit : goal.invariant-loop-fit
+invariant-loop-fit l = shadow (Utf8 l.rest) × IsPartSearch l.fn.pieces (chars l.fn.text) (chars l.rest)
+
+abbrev pub decreases-loop-fit : goal.decreases-loop-fit
+decreases-loop-fit l = length (chars l.rest)

@@ -1,0 +1,10 @@
+pub mod GlobMatch
+pub mod GlobText
+pub mod Steps
+pub mod TomlText
+pub mod TomlPieces
+pub mod TomlPlaces
+pub mod TomlValues
+pub mod TomlAnswers
+pub mod TomlAmending
+pub mod TomlLaws
