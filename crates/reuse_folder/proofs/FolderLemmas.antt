@@ -9,11 +9,11 @@ use Rattle.reuse_system.specs.FileStates.{FileState, place_in}
 use Rattle.reuse_system.specs.NameChanges.{NameChange, OnlyChanges}
 use Rattle.reuse_system.specs.Names.{IsNameOf}
 use Rattle.reuse_system.specs.SystemLaws.{IsAlikeBut, IsAlikeUnless, IsRemoved}
-use Rattle.reuse_folder.specs.Written.{IsWritten}
-use Rattle.reuse_folder.specs.declared.new_file.NewFile.{NewFile}
+use Rattle.reuse_disk.specs.Written.{IsWritten}
+use Rattle.reuse_disk.specs.declared.new_file.NewFile.{NewFile}
 use Rattle.reuse_system.specs.declared.place.Identity.{Identity}
-use Rattle.reuse_folder.proofs.EditLemmas.{only_none}
-use Rattle.reuse_folder.proofs.WrittenLemmas.{then_alike}
+use Rattle.reuse_disk.proofs.EditLemmas.{only_none}
+use Rattle.reuse_disk.proofs.WrittenLemmas.{then_alike}
 
 -- written, after something differed at places for new files
 pub written_after_clearing : (new_files folder : Identity) (name bytes : List ℕ) (is : Bool) (a b c : FileState) (is_done : Bool) → IsAlikeUnless (IsNewIn new_files) a b

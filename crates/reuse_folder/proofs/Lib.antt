@@ -1,17 +1,9 @@
-pub mod AlongLemmas
 pub mod FolderLemmas
 pub mod HonestFiles
-pub mod LastNames
 pub mod LeftBySyncs
-pub mod Listed
-pub mod MadeFolders
-pub mod NextNames
 pub mod NotedWrites
 pub mod PrunedFolders
 pub mod PutKept
 pub mod PutLemmas
 pub mod ReadLemmas
-pub mod TrailLemmas
-pub mod WrittenLemmas
-pub mod EditLemmas
 pub mod SeenLemmas

@@ -6,10 +6,10 @@ use Rattle.reuse_system.specs.Folders.{Folders, file_in, folder_above, folder_at
 use Rattle.reuse_folder.specs.FolderWrites.{IsPutIn, IsStoredAt}
 use Rattle.reuse_system.specs.Names.{IsSplit}
 use Rattle.reuse_system.specs.SystemLaws.{IsAlikeUnless}
-use Rattle.reuse_folder.specs.Written.{IsWritten}
+use Rattle.reuse_disk.specs.Written.{IsWritten}
 use Rattle.reuse_system.specs.declared.fault.FolderFault.{FolderFault}
 use Rattle.reuse_system.specs.declared.place.Identity.{Identity}
-use Rattle.reuse_folder.proofs.AlongLemmas.{above_of_split, file_of_name}
+use Rattle.reuse_disk.proofs.AlongLemmas.{above_of_split, file_of_name}
 use Rattle.reuse_folder.proofs.FolderLemmas.{written_after_clearing}
 use Rattle.reuse_folder.proofs.ReadLemmas.{named_of}
 

@@ -8,12 +8,12 @@ use Rattle.reuse_folder.specs.declared.rolled_back.Foreign.TheVariants as foreig
 use Rattle.reuse_folder.specs.FolderReads.{IsPlaceAt, IsReadAt, IsReadIn, IsReadWith, LiesIn, StandsIn}
 use Rattle.reuse_system.specs.FileStates.{StateFile, FileState, Place as FilePlace, place_in}
 use Rattle.reuse_system.specs.Folders.{Folders, folder_above, folder_at, file_at, file_in}
-use Rattle.reuse_system.specs.FolderPlaces.{IsNoFile, place_below, place_of_found}
+use Rattle.reuse_system.specs.FolderPlaces.{IsNoFile, place_of_found}
 use Rattle.reuse_system.specs.Names.{IsNameOf, IsSplit}
 use Rattle.reuse_system.specs.Readings.{IsReadingOf, IsWholeOf}
 use Rattle.reuse_folder.specs.FolderWrites.{IsGone, IsRemovedIn}
 use Rattle.reuse_system.specs.SystemLaws.{IsAlikeBut, IsRemoved, IsSeen}
-use Rattle.reuse_folder.specs.Trails.{IsEntered}
+use Rattle.reuse_disk.specs.Trails.{IsEntered}
 use Rattle.reuse_system.specs.declared.fault.FolderFault.{FolderFault}
 use Rattle.reuse_system.specs.declared.place.FileStatus.{FileStatus}
 use Rattle.reuse_system.specs.declared.place.Identity.{Identity}
@@ -21,8 +21,8 @@ use Rattle.reuse_system.specs.declared.place.Found.{Found}
 use Rattle.reuse_system.specs.declared.place.Found.TheVariants as found
 use Rattle.reuse_system.specs.declared.place.Place.{Place}
 use Rattle.reuse_system.specs.declared.place.Place.TheVariants as place
-use Rattle.reuse_folder.proofs.AlongLemmas.{above_of_split, barred_above, file_of_name}
-use Rattle.reuse_folder.proofs.LastNames.{same_name}
+use Rattle.reuse_disk.proofs.AlongLemmas.{above_of_split, barred_above, file_of_name}
+use Rattle.reuse_disk.proofs.LastNames.{same_name}
 
 whole_of : (said limit : ℕ) (had bytes : List ℕ) (reading : Reading) → length had ≡ said → IsWholeOf said had bytes → reading ≡ reading_of (Some bytes) limit → reading ≡ reading_of (Some had) limit
 whole_of said limit had bytes reading long (inl same) is = is ∙ ap (λ list. reading_of (Some list) limit) same
@@ -50,13 +50,6 @@ pub read_opened : (folder : Identity) (name : List ℕ) (opened : FilePlace) (sa
     → ((one : StateFile) × (new opened ≡ Some one) × IsReadingOf said limit one.bytes reading) → (one : StateFile) × (old (place_in folder name) ≡ Some one) × IsReadingOf said limit one.bytes reading
 read_opened folder name opened said limit old new reading at kept was =
     (was.0, sym (ap (λ held. held (place_in folder name)) kept) ∙ ap new (sym at) ∙ was.1, was.2)
-
--- what lies below something isn't told to be a regular file
-pub below_no_file : (found : Found) → IsNoFile (place_below found)
-below_no_file found.Nothing = tt
-below_no_file (found.File status) = tt
-below_no_file (found.Folder identity) = tt
-below_no_file found.Other = tt
 
 -- ---- where a path leads
 

@@ -15,7 +15,7 @@ use Rattle.reuse_folder.specs.declared.folder.batch.NewContent.{NewContent}
 use Rattle.reuse_folder.specs.declared.folder.seen.Expected.{Expected}
 use Rattle.reuse_folder.specs.declared.folder.seen.Expected.TheVariants as expected
 use Rattle.reuse_folder.specs.declared.folder.seen.ReadPath.{ReadPath}
-use Rattle.reuse_folder.proofs.EditLemmas.{guarded_none, guarded_only, guarded_then, guarded_weaker, only_weaker}
+use Rattle.reuse_disk.proofs.EditLemmas.{guarded_none, guarded_only, guarded_then, guarded_weaker, only_weaker}
 use Rattle.reuse_folder.proofs.FolderLemmas.{some_name}
 
 -- ---- reads

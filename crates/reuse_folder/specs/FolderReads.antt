@@ -1,6 +1,6 @@
 -- What a folder tells of a path.
-use Rattle.std.specs.Prelude.{◌≡◌, ◌⊎◌, ◌-◌, ℕ, List, length, Option, None, Some, IsTrue, slice_get}
-use Rattle.std.specs.Option.{option_map, option_or}
+use Rattle.std.specs.Prelude.{◌≡◌, ◌⊎◌, ℕ, List, length, Option, None, Some, IsTrue}
+use Rattle.std.specs.Option.{option_map}
 use Rattle.reuse_store.specs.Store.{reading_of}
 use Rattle.reuse_store.specs.declared.store.Reading.{Reading}
 use Rattle.reuse_store.specs.declared.store.Reading.TheVariants as reading
@@ -13,13 +13,6 @@ use Rattle.reuse_system.specs.declared.place.Place.{Place}
 use Rattle.reuse_system.specs.declared.place.Place.TheVariants as place
 use Rattle.reuse_folder.specs.declared.rolled_back.Foreign.{Foreign}
 use Rattle.reuse_folder.specs.declared.rolled_back.Foreign.TheVariants as foreign
-use Rattle.reuse_folder.specs.declared.trail.Trail.{Trail}
-
--- the folder that was entered last: that of the last step, or the root
-abbrev pub current_of : Trail → Option Identity
-current_of trail =
-    option_or (option_map (λ step. step.folder.identity) (slice_get trail.steps.items (length trail.steps.items - 1)))
-    (option_map (λ folder. folder.identity) trail.root)
 
 -- this file stands in this folder, under the path's own name
 pub record StandsIn (folder : Option Identity) (path : List ℕ) (held : FileState) (one : StateFile) : Type 0 where

@@ -8,8 +8,8 @@ use Rattle.reuse_system.specs.Folders.{Folders, folder_above, file_at}
 use Rattle.reuse_system.specs.NameChanges.{NameChange, OnlyChanges}
 use Rattle.reuse_system.specs.Names.{IsNameOf}
 use Rattle.reuse_system.specs.SystemLaws.{IsAlike, IsAlikeBut, IsAlikeUnless}
-use Rattle.reuse_folder.specs.Written.{IsWritten}
-use Rattle.reuse_folder.specs.declared.new_file.NewFile.{NewFile}
+use Rattle.reuse_disk.specs.Written.{IsWritten}
+use Rattle.reuse_disk.specs.declared.new_file.NewFile.{NewFile}
 use Rattle.reuse_system.specs.declared.place.Identity.{Identity}
 
 -- the bytes were put at the path, as a whole or not at all: in some folder, under the path's own name there, and by way

@@ -6,5 +6,3 @@ pub mod OwnerChanges
 pub mod RolledBack
 pub mod RootFolders
 pub mod Seen
-pub mod Trails
-pub mod Written

@@ -1,8 +1,8 @@
 -- The open folders of a folder of the file system.
 use Rattle.reuse_system.specs.SystemCalls.{folders_after, IsHonest}
-use Rattle.reuse_folder.specs.Trails.{AreOpenedIf}
+use Rattle.reuse_disk.specs.Trails.{AreOpenedIf}
 use Rattle.reuse_system.specs.declared.system.record.SystemRecord.{SystemRecord}
-use Rattle.reuse_folder.specs.declared.trail.Trail.{Trail}
+use Rattle.reuse_disk.specs.declared.trail.Trail.{Trail}
 
 -- after these calls each open folder is the one that its path leads to, if the system is honest
 abbrev pub AreOpenedNow : SystemRecord → Trail → Type 0

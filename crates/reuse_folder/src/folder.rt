@@ -15,13 +15,10 @@ mod writing;
 
 use crate::journal_owner::{JournalOwners, journal_owners};
 use crate::keeping::Keeping;
-use crate::listing::Listing;
-use crate::new_file::NewFile;
 use crate::remembered::Remembered;
-use crate::syncs::Unsynced;
-use crate::trail::Trail;
 pub use batch::Stop;
 use reuse_change::{Change, PathText, Pruning};
+use reuse_disk::{Listing, NewFile, Trail, Unsynced};
 use reuse_system::fault::FolderFault;
 use reuse_system::kept_out::is_kept_out;
 use reuse_system::place::{FileStatus, Found, Place, folder_and_name};
@@ -58,7 +55,8 @@ pub struct RootFolder<R: Files<File = File> + AllocGlobal + Clone + Drop> {
 }
 
 impl<R: Files<File = File> + AllocGlobal + Clone + Drop> RootFolder<R> {
-    ghost use Rattle.reuse_folder.specs.FolderReads.{IsPlaceAt, LiesIn, current_of};
+    ghost use Rattle.reuse_folder.specs.FolderReads.{IsPlaceAt, LiesIn};
+    ghost use Rattle.reuse_disk.specs.Trails.{current_of};
     ghost use Rattle.reuse_system.specs.FolderPlaces.{IsNoFile};
     /// The folder at this path, in which what is written is made lasting or not.
     pub fn new(rt: R, root: String, syncs: Syncs, keeping: Keeping) -> RootFolder<R>

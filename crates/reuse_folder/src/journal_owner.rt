@@ -2,9 +2,9 @@
 //! of a pending step, and `undo` those of a step. So a journal of another user is not opened.
 ghost use Rattle.std.specs.Prelude.{◌≡◌};
 ghost use Rattle.reuse_folder.specs.JournalOwners.{is_of_other, is_journal_of_other};
-ghost use Rattle.reuse_folder.specs.Trails.{AreOpenedIf};
+ghost use Rattle.reuse_disk.specs.Trails.{AreOpenedIf};
 
-use crate::trail::Trail;
+use reuse_disk::Trail;
 use reuse_system::fault::FolderFault;
 use reuse_system::kept_out::{ABOVE_JOURNAL, HEAD, JOURNAL};
 use reuse_system::place::Found;

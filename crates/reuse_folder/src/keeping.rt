@@ -9,7 +9,7 @@ ghost use Rattle.reuse_system.specs.Names.{between_slashes};
 ghost use Rattle.reuse_system.specs.declared.fault.FolderFault.TheVariants.{Device};
 ghost use Rattle.reuse_system.specs.declared.fault.Obstacle.TheVariants.{Owned};
 
-use crate::new_file::Wanted;
+use reuse_disk::Wanted;
 use reuse_system::fault::{FolderFault, Obstacle};
 use reuse_system::handle::OpenFolder;
 use reuse_system::kept_out::is_in_journal;

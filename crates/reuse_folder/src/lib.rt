@@ -12,7 +12,7 @@ ghost use Rattle.reuse_store.specs.Store.{reading_of};
 ghost use Rattle.reuse_folder.specs.FolderReads.{IsReadWith};
 ghost use Rattle.reuse_folder.specs.FolderWrites.{IsGone, IsPutIn, IsRemovedIn, IsStoredAt};
 ghost use Rattle.reuse_folder.specs.RolledBack.{foreign_of};
-ghost use Rattle.reuse_folder.specs.Written.{is_kept};
+ghost use Rattle.reuse_disk.specs.Written.{is_kept};
 ghost use Rattle.std.specs.Result.{result_map_both};
 ghost use Rattle.reuse_store.specs.Calls.Call.{ListCall};
 ghost use Rattle.reuse_store.specs.Asked.{FailsAsRead, OnlyReads, IsLater, IsPut, IsRemoval, IsWrite, AreWrites};
@@ -22,19 +22,12 @@ ghost use Rattle.reuse_change.specs.Files.{AreFiles};
 ghost use Rattle.reuse_system.specs.FolderFault.{fault_of_store};
 ghost use Rattle.reuse_folder.specs.Honesty.{files_of, IsHonest};
 
-mod empty_folders;
 mod failure;
 mod folder;
 mod journal_owner;
 mod keeping;
-mod listing;
-mod made_folder;
-mod new_file;
-mod origin;
 mod remembered;
 mod rolled_back;
-mod syncs;
-mod trail;
 
 pub use failure::Failure;
 use failure::LastFailure;

@@ -7,10 +7,10 @@ ghost use Rattle.reuse_system.specs.NameChanges.{OnlyChanges};
 ghost use Rattle.reuse_folder.specs.Seen.{AreKnown, IsKnownAside, IsNewFile, IsSeenBefore, LoseNoEdits};
 ghost use Rattle.reuse_folder.specs.declared.folder.seen.ReadPath.{ReadPath};
 
-use crate::new_file::{Content, Target, name_aside};
 use super::RootFolder;
 use super::seen::{Expected, ReadPath, expected_at};
 use reuse_change::{Parts, PathText};
+use reuse_disk::{Content, Target, name_aside};
 use reuse_store::FileWrite;
 use reuse_system::fault::FolderFault;
 use reuse_system::place::{FileStatus, folder_and_name};

@@ -23,7 +23,8 @@ use std::rt::Files;
 const MOST_SEEN: usize = 1_024;
 
 impl<R: Files<File = File> + AllocGlobal + Clone + Drop> RootFolder<R> {
-    ghost use Rattle.reuse_folder.specs.FolderReads.{IsPlaceAt, IsReadAt, IsReadIn, IsReadWith, LiesIn, current_of};
+    ghost use Rattle.reuse_folder.specs.FolderReads.{IsPlaceAt, IsReadAt, IsReadIn, IsReadWith, LiesIn};
+    ghost use Rattle.reuse_disk.specs.Trails.{current_of};
 
     /// The bytes of the regular file at the path, where they are at most `limit`. One that is longer
     /// isn't opened, so it needn't be readable.

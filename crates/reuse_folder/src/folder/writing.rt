@@ -3,12 +3,10 @@
 ghost use Rattle.std.specs.Prelude.{◌≡◌, is_ok, IfOk, IsErr, IsTrue};
 ghost use Rattle.reuse_system.specs.KeptOut.{is_kept_out};
 
-use crate::empty_folders::remove_folders;
-use crate::listing::list_below;
-use crate::new_file::{Content, NewFile, Target, remove_seen};
 use super::RootFolder;
 use super::seen::{Expected, expected_at};
 use reuse_change::{Parts, PathText};
+use reuse_disk::{Content, NewFile, Target, list_below, remove_folders, remove_seen};
 use reuse_system::fault::{FolderFault, Obstacle};
 use reuse_system::kept_out::JOURNAL;
 use reuse_system::new_name::new_names;
@@ -20,7 +18,7 @@ use std::rt::Files;
 
 impl<R: Files<File = File> + AllocGlobal + Clone + Drop> RootFolder<R> {
     ghost use Rattle.reuse_folder.specs.FolderWrites.{IsCleared, IsGone, IsPutAt, IsPutIn, IsRemovedAt, IsRemovedIn, IsStoredAt};
-    ghost use Rattle.reuse_folder.specs.Written.{is_kept};
+    ghost use Rattle.reuse_disk.specs.Written.{is_kept};
     ghost use Rattle.reuse_folder.specs.Seen.{IsSeenAs, IsSeenBefore, LosesNoEdit, LosesNoEditAfter};
     ghost use Rattle.reuse_change.specs.Parts.{joined};
 

@@ -1,8 +1,8 @@
 use Rattle.std.proofs.Common.{rules, ◌≡◌, ◌∙◌, refl, subst, ap, Some}
-use Rattle.reuse_folder.specs.FolderReads.{IsPlaceAt, current_of}
+use Rattle.reuse_folder.specs.FolderReads.{IsPlaceAt}
+use Rattle.reuse_disk.specs.Trails.{current_of, IsEntered}
 use Rattle.reuse_system.specs.Names.{IsSplit}
 use Rattle.reuse_system.specs.SystemCalls.{folders_after, held_after}
-use Rattle.reuse_folder.specs.Trails.{IsEntered}
 use Rattle.reuse_folder.proofs.ReadLemmas.{freely, told_above, told_look, nothing_told, entered_none, no_file_some, no_lies}
 use Rattle.reuse_system.specs.declared.place.Found.TheVariants as found
 use Rattle.reuse_system.specs.declared.place.Place.TheVariants as place

@@ -4,7 +4,7 @@ use Rattle.reuse_system.specs.NameChanges.{change_at}
 use Rattle.reuse_system.specs.Names.{IsNameOf}
 use Rattle.reuse_system.specs.SystemCalls.{changes_of, looked_of}
 use Rattle.reuse_folder.specs.Seen.{IsNewFile}
-use Rattle.reuse_folder.proofs.EditLemmas.{only_one}
+use Rattle.reuse_disk.proofs.EditLemmas.{only_one}
 use Rattle.reuse_folder.proofs.SeenLemmas.{lose_again, lose_named, lose_none, lose_only, lose_then}
 use Rattle.reuse_folder.proofs.folder.RootFolder.name_one.Goals as goal
 

@@ -1,6 +1,6 @@
 use Rattle.reuse_system.specs.Asides.{IsNewIn}
 use Rattle.reuse_system.specs.SystemCalls.{changes_of}
-use Rattle.reuse_folder.proofs.EditLemmas.{only_none, only_then}
+use Rattle.reuse_disk.proofs.EditLemmas.{only_none, only_then}
 use Rattle.reuse_folder.proofs.FolderLemmas.{nothing_cleared, cleared_at_error}
 use Rattle.reuse_folder.proofs.folder.RootFolder.open_new_file.Goals as goal
 

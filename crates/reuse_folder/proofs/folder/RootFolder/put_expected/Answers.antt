@@ -2,7 +2,7 @@ use Rattle.std.proofs.Common.{rules, ◌≡◌, false, is_ok, subst}
 use Rattle.reuse_change.specs.Parts.{joined}
 use Rattle.reuse_system.specs.SystemCalls.{folders_after, held_after}
 use Rattle.reuse_folder.specs.FolderWrites.{IsPutIn}
-use Rattle.reuse_folder.specs.Written.{is_kept}
+use Rattle.reuse_disk.specs.Written.{is_kept}
 use Rattle.reuse_folder.proofs.FolderLemmas.{nothing_put}
 use Rattle.reuse_folder.proofs.PutLemmas.{nothing_put_in, stored_if}
 use Rattle.reuse_folder.proofs.SeenLemmas.{loses_none}

@@ -1,5 +1,6 @@
 use Rattle.std.proofs.Common.{subst}
-use Rattle.reuse_folder.specs.FolderReads.{IsPlaceAt, LiesIn, current_of}
+use Rattle.reuse_folder.specs.FolderReads.{IsPlaceAt, LiesIn}
+use Rattle.reuse_disk.specs.Trails.{current_of}
 use Rattle.reuse_system.specs.SystemCalls.{folders_after, held_after}
 use Rattle.reuse_folder.proofs.ReadLemmas.{absent_at, no_file_of, read_after}
 use Rattle.reuse_folder.proofs.folder.RootFolder.read_again.Goals as goal

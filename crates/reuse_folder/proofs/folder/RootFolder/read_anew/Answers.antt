@@ -2,7 +2,7 @@ use Rattle.std.proofs.Common.{rules}
 use Rattle.reuse_system.specs.Asides.{opened_at}
 use Rattle.reuse_system.specs.Names.{IsNameOf}
 use Rattle.reuse_system.specs.SystemCalls.{held_after}
-use Rattle.reuse_folder.specs.FolderReads.{current_of}
+use Rattle.reuse_disk.specs.Trails.{current_of}
 use Rattle.reuse_folder.proofs.ReadLemmas.{read_in, read_opened}
 use Rattle.reuse_folder.proofs.folder.RootFolder.read_anew.Goals as goal
 

@@ -1,4 +1,4 @@
-use Rattle.reuse_folder.specs.FolderReads.{current_of}
+use Rattle.reuse_disk.specs.Trails.{current_of}
 use Rattle.reuse_system.specs.SystemCalls.{folders_after, held_after}
 use Rattle.reuse_folder.proofs.ReadLemmas.{read_after}
 use Rattle.reuse_folder.proofs.folder.RootFolder.read_seen.Goals as goal

@@ -1,5 +1,6 @@
 use Rattle.std.proofs.Common.{rules, inl, refl, ◌≡◌, subst, sym, Some}
-use Rattle.reuse_folder.specs.FolderReads.{LiesIn, current_of}
+use Rattle.reuse_folder.specs.FolderReads.{LiesIn}
+use Rattle.reuse_disk.specs.Trails.{current_of}
 use Rattle.reuse_folder.specs.FolderWrites.{IsGone, IsRemovedIn}
 use Rattle.reuse_system.specs.Names.{IsNameOf}
 use Rattle.reuse_system.specs.SystemCalls.{changes_of, folders_after, held_after}

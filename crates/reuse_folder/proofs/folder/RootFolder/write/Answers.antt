@@ -2,13 +2,12 @@ use Rattle.std.proofs.Common.{rules, ◌≡◌, false, is_ok, refl, subst, sym}
 use Rattle.reuse_change.specs.Parts.{joined}
 use Rattle.reuse_system.specs.Asides.{IsNewIn, IsNewPlace}
 use Rattle.reuse_system.specs.FileStates.{place_in}
-use Rattle.reuse_folder.specs.FolderReads.{current_of}
+use Rattle.reuse_disk.specs.Trails.{current_of, AreOpened}
 use Rattle.reuse_system.specs.NameChanges.{OnlyChanges}
 use Rattle.reuse_system.specs.Names.{IsNameOf, IsSplit}
 use Rattle.reuse_system.specs.SystemCalls.{changes_of, folders_after, held_after}
 use Rattle.reuse_system.specs.SystemLaws.{IsAlikeUnless}
-use Rattle.reuse_folder.specs.Trails.{AreOpened}
-use Rattle.reuse_folder.specs.Written.{IsWritten, is_kept}
+use Rattle.reuse_disk.specs.Written.{IsWritten, is_kept}
 use Rattle.reuse_folder.proofs.FolderLemmas.{nothing_put, cleared_alone, put_at}
 use Rattle.reuse_folder.proofs.PutLemmas.{nothing_put_in, not_put_in, put_in}
 use Rattle.reuse_folder.proofs.SeenLemmas.{loses_none, loses_only, loses_put}

@@ -3,7 +3,7 @@ use Rattle.std.proofs.lemmas.List.{length_push}
 use Rattle.reuse_system.specs.NameChanges.{OnlyChanges}
 use Rattle.reuse_system.specs.SystemCalls.{changes_of}
 use Rattle.reuse_folder.specs.Seen.{AreKnown, IsNewFile, IsKnownAside}
-use Rattle.reuse_folder.proofs.EditLemmas.{only_none, only_then}
+use Rattle.reuse_disk.proofs.EditLemmas.{only_none, only_then}
 use Rattle.reuse_folder.proofs.SeenLemmas.{aside_more}
 use Rattle.reuse_folder.proofs.folder.RootFolder.write_aside.Goals as goal
 use Rattle.reuse_folder.proofs.folder.RootFolder.write_aside.Goals.{else-loop-write-test, then-loop-write-test+in_default, then-loop-write-test+in-Some+in-Err-2}

@@ -2,7 +2,7 @@ use Rattle.std.proofs.Common.{◌∙◌, inl}
 use Rattle.reuse_system.specs.Asides.{IsNewIn}
 use Rattle.reuse_system.specs.SystemCalls.{changes_of}
 use Rattle.reuse_folder.specs.Seen.{IsNewFile}
-use Rattle.reuse_folder.proofs.EditLemmas.{only_none, only_then}
+use Rattle.reuse_disk.proofs.EditLemmas.{only_none, only_then}
 use Rattle.reuse_folder.proofs.SeenLemmas.{only_new}
 use Rattle.reuse_folder.proofs.folder.RootFolder.write_one_aside.Goals as goal
 

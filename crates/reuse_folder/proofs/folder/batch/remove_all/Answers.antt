@@ -3,7 +3,7 @@ use Rattle.reuse_system.specs.Asides.{place_of}
 use Rattle.reuse_system.specs.NameChanges.{change_at}
 use Rattle.reuse_folder.specs.Seen.{IsNewFile}
 use Rattle.reuse_folder.specs.declared.folder.batch.NewContent.{NewContent}
-use Rattle.reuse_folder.proofs.EditLemmas.{only_one, only_then}
+use Rattle.reuse_disk.proofs.EditLemmas.{only_one, only_then}
 use Rattle.reuse_folder.proofs.folder.batch.remove_all.Goals as goal
 
 pub loop-one-preserved : goal.loop-one-preserved

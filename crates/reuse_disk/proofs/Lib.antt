@@ -1,0 +1,8 @@
+pub mod AlongLemmas
+pub mod LastNames
+pub mod Listed
+pub mod MadeFolders
+pub mod NextNames
+pub mod TrailLemmas
+pub mod WrittenLemmas
+pub mod EditLemmas

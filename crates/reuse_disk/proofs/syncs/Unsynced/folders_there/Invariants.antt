@@ -1,0 +1,12 @@
+use Rattle.std.proofs.Common.{◌≡◌}
+use Rattle.reuse_disk.specs.Trails.{AreOpenedIf}
+use Rattle.reuse_disk.proofs.syncs.Unsynced.folders_there.Given as goal
+
+abbrev pub invariant-loop-folder : goal.invariant-loop-folder
+invariant-loop-folder g l =
+    let s = g.S.System in
+    (s.holds l.system ≡ s.holds l.fn.system) ×
+    (s.folders l.system ≡ s.folders l.fn.system) ×
+    (s.honest l.system → s.honest l.fn.system) ×
+    (AreOpenedIf (s.honest l.fn.system) (s.folders l.fn.system) l.fn.trail → AreOpenedIf (s.honest l.system) (s.folders l.system) l.trail) ×
+    (s.changes l.system ≡ s.changes l.fn.system)

@@ -1,0 +1,112 @@
+//! Removing folders that hold nothing but folders.
+ghost use Rattle.std.specs.Prelude.{◌≡◌, IfOk, string_bytes};
+ghost use Rattle.reuse_disk.specs.Trails.{AreOpenedIf, path_below};
+
+use crate::listing::{MOST_NAMES, push_text};
+use crate::trail::Trail;
+use reuse_system::fault::{FolderFault, Obstacle};
+use reuse_system::place::folder_and_name;
+use reuse_system::system::{HostSystem, System};
+use std::alloc::{AllocError, Global};
+use std::fs::{self, DirEntry, File};
+use std::rt::Files;
+
+/// The path of this name in a folder, both below the root.
+pub fn path_in(alloc: Global, folder: &str, name: &str) -> Result<String, AllocError>
+    ensures { IfOk result (λ path. string_bytes path ≡ path_below folder.now name.now) }
+{
+    let mut path = String::from_str(alloc, folder)?;
+    if !folder.is_empty() {
+        path.push('/')?;
+    }
+    path.push_str(name)?;
+    Ok(path)
+}
+
+/// Adds a folder that lies in this one. Anything else is in the way.
+fn push_folder<R: Files>(
+    alloc: Global,
+    folder: &str,
+    entry: &DirEntry<R>,
+    folders: &mut Vec<String>,
+) -> Result<(), FolderFault> {
+    if !entry.file_type()?.is_dir() {
+        return Err(FolderFault::Device(Obstacle::Foreign));
+    }
+    let path = path_in(alloc, folder, entry.file_name())?;
+    folders.push(path).map_err(AllocError::from)?;
+    Ok(())
+}
+
+/// Adds the folders that lie in this one. Where anything else lies in it, that is in the way.
+fn push_folders<R: Files<File = File> + AllocGlobal + Clone + Drop>(
+    system: &mut HostSystem<R>,
+    alloc: Global,
+    trail: &mut Trail,
+    folder: &str,
+    folders: &mut Vec<String>,
+) -> Result<(), FolderFault>
+    ensures kept { ⟦<HostSystem<R> as System>⟧.holds system.new ≡ ⟦<HostSystem<R> as System>⟧.holds system.old }
+    ensures changes { ⟦<HostSystem<R> as System>⟧.changes system.new ≡ ⟦<HostSystem<R> as System>⟧.changes system.old }
+    ensures still { ⟦<HostSystem<R> as System>⟧.folders system.new ≡ ⟦<HostSystem<R> as System>⟧.folders system.old }
+    ensures earlier { ⟦<HostSystem<R> as System>⟧.honest system.new → ⟦<HostSystem<R> as System>⟧.honest system.old }
+    ensures opened { AreOpenedIf (⟦<HostSystem<R> as System>⟧.honest system.old) (⟦<HostSystem<R> as System>⟧.folders system.old) trail.old
+        → AreOpenedIf (⟦<HostSystem<R> as System>⟧.honest system.new) (⟦<HostSystem<R> as System>⟧.folders system.new) trail.new }
+{
+    trail.enter_seen(system, alloc, folder)?;
+    for entry in fs::read_dir(system.rt(), trail.current()?.path())? {
+        push_folder(alloc, folder, &entry?, folders)?;
+    }
+    Ok(())
+}
+
+/// The folder and all below it, each above those that lie in it, where there is nothing else.
+fn folders_below<R: Files<File = File> + AllocGlobal + Clone + Drop>(
+    system: &mut HostSystem<R>,
+    alloc: Global,
+    trail: &mut Trail,
+    folder: &str,
+) -> Result<Vec<String>, FolderFault>
+    ensures kept { ⟦<HostSystem<R> as System>⟧.holds system.new ≡ ⟦<HostSystem<R> as System>⟧.holds system.old }
+    ensures changes { ⟦<HostSystem<R> as System>⟧.changes system.new ≡ ⟦<HostSystem<R> as System>⟧.changes system.old }
+    ensures still { ⟦<HostSystem<R> as System>⟧.folders system.new ≡ ⟦<HostSystem<R> as System>⟧.folders system.old }
+    ensures earlier { ⟦<HostSystem<R> as System>⟧.honest system.new → ⟦<HostSystem<R> as System>⟧.honest system.old }
+    ensures opened { AreOpenedIf (⟦<HostSystem<R> as System>⟧.honest system.old) (⟦<HostSystem<R> as System>⟧.folders system.old) trail.old
+        → AreOpenedIf (⟦<HostSystem<R> as System>⟧.honest system.new) (⟦<HostSystem<R> as System>⟧.folders system.new) trail.new }
+{
+    let mut folders = Vec::new(alloc);
+    push_text(alloc, &mut folders, folder)?;
+    for index in 0..MOST_NAMES {
+        let Some(folder) = folders.get(index) else {
+            return Ok(folders);
+        };
+        let folder = String::from_str(alloc, folder.as_str())?;
+        push_folders(system, alloc, trail, folder.as_str(), &mut folders)?;
+    }
+    Err(FolderFault::Device(Obstacle::TooManyNames))
+}
+
+/// Removes the folder and those below it. Where anything but folders lies in one, nothing is
+/// removed.
+pub fn remove_folders<R: Files<File = File> + AllocGlobal + Clone + Drop>(
+    system: &mut HostSystem<R>,
+    alloc: Global,
+    trail: &mut Trail,
+    folder: &str,
+) -> Result<(), FolderFault>
+    ensures kept { ⟦<HostSystem<R> as System>⟧.holds system.new ≡ ⟦<HostSystem<R> as System>⟧.holds system.old }
+    ensures changes { ⟦<HostSystem<R> as System>⟧.changes system.new ≡ ⟦<HostSystem<R> as System>⟧.changes system.old }
+    ensures earlier { ⟦<HostSystem<R> as System>⟧.honest system.new → ⟦<HostSystem<R> as System>⟧.honest system.old }
+    ensures opened { AreOpenedIf (⟦<HostSystem<R> as System>⟧.honest system.old) (⟦<HostSystem<R> as System>⟧.folders system.old) trail.old
+        → AreOpenedIf (⟦<HostSystem<R> as System>⟧.honest system.new) (⟦<HostSystem<R> as System>⟧.folders system.new) trail.new }
+{
+    let folders = folders_below(system, alloc, trail, folder)?;
+    for folder in folders.iter().rev() {
+        let (above, name) = folder_and_name(folder.as_str());
+        trail.enter_seen(system, alloc, above)?;
+        let removed = system.remove_folder(trail.current()?, name);
+        trail.close();
+        removed?;
+    }
+    Ok(())
+}

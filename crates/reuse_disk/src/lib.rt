@@ -1,0 +1,21 @@
+//! What a folder as a store is made of: the folders that are open below a root, listings, new files
+//! and syncs.
+//!
+//! A folder is opened through the one above it, and no link is followed. A file is written aside,
+//! synced and renamed. Tested by `closed_folders.sh`, `races.sh`, `syncs.sh`, `owners.sh` and
+//! `fail_system_calls.sh` in `tests/`.
+#![tactic(auto)]
+
+mod empty_folders;
+mod listing;
+mod made_folder;
+mod new_file;
+mod origin;
+mod syncs;
+mod trail;
+
+pub use empty_folders::remove_folders;
+pub use listing::{Listing, list_below};
+pub use new_file::{Content, NewFile, Target, Wanted, name_aside, remove_seen};
+pub use syncs::Unsynced;
+pub use trail::Trail;

@@ -1,0 +1,191 @@
+//! The files below a folder.
+ghost use Rattle.std.specs.Prelude.{◌≡◌, All, false};
+ghost use Rattle.std.specs.List.Sorted.{IsSorted};
+ghost use Rattle.std.specs.Ordering.{nat_cmp};
+ghost use Rattle.std.specs.Cmp.Lexicographic.{slice_cmp};
+ghost use Rattle.reuse_system.specs.KeptOut.{is_kept_out};
+ghost use Rattle.reuse_disk.specs.Trails.{AreOpenedIf};
+
+use crate::empty_folders::path_in;
+use crate::trail::Trail;
+use reuse_change::{NoPruning, PathText, Pruning};
+use reuse_system::fault::{FolderFault, Obstacle};
+use reuse_system::kept_out::{is_folder_kept_out, is_kept_out};
+use reuse_system::system::{HostSystem, System};
+use std::alloc::{AllocError, Global};
+use std::fs::{self, DirEntry, File};
+use std::rt::Files;
+
+/// A listing that finds more names than this fails.
+pub const MOST_NAMES: usize = 100_000_000;
+
+/// Adds a text to others.
+pub fn push_text(alloc: Global, texts: &mut Vec<String>, text: &str) -> Result<(), AllocError> {
+    texts.push(String::from_str(alloc, text)?)?;
+    Ok(())
+}
+
+/// A listing, with what it has found so far.
+#[derive(Drop)]
+pub struct Listing<'a, P: Pruning> {
+    pruning: &'a P,
+    names: usize,
+    folders: Vec<String>,
+    files: Vec<PathText>,
+    // The folders that were found and pruned.
+    passed: Vec<String>,
+    ghost in_tree: { All (λ path. is_kept_out path ≡ false) files.items },
+}
+
+impl<'a, P: Pruning> Listing<'a, P> {
+    /// Nothing found, and nothing to look at.
+    pub fn new(alloc: Global, pruning: &'a P) -> Listing<'a, P> {
+        Listing {
+            pruning,
+            names: 0,
+            folders: Vec::new(alloc),
+            files: Vec::new(alloc),
+            passed: Vec::new(alloc),
+        }
+    }
+
+    /// Takes in a folder that is to be looked at; empty for the root, which is always looked at.
+    /// One that is no part of the tree, or is pruned, is passed over.
+    pub fn take_folder(&mut self, alloc: Global, folder: &str) -> Result<(), FolderFault> {
+        if !folder.is_empty() {
+            if is_folder_kept_out(folder) {
+                return Ok(());
+            }
+            if self.passes_over(folder) {
+                push_text(alloc, &mut self.passed, folder)?;
+                return Ok(());
+            }
+        }
+        push_text(alloc, &mut self.folders, folder)?;
+        Ok(())
+    }
+
+    /// Takes in a regular file.
+    pub fn take_file(&mut self, alloc: Global, text: &str) -> Result<(), FolderFault> {
+        if !is_kept_out(text) {
+            let path = PathText::new(alloc, text)?;
+            self.files.push(path).map_err(AllocError::from)?;
+        }
+        Ok(())
+    }
+
+    /// Whether the folder is pruned.
+    pub fn passes_over(&self, folder: &str) -> bool {
+        self.pruning.prunes(folder)
+    }
+
+    fn next_folder(&mut self) -> Option<String> {
+        self.folders.pop()
+    }
+
+    /// Takes in one name of this folder. Links, devices and pipes are left out.
+    fn take<R: Files>(
+        &mut self,
+        alloc: Global,
+        folder: &str,
+        entry: &DirEntry<R>,
+    ) -> Result<(), FolderFault> {
+        if self.names >= MOST_NAMES {
+            return Err(FolderFault::Device(Obstacle::TooManyNames));
+        }
+        self.names += 1;
+        let metadata = entry.metadata()?;
+        let whole = path_in(alloc, folder, entry.file_name())?;
+        if metadata.is_dir() {
+            self.take_folder(alloc, whole.as_str())?;
+        } else if metadata.is_file() {
+            self.take_file(alloc, whole.as_str())?;
+        }
+        Ok(())
+    }
+
+    /// Takes in the names of one folder, which is the root where it is empty.
+    fn look_into<R: Files<File = File> + AllocGlobal + Clone + Drop>(
+        &mut self,
+        system: &mut HostSystem<R>,
+        alloc: Global,
+        trail: &mut Trail,
+        folder: &str,
+    ) -> Result<(), FolderFault>
+        ensures kept { ⟦<HostSystem<R> as System>⟧.holds system.new ≡ ⟦<HostSystem<R> as System>⟧.holds system.old }
+        ensures changes { ⟦<HostSystem<R> as System>⟧.changes system.new ≡ ⟦<HostSystem<R> as System>⟧.changes system.old }
+        ensures still { ⟦<HostSystem<R> as System>⟧.folders system.new ≡ ⟦<HostSystem<R> as System>⟧.folders system.old }
+        ensures earlier { ⟦<HostSystem<R> as System>⟧.honest system.new → ⟦<HostSystem<R> as System>⟧.honest system.old }
+        ensures opened { AreOpenedIf (⟦<HostSystem<R> as System>⟧.honest system.old) (⟦<HostSystem<R> as System>⟧.folders system.old) trail.old
+            → AreOpenedIf (⟦<HostSystem<R> as System>⟧.honest system.new) (⟦<HostSystem<R> as System>⟧.folders system.new) trail.new }
+    {
+        if !trail.enter_listed(system, alloc, folder)? {
+            return Ok(());
+        }
+        for entry in fs::read_dir(system.rt(), trail.current()?.path())? {
+            self.take(alloc, folder, &entry?)?;
+        }
+        Ok(())
+    }
+
+    /// Looks into each folder that was taken in, and into those below it. `last` becomes the folder
+    /// that was looked at last, where a listing that fails has failed.
+    pub fn walk<R: Files<File = File> + AllocGlobal + Clone + Drop>(
+        &mut self,
+        system: &mut HostSystem<R>,
+        alloc: Global,
+        trail: &mut Trail,
+        last: &mut String,
+    ) -> Result<(), FolderFault>
+        ensures kept { ⟦<HostSystem<R> as System>⟧.holds system.new ≡ ⟦<HostSystem<R> as System>⟧.holds system.old }
+        ensures changes { ⟦<HostSystem<R> as System>⟧.changes system.new ≡ ⟦<HostSystem<R> as System>⟧.changes system.old }
+        ensures still { ⟦<HostSystem<R> as System>⟧.folders system.new ≡ ⟦<HostSystem<R> as System>⟧.folders system.old }
+        ensures earlier { ⟦<HostSystem<R> as System>⟧.honest system.new → ⟦<HostSystem<R> as System>⟧.honest system.old }
+        ensures opened { AreOpenedIf (⟦<HostSystem<R> as System>⟧.honest system.old) (⟦<HostSystem<R> as System>⟧.folders system.old) trail.old
+            → AreOpenedIf (⟦<HostSystem<R> as System>⟧.honest system.new) (⟦<HostSystem<R> as System>⟧.folders system.new) trail.new }
+    {
+        for _ in 0..=MOST_NAMES {
+            match self.next_folder() {
+                Some(folder) => {
+                    *last = folder;
+                    self.look_into(system, alloc, trail, last.as_str())?;
+                }
+                None => return Ok(()),
+            }
+        }
+        Err(FolderFault::Device(Obstacle::TooManyNames))
+    }
+
+    /// The files that were found, in byte order, and the folders that were pruned.
+    pub fn into_found(self) -> (Vec<PathText>, Vec<String>)
+        ensures sorted { IsSorted (slice_cmp nat_cmp) result.0.items }
+        ensures kept_out { All (λ path. is_kept_out path ≡ false) result.0.items }
+    {
+        let mut files = self.files;
+        files.sort_unstable();
+        (files, self.passed)
+    }
+}
+
+/// The paths of the regular files below this folder, in byte order. `last` becomes the folder that
+/// was looked at last, where a listing that fails has failed.
+pub fn list_below<R: Files<File = File> + AllocGlobal + Clone + Drop>(
+    system: &mut HostSystem<R>,
+    alloc: Global,
+    trail: &mut Trail,
+    folder: &str,
+    last: &mut String,
+) -> Result<Vec<PathText>, FolderFault>
+    ensures kept { ⟦<HostSystem<R> as System>⟧.holds system.new ≡ ⟦<HostSystem<R> as System>⟧.holds system.old }
+    ensures changes { ⟦<HostSystem<R> as System>⟧.changes system.new ≡ ⟦<HostSystem<R> as System>⟧.changes system.old }
+    ensures still { ⟦<HostSystem<R> as System>⟧.folders system.new ≡ ⟦<HostSystem<R> as System>⟧.folders system.old }
+    ensures earlier { ⟦<HostSystem<R> as System>⟧.honest system.new → ⟦<HostSystem<R> as System>⟧.honest system.old }
+    ensures opened { AreOpenedIf (⟦<HostSystem<R> as System>⟧.honest system.old) (⟦<HostSystem<R> as System>⟧.folders system.old) trail.old
+        → AreOpenedIf (⟦<HostSystem<R> as System>⟧.honest system.new) (⟦<HostSystem<R> as System>⟧.folders system.new) trail.new }
+{
+    let mut listing = Listing::new(alloc, &NoPruning);
+    listing.take_folder(alloc, folder)?;
+    listing.walk(system, alloc, trail, last)?;
+    let (paths, _) = listing.into_found();
+    Ok(paths)
+}

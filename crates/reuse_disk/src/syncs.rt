@@ -1,0 +1,226 @@
+//! Making lasting what was written, so that it outlives a loss of power. The data of a new file is
+//! synced before the file is given its name. Which folders got or lost a name is noted, and a
+//! barrier syncs each of them once. The system reports a fault of a sync once, and may then drop
+//! what it could not write: so a store whose sync has failed believes no later one.
+ghost use Rattle.std.specs.Prelude.{◌≡◌, IfErr, IfSome, IsOk, MatchResult, None, OnOk, Some};
+ghost use Rattle.std.specs.BTreeSet.{IsEmpty};
+ghost use Rattle.std.specs.Option.{unwrap_or};
+ghost use Rattle.reuse_system.specs.SystemLaws.{IsAlikeButFile};
+ghost use Rattle.reuse_system.specs.Asides.{key_of};
+ghost use Rattle.reuse_disk.specs.Trails.{AreOpenedIf};
+ghost use Rattle.reuse_disk.specs.Written.{IsSyncedIf, is_kept};
+ghost use Rattle.reuse_system.specs.declared.fault.FolderFault.TheVariants.{Device};
+ghost use Rattle.reuse_system.specs.declared.fault.Obstacle.{Obstacle};
+ghost use Rattle.reuse_system.specs.declared.fault.Obstacle.TheVariants.{System};
+
+use crate::trail::Trail;
+use reuse_change::Change;
+use reuse_system::fault::{FolderFault, Obstacle};
+use reuse_system::kept_out::JOURNAL;
+use reuse_system::place::folder_and_name;
+use reuse_system::syncs::Syncs;
+use reuse_system::system::{Aside, System};
+use std::alloc::{AllocError, Global};
+use std::collections::BTreeSet;
+use std::io;
+
+/// What the next barrier has to make lasting.
+#[derive(Drop)]
+pub struct Unsynced {
+    syncs: Syncs,
+    /// The folders that got or lost a name since the last barrier; the root is empty.
+    folders: BTreeSet<String>,
+    /// Whether a barrier has made the journal's names lasting. Those that came or went since then
+    /// are in a folder that is noted. Names of new files there, which are renamed away, are of no
+    /// account.
+    is_journal_lasting: bool,
+    /// Why the first sync that failed did so.
+    failed: Option<Obstacle>,
+    /// The folder that was synced last, or the file whose sync failed.
+    last: String,
+}
+
+impl Unsynced {
+    /// Nothing so far.
+    pub fn new(alloc: Global, syncs: Syncs) -> Unsynced
+        ensures syncs { result.syncs ≡ syncs }
+        ensures folders { IsEmpty result.folders }
+        ensures failed { result.failed ≡ None }
+    {
+        Unsynced {
+            syncs,
+            folders: BTreeSet::new(alloc),
+            is_journal_lasting: false,
+            failed: None,
+            last: String::new(alloc),
+        }
+    }
+
+    /// The folder that was synced last, or the file whose sync failed; empty for the root.
+    pub fn last(&self) -> &str {
+        self.last.as_str()
+    }
+
+    /// This folder, which is empty for the root, is to get or lose a name.
+    pub fn note(&mut self, alloc: Global, folder: &str) -> Result<(), AllocError>
+        ensures syncs { self.new.syncs ≡ self.old.syncs }
+        ensures failed { self.new.failed ≡ self.old.failed }
+    {
+        if self.syncs == Syncs::Kept && !self.folders.contains(folder) {
+            self.folders.insert(String::from_str(alloc, folder)?)?;
+        }
+        Ok(())
+    }
+
+    /// A sync failed for this. The first one stays known.
+    fn fail(&mut self, obstacle: Obstacle)
+        ensures syncs { self.new.syncs ≡ self.old.syncs }
+        ensures failed { self.new.failed ≡ Some (unwrap_or self.old.failed obstacle) }
+    {
+        if self.failed.is_none() {
+            self.failed = Some(obstacle);
+        }
+    }
+
+    /// Makes the data of a file lasting that is to get this path.
+    pub fn sync_data<S: System>(
+        &mut self,
+        system: &mut S,
+        aside: &Aside,
+        path: &str,
+    ) -> io::Result<()>
+        ensures syncs { self.new.syncs ≡ self.old.syncs }
+        ensures ok { OnOk result (self.new.failed ≡ self.old.failed) }
+        ensures failed { IfErr result (λ error. self.new.failed ≡ Some (unwrap_or self.old.failed (System error))) }
+        ensures synced { MatchResult result
+            (λ _. IsSyncedIf (is_kept self.old.syncs) (key_of aside.now) (S.holds system.old) (S.holds system.new))
+            (λ _. IsAlikeButFile (key_of aside.now) (S.holds system.old) (S.holds system.new)) }
+        ensures still { S.folders system.new ≡ S.folders system.old }
+        ensures earlier { S.honest system.new → S.honest system.old }
+        ensures changes { S.changes system.new ≡ S.changes system.old }
+    {
+        if self.syncs == Syncs::LeftOut {
+            return Ok(());
+        }
+        match system.sync_data(aside) {
+            Ok(()) => Ok(()),
+            Err(error) => {
+                self.set_last(path);
+                self.fail(Obstacle::System(error));
+                Err(error)
+            }
+        }
+    }
+
+    /// For an allocation failure the path is left out.
+    fn set_last(&mut self, path: &str)
+        ensures syncs { self.new.syncs ≡ self.old.syncs }
+        ensures failed { self.new.failed ≡ self.old.failed }
+    {
+        self.last.clear();
+        let _ = self.last.push_str(path);
+    }
+
+    /// A barrier: makes lasting the names in the journal's folder, in the folders above the paths
+    /// of the changes, and in all folders that are noted.
+    pub fn sync<S: System>(
+        &mut self,
+        system: &mut S,
+        alloc: Global,
+        trail: &mut Trail,
+        changes: &[Change],
+    ) -> Result<(), FolderFault>
+        ensures left_out { self.old.syncs ≡ Syncs.LeftOut → IsOk result }
+        ensures lasting { self.old.syncs ≡ Syncs.Kept → OnOk result (IsEmpty self.new.folders) }
+        // Once one has failed, no later one is believed.
+        ensures failed { self.old.syncs ≡ Syncs.Kept
+            → IfSome self.old.failed (λ obstacle. result ≡ Err (Device obstacle)) }
+        ensures fails { (obstacle : Obstacle) → result ≡ Err (Device obstacle) → self.new.failed ≡ Some obstacle }
+        ensures kept { S.holds system.new ≡ S.holds system.old }
+        ensures changes { S.changes system.new ≡ S.changes system.old }
+        ensures still { S.folders system.new ≡ S.folders system.old }
+        ensures earlier { S.honest system.new → S.honest system.old }
+        ensures opened { AreOpenedIf (S.honest system.old) (S.folders system.old) trail.old
+            → AreOpenedIf (S.honest system.new) (S.folders system.new) trail.new }
+    {
+        if self.syncs == Syncs::LeftOut {
+            return Ok(());
+        }
+        if let Some(obstacle) = self.failed {
+            return Err(FolderFault::Device(obstacle));
+        }
+        let synced = self.sync_all(system, alloc, trail, changes);
+        match synced {
+            Ok(()) => {
+                self.folders.clear();
+                self.is_journal_lasting = true;
+            }
+            Err(FolderFault::Device(obstacle)) => self.fail(obstacle),
+            Err(FolderFault::Clash | FolderFault::Memory) => {}
+        }
+        synced
+    }
+
+    fn sync_all<S: System>(
+        &mut self,
+        system: &mut S,
+        alloc: Global,
+        trail: &mut Trail,
+        changes: &[Change],
+    ) -> Result<(), FolderFault>
+        ensures failed { self.new.failed ≡ self.old.failed }
+        ensures kept { S.holds system.new ≡ S.holds system.old }
+        ensures changes { S.changes system.new ≡ S.changes system.old }
+        ensures still { S.folders system.new ≡ S.folders system.old }
+        ensures earlier { S.honest system.new → S.honest system.old }
+        ensures opened { AreOpenedIf (S.honest system.old) (S.folders system.old) trail.old
+            → AreOpenedIf (S.honest system.new) (S.folders system.new) trail.new }
+    {
+        self.note_changes(alloc, changes)?;
+        let there = self.folders_there(system, alloc, trail)?;
+        for folder in &there {
+            self.set_last(folder.as_str());
+            trail.enter_seen(system, alloc, folder.as_str())?;
+            trail.current()?.sync()?;
+        }
+        Ok(())
+    }
+
+    /// Notes the journal's folder, if it isn't known to be lasting, and the folders above the paths
+    /// of the changes.
+    fn note_changes(&mut self, alloc: Global, changes: &[Change]) -> Result<(), AllocError>
+        ensures failed { self.new.failed ≡ self.old.failed }
+    {
+        if !self.is_journal_lasting {
+            self.note(alloc, JOURNAL)?;
+        }
+        for change in changes {
+            self.note(alloc, folder_and_name(change.path().text()).0)?;
+        }
+        Ok(())
+    }
+
+    /// The folders that are noted, each once. In place of one that isn't there stands the nearest
+    /// one above it that is.
+    fn folders_there<S: System>(
+        &self,
+        system: &mut S,
+        alloc: Global,
+        trail: &mut Trail,
+    ) -> Result<BTreeSet<String>, FolderFault>
+        ensures kept { S.holds system.new ≡ S.holds system.old }
+        ensures changes { S.changes system.new ≡ S.changes system.old }
+        ensures still { S.folders system.new ≡ S.folders system.old }
+        ensures earlier { S.honest system.new → S.honest system.old }
+        ensures opened { AreOpenedIf (S.honest system.old) (S.folders system.old) trail.old
+            → AreOpenedIf (S.honest system.new) (S.folders system.new) trail.new }
+    {
+        let mut there = BTreeSet::new(alloc);
+        for folder in &self.folders {
+            trail.enter(system, alloc, folder.as_str())?;
+            let nearest = String::from_str(alloc, trail.path())?;
+            there.insert(nearest).map_err(AllocError::from)?;
+        }
+        Ok(there)
+    }
+}

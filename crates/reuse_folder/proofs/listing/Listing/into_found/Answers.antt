@@ -1,5 +1,0 @@
-use Rattle.reuse_folder.proofs.Listed.{in_order}
-use Rattle.reuse_folder.proofs.listing.Listing.into_found.Goals as goal
-
-pub returns-clause-kept_out : goal.returns-clause-kept_out
-returns-clause-kept_out g c = in_order _ _ c.sort_unstable.ensures.permutation c.args.self.in_tree
