@@ -1,7 +1,7 @@
 #!/usr/bin/env bash
-# Writes docs/CLAUSES.md to standard output: each public function and each member of a trait that
-# has a contract, with the names of its clauses, from crates/*/src. tests/documents.sh compares.
-# usage: docs/index_of_clauses.sh > docs/CLAUSES.md
+# Lists each public function and each member of a trait that has a contract, with the names of its
+# clauses, from crates/*/src, as a page in Markdown.
+# usage: docs/index_of_clauses.sh
 set -euo pipefail
 cd "$(dirname "$0")/../crates"
 cat << 'HEAD'
@@ -9,8 +9,7 @@ cat << 'HEAD'
 
 Each public function and each member of a trait that has a contract, with the names of its clauses.
 A clause without a name is written `-`. Private functions are left out. What the clauses say is in
-[PROOFS.md](PROOFS.md), and in the sources beside each function. This page is written by
-`docs/index_of_clauses.sh`.
+docs/PROOFS.md, and in the sources beside each function.
 HEAD
 mapfile -t crates < <(sed -n 's/^\([a-z0-9_]*\):.*/\1/p' ../crates.txt)
 for crate in "${crates[@]}"; do
@@ -79,7 +78,7 @@ for crate in "${crates[@]}"; do
       fn && /^ *ensures/ {
         text = $0
         sub(/^ *ensures */, "", text)
-        match(text, /^[a-z_]*/)
+        match(text, /^[a-z0-9_]*/)
         clause[++count] = RLENGTH ? "`" substr(text, 1, RLENGTH) "`" : "`-`"
       }
       END { finish() }' "$file"

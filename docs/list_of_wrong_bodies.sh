@@ -1,8 +1,7 @@
 #!/usr/bin/env bash
-# Writes docs/WRONG_BODIES.md to standard output: each wrong body of crates/*/must-fail and of
-# tests/wrong_bodies, with what its lines `says:` and `refused by:` have, which rt doesn't read.
-# tests/documents.sh compares.
-# usage: docs/list_of_wrong_bodies.sh > docs/WRONG_BODIES.md
+# Lists each wrong body of crates/*/must-fail and of tests/wrong_bodies, with what its lines `says:`
+# and `refused by:` have, which rt doesn't read, as a page in Markdown.
+# usage: docs/list_of_wrong_bodies.sh
 set -euo pipefail
 cd "$(dirname "$0")/.."
 cat << 'HEAD'
@@ -11,9 +10,8 @@ cat << 'HEAD'
 What the prover must refuse, crate by crate: edits of a body that still compile and read well. Each
 line has what the body does, the clause that no longer holds of it, and the name of the edit.
 
-- An edit stands in `crates/CRATE/must-fail/`, and the gate tries it by a check of its own.
-- An edit with a star stands in `tests/wrong_bodies/CRATE/`. In the gate it would cost about a
-  minute. Those of the program would cost one more proof of it, too.
+- An edit stands in `tests/wrong_bodies/CRATE/`. One with a star stands in
+  `crates/reuse_text/must-fail/`, where the gate tries it by a check of its own.
 - `tests/wrong_bodies.sh` tries all of them, many in one check. `./test.sh` calls it.
 - A clause is named behind its function. A function with one clause needs no name.
 - If the edit is inside a loop, what fails is the loop's invariant, which says the clause as far as
@@ -24,8 +22,6 @@ line has what the body does, the clause that no longer holds of it, and the name
 - Of the program and the crates that were made of it, from `reuse_system` on, the function is named
   whose contract an edit breaks, also where it is a private one. That each edit is refused is tried;
   by which clause was read from the contracts.
-
-This page is written by `docs/list_of_wrong_bodies.sh`.
 HEAD
 mapfile -t crates < <(sed -n 's/^\([a-z0-9_]*\):.*/\1/p' crates.txt)
 for crate in "${crates[@]}"; do
@@ -33,7 +29,7 @@ for crate in "${crates[@]}"; do
   { find "crates/$crate/must-fail" "tests/wrong_bodies/$crate" -name '*.edit' 2> /dev/null || :; } |
     sed -E 's#.*/(.*)#\1 &#' | LC_ALL=C sort | while read -r name edit; do
     star=
-    [[ $edit != tests/* ]] || star='*'
+    [[ $edit != crates/* ]] || star='*'
     says=$(sed -n 's/^says: //p' "$edit")
     refused=$(sed -n 's/^refused by: //p' "$edit")
     if [[ -z $says || -z $refused ]]; then
