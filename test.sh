@@ -2,13 +2,14 @@
 # Passes all tests, in this order:
 # - the gate, `rt ci`: every proof, every must-fail edit and the program's run, from nothing;
 # - beside it the tests of calls (tests/calls.sh), which are compiled without proof;
-# - the scripts of tests/ that take the program (tests/all.sh), on what the gate proved and built;
-# - once the gate has passed, every wrong body (tests/wrong_bodies.sh), also those it doesn't try.
+# - once the gate has passed, every wrong body (tests/wrong_bodies.sh), also those it doesn't try;
+# - beside them the scripts of tests/ that take the program (tests/all.sh), on what the gate built.
 # Ends with the gate's status if that isn't 0, and with 1 if a test of calls or a script fails, or a
-# wrong body isn't refused. One that only a name in a proof refuses is named.
-# DEADLINE: the time, in seconds since 1970, at which all has to end. What is left out for that is
-# named.
+# wrong body isn't refused by a goal.
 # A script that can't be run here, for want of a Debian package or of root, counts as skipped.
+# MAY_SKIP: the scripts that may be skipped. If it is set, any other that is skipped fails.
+# DEADLINE: the time, in seconds since 1970, at which the wrong bodies have to end; what they leave
+# out for that is named, and counts as a skip of wrong_bodies.sh.
 # RT_JOBS: how many checks run side by side. ROUNDS: how often the scripts try that go by chance.
 # usage: ./test.sh
 set -euo pipefail
@@ -16,12 +17,12 @@ cd "$(dirname "$0")"
 (($# == 0)) || { sed -n '/^# usage/s/^# //p' "$0" >&2; exit 2; }
 command -v rt > /dev/null || { echo "The Rattle kit isn't there: no command rt." >&2; exit 1; }
 room=$(mktemp -d)
-calls=
-trap '[ -z "$calls" ] || kill "$calls" 2> /dev/null; rm -rf "$room"' EXIT
+beside=
+trap '[ -z "$beside" ] || kill "$beside" 2> /dev/null; rm -rf "$room"' EXIT
 : > "$room/begun"
 
 tests/calls.sh > "$room/calls" 2>&1 &
-calls=$!
+beside=$!
 # As many checks side by side as there are processors, and 5 GB of free memory for each: most take
 # 1 to 4, the largest 6 for a while. Left to itself, rt reckons with three times as much for the
 # largest crates, and tries them one after the other.
@@ -35,10 +36,18 @@ took=$((SECONDS / 60)):$(printf %02d $((SECONDS % 60)))
 [ $gate = 0 ] && gate_said=passed || gate_said="FAILED with status $gate"
 
 called=0
-wait $calls || called=$?
-calls=
+wait $beside || called=$?
+beside=
 sed 's/^/tests of calls: /' "$room/calls"
 [ $called = 0 ] && calls_said=passed || calls_said=FAILED
+
+# With a DEADLINE the wrong bodies end then.
+limit=()
+[ -z "${DEADLINE:-}" ] || limit=(timeout -k 10 "$((DEADLINE - $(date +%s)))")
+if [ $gate = 0 ]; then
+    "${limit[@]}" tests/wrong_bodies.sh -g > "$room/wrong" 2>&1 &
+    beside=$!
+fi
 
 # The gate leaves the program that it built here, and has set aside what was here before.
 program=crates/reuse_undo/out/reuse_undo
@@ -51,27 +60,20 @@ else
     scripts_said='not run, since the gate built no program'
 fi
 
-# Last, since it takes longest. With a DEADLINE it ends then; an edit that isn't refused is a fault.
 wrong=0
 wrong_said='not tried, since the gate failed'
-left=1
-[ -z "${DEADLINE:-}" ] || left=$((DEADLINE - $(date +%s)))
-if [ $gate = 0 ] && ((left < 1)); then
-    wrong_said='not tried, since no time was left'
-elif [ $gate = 0 ]; then
-    limit=()
-    [ -z "${DEADLINE:-}" ] || limit=(timeout -k 10 "$left")
-    "${limit[@]}" tests/wrong_bodies.sh -g | tee "$room/wrong" || wrong=$?
+if [ -n "$beside" ]; then
+    wait "$beside" || wrong=$?
+    beside=
+    cat "$room/wrong"
     wrong_said="$(tail -n 1 "$room/wrong"), after $((SECONDS / 60)) minutes"
-    # An edit that is refused, but by no goal, is named and is no fault.
-    if [ $wrong = 1 ] && grep -q 'ONLY BY A NAME' "$room/wrong" &&
-        ! grep -qE 'NOT REFUSED|BAD EDIT|NOT TRIED' "$room/wrong"; then
-        wrong=0
-    fi
-    # (timeout ends with 124, or with 137 where it had to kill)
-    if [ ${#limit[@]} != 0 ] && { [ $wrong = 124 ] || [ $wrong = 137 ]; } &&
-        ! grep -q 'NOT REFUSED' "$room/wrong"; then
-        wrong=0 wrong_said='not all tried, since no time was left'
+    # (timeout ends with 124, with 137 where it had to kill, and with 125 where no time was left)
+    if [ ${#limit[@]} != 0 ] && [[ $wrong = 12[45] || $wrong = 137 ]]; then
+        wrong_said='not all tried, since no time was left'
+        if [[ " ${MAY_SKIP-wrong_bodies.sh} " = *' wrong_bodies.sh '* ]] &&
+            ! grep -qE 'NOT REFUSED|ONLY BY A NAME|BAD EDIT|NOT TRIED' "$room/wrong"; then
+            wrong=0
+        fi
     fi
 fi
 

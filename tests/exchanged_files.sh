@@ -8,8 +8,10 @@
 # reads the file and that at which it names its new file is replaced by that one, since no system
 # call compares and replaces: how often that happens is counted and printed, and so is how many runs
 # were refused since a file was another one at a later look. That each such moment is met, and just
-# one at a time, is the part of races.sh. Ends with status 1 at the first fault.
-# usage: tests/exchanged_files.sh PROGRAM [ROUNDS]      (200 rounds by default)
+# one at a time, is the part of races.sh. Ends with status 1 at the first fault, and if no call was
+# made or none met an exchange.
+# usage: tests/exchanged_files.sh PROGRAM [ROUNDS]
+# ROUNDS: how many calls are made, at least 40 (200).
 # The tags below are data: REUSE-IgnoreStart
 set -euo pipefail
 . "$(dirname "$0")/common.sh"
@@ -125,7 +127,7 @@ for part, pause in enumerate((0, 0.05, 0.5, 3)):
                 file.write(version(name, 0))
         run('forget', '--all')
     process.start()
-    for _ in range(rounds // 4):
+    for _ in range(max(rounds // 4, 10)):
         kind = random.choice(['annotate', 'annotate', 'annotate one', 'undo', 'redo', 'revert'])
         words = {'annotate': [*ANNOTATE, '-r', '.'], 'annotate one': [*ANNOTATE, 'sub/c.py'],
                  'undo': ['undo'], 'redo': ['redo'],
@@ -164,6 +166,8 @@ for part, pause in enumerate((0, 0.05, 0.5, 3)):
             fail(f'{name}: undo leaves other bytes')
     if not os.path.isdir(os.path.join(tree, '.reuse', 'undo')):
         fail('the journal is gone')
+if not made or not caught:
+    fail(f'nothing is shown: {sum(made.values())} calls were made, and {caught} met an exchange')
 print(f'{sum(made.values())} calls were made and {sum(refused.values())} refused while {counts[0]} '
       f'files were exchanged, {caught} of these since a file had been: each file is whole at all '
       f'times; {counts[1]} versions were put in between the read and the new name, and replaced')
