@@ -227,7 +227,7 @@ clashes() {
 kept_out() {
   local path
   stand .git/HEAD .reuse/undo/new a/.Hg/x b/.git a/.svn/x a/.jj/x a/b/.bzr/x a/_darcs/b/x \
-    a/.SL/x a/.pijul/x a/b/.repo/x a/CVS/Root a/.reuse/undo/head.json c/.reuse-undo-new
+    a/.SL/x a/.pijul/x a/b/.repo/x a/CVS/Root a/.reuse/undo/head.json c/.reuse-undo-new c/.reuse-undo-new.7
   for path in .reuse/undo/new .reuse/undo/new/x; do
     refused "$path: no such path" "${annotate[@]}" $path
     bad_journal $path
@@ -236,7 +236,7 @@ kept_out() {
   for path in .git/HEAD .git/refs/x .GIT a/.Hg/x a/.svn/x a/.jj/x a/b/.bzr/x a/_darcs/b/x b/.git \
     b/.git/x \
     a/.SL/x a/.pijul/x a/b/.repo/x a/CVS/Root a/.reuse/undo a/.reuse/undo/head.json \
-    c/.reuse-undo-new; do
+    c/.reuse-undo-new c/.reuse-undo-new.7; do
     barred $path
   done
   printf y > "$tree/.reuse/undo/new"
@@ -322,20 +322,20 @@ ROOTS
 }
 
 long_names() {
-  local longest told
+  local longest
   longest=$(printf %0255d 0)
   stand
   puts "$longest"
   lists "$longest"
   removes "$longest"
-  cannot_put "0$longest" 'File name too long (os error 36)'
-  # A file that can stand there, but not its neighbour
+  lay undone "0$longest"
+  refused "0$longest: too long" redo
+  # A file that can stand there, but not its neighbour: the call is not begun.
   rm -r "$tree/.reuse"
   printf y > "$tree/$longest"
-  told="can't write $longest.license: File name too long (os error 36)"
-  tells "reuse-undo: interrupted"$'\n'"reuse-undo: note: $told" \
-    "${annotate[@]}" --force-dot-license "$longest"
+  refused "$longest: too long" "${annotate[@]}" --force-dot-license "$longest"
   holds "$longest" y
+  [[ ! -e $tree/.reuse ]] || fail 'a name that is too long: the journal is made'
 }
 
 # Says what was shown.

@@ -102,6 +102,11 @@ changes() {
 }
 
 refusals() {
+  local long
+  long=$(printf %0250d 0)
+  files "$long" 'x\n'
+  notes annotate --force-dot-license -l MIT "$long" \
+    : 'the file that would be made has a name of more than 255 bytes, .*--style .*'
   files b.xyz 'x\n' c.xyz 'x\n' a.py 'x\n'
   notes annotate -l MIT b.xyz \
     : 'no comment style is known .*--style .*\.reuse/styles\.toml.*--fallback-dot-license.*--skip-unrecognised'

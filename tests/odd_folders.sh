@@ -180,12 +180,16 @@ in_the_way() {
   [[ $(state_of "$tree") == "$before" ]] || fail 'a folder in the way: files are changed'
 }
 
-# Below a mount the new file is written beside the one that it is to be.
+# Below a mount the new file is written beside the one that it is to be, under a name that has the
+# number of the journal's folder. What a killed run has left of it goes, and no file of the user's.
 mounted() {
   local script='mount -t tmpfs none "$1/mounted" && echo x > "$1/mounted/a.py" &&
-    chmod 755 "$1/mounted/a.py" && "$2" --root "$1" annotate -l MIT -r . &&
-    head -n 1 "$1/mounted/a.py" && stat -c %a "$1/mounted/a.py" && "$2" undo --root "$1" &&
-    cat "$1/mounted/a.py" && ls -A "$1/mounted"'
+    chmod 755 "$1/mounted/a.py" && echo mine > "$1/mounted/.reuse-undo-new" &&
+    echo mine > "$1/mounted/.reuse-undo-new.0" && "$2" --root "$1" annotate -l MIT -r . &&
+    head -n 1 "$1/mounted/a.py" && stat -c %a "$1/mounted/a.py" &&
+    echo left > "$1/mounted/.reuse-undo-new.$(stat -c %i "$1/.reuse/undo")" &&
+    "$2" undo --root "$1" && cat "$1/mounted/a.py" && ls -A "$1/mounted" &&
+    cat "$1/mounted/.reuse-undo-new" "$1/mounted/.reuse-undo-new.0"'
   anew
   mkdir "$tree/mounted"
   if ! unshare -m mount -t tmpfs none "$tree/mounted" 2> "$room/error"; then
@@ -194,7 +198,8 @@ mounted() {
   fi
   unshare -m bash -c "$script" bash "$tree" "$program" > "$room/out" 2>&1 ||
     fail "below a mount: $(cat "$room/out")"
-  printf '%s\n' 'changed mounted/a.py' "$header" 755 'undone mounted/a.py' x a.py |
+  printf '%s\n' 'changed mounted/a.py' "$header" 755 'undone mounted/a.py' x .reuse-undo-new \
+    .reuse-undo-new.0 a.py mine mine |
     cmp -s - "$room/out" || fail "below a mount: $(cat "$room/out")"
 }
 

@@ -41,7 +41,7 @@ impl<'a> Parts<'a> {
         }
     }
 
-    /// The bytes of the file, in one copy.
+    // The bytes of the file, in one copy.
     pub fn join(self, alloc: Global) -> Result<Bytes, AllocError>
         ensures { IfOk result (λ bytes. bytes ≡ joined self.entry) }
     {

@@ -15,7 +15,6 @@ ghost use Rattle.reuse_dep5.specs.Conversion.{converted};
 
 use crate::refusal::{Dep5Cause, Dep5Refusal};
 use reuse_text::LONGEST_FILE;
-
 pub use reuse_toml::{glob_text_is_read_back, globs_are_decided};
 
 /// Paragraphs are read as a dep5 exactly where they are grammatical, and refused exactly by their

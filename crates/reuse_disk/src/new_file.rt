@@ -12,8 +12,8 @@ use crate::syncs::Unsynced;
 use reuse_change::Parts;
 use reuse_system::fault::{FolderFault, Obstacle};
 use reuse_system::handle::OpenFolder;
-use reuse_system::kept_out::{NEW, NEW_BESIDE, is_in_journal};
-use reuse_system::new_name::NewName;
+use reuse_system::kept_out::{NEW, is_in_journal};
+use reuse_system::new_name::{NewName, beside_name};
 use reuse_system::owner::{Owner, Process};
 use reuse_system::parts_writer::write_parts;
 use reuse_system::place::{FileStatus, Found, folder_and_name};
@@ -397,6 +397,7 @@ impl NewFile {
     fn write_beside<S: System>(
         &mut self,
         system: &mut S,
+        alloc: Global,
         target: Target<'_>,
         content: Content<'_>,
         unsynced: &mut Unsynced,
@@ -410,7 +411,8 @@ impl NewFile {
         ensures guarded { IsGuarded (IsNewPlace self.old.folder.identity target.entry.folder.now.identity) (name_in target.entry.folder.now target.entry.name.now) content.entry.found
             (S.changes system.old) (S.changes system.new) (S.holds system.old) (S.holds system.new) }
     {
-        let aside = make(system, target.folder, NEW_BESIDE, content.mode())?;
+        let name = beside_name(alloc, &self.folder)?;
+        let aside = make(system, target.folder, name.as_str(), content.mode())?;
         self.forget_granted();
         let written = self.put_or_discard(system, &aside, target, content, unsynced);
         self.forget_granted();
@@ -423,6 +425,7 @@ impl NewFile {
     pub fn write<S: System>(
         &mut self,
         system: &mut S,
+        alloc: Global,
         target: Target<'_>,
         content: Content<'_>,
         unsynced: &mut Unsynced,
@@ -439,7 +442,7 @@ impl NewFile {
         match self.write_here(system, target, content, unsynced) {
             Err(FolderFault::Device(Obstacle::System(error)))
                 if error.kind() == ErrorKind::CrossesDevices => {
-                self.write_beside(system, target, content, unsynced)
+                self.write_beside(system, alloc, target, content, unsynced)
             }
             written => written,
         }

@@ -212,6 +212,7 @@ impl<R: Files<File = File> + AllocGlobal + Clone + Drop> RootFolder<R> {
             listing.take_folder(alloc, "")?;
         }
         for (index, place) in folders.iter().enumerate() {
+            self.keeping.note_path(place.text());
             if !is_repeated(folders, index, place) {
                 self.take_place(alloc, place, &mut listing)?;
             }

@@ -1,6 +1,7 @@
 //! How the files of a folder keep their owners. A file that can't keep its owner is not written
-//! anew, unless that is allowed. A call is held before its first put if it has read such a file, so
-//! that it can be looked at, before it begins, whether it would write that file.
+//! anew, unless that is allowed. A call is held before its first put if it has read such a file, or
+//! asked for one whose name is too long, so that it can be looked at, before it begins, whether it
+//! would write that file.
 ghost use Rattle.std.specs.Prelude.{◌≡◌, ◌↔◌, IsErr, IfErr, true};
 ghost use Rattle.reuse_system.specs.KeptOut.{begins_journal};
 ghost use Rattle.reuse_system.specs.Owners.{cannot_keep, rights_of_mode};
@@ -14,7 +15,7 @@ use reuse_system::fault::{FolderFault, Obstacle};
 use reuse_system::handle::OpenFolder;
 use reuse_system::kept_out::is_in_journal;
 use reuse_system::owner::{Owner, OwnerChange, Process};
-use reuse_system::place::FileStatus;
+use reuse_system::place::{FileStatus, ends_in_long_name};
 use reuse_system::process::ProcessIds;
 
 /// Whether a call is held before its first put.
@@ -22,12 +23,12 @@ use reuse_system::process::ProcessIds;
 enum Hold {
     /// It isn't.
     Off,
-    /// It is if it reads a file that can't keep its owner.
+    /// It is if it asks for a file that can't be written.
     Watching,
-    /// It has read one.
+    /// It has asked for one.
     Due,
     /// It was held.
-    FileState,
+    Held,
 }
 
 /// What a run did to owners and names.
@@ -78,16 +79,14 @@ impl Keeping {
     }
 
     /// From now on a call is held before its first put if it reads a file that can't keep its
-    /// owner. It isn't if such files may be written.
+    /// owner, unless such files may be written, or if it asks for a name that no file can have.
     pub fn watch(&mut self) {
-        if self.owner_change == OwnerChange::Refused {
-            self.hold = Hold::Watching;
-        }
+        self.hold = Hold::Watching;
     }
 
     /// No call is held any more; whether one was.
     pub fn release(&mut self) -> bool {
-        let was_held = self.hold == Hold::FileState;
+        let was_held = self.hold == Hold::Held;
         self.hold = Hold::Off;
         was_held
     }
@@ -107,10 +106,17 @@ impl Keeping {
         }
     }
 
+    /// This path was asked for: whether a file stands there, or below.
+    pub fn note_path(&mut self, path: &str) {
+        if self.hold == Hold::Watching && ends_in_long_name(path) {
+            self.hold = Hold::Due;
+        }
+    }
+
     /// Fails before the first put of a call that is to be held.
     pub fn check_hold(&mut self) -> Result<(), FolderFault> {
-        if matches!(self.hold, Hold::Due | Hold::FileState) {
-            self.hold = Hold::FileState;
+        if matches!(self.hold, Hold::Due | Hold::Held) {
+            self.hold = Hold::Held;
             return Err(FolderFault::Device(Obstacle::Owned));
         }
         Ok(())

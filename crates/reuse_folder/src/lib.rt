@@ -12,6 +12,7 @@ ghost use Rattle.reuse_store.specs.Store.{reading_of};
 ghost use Rattle.reuse_folder.specs.FolderReads.{IsReadWith};
 ghost use Rattle.reuse_folder.specs.FolderWrites.{IsGone, IsPutIn, IsRemovedIn, IsStoredAt};
 ghost use Rattle.reuse_folder.specs.RolledBack.{foreign_of};
+ghost use Rattle.reuse_folder.specs.Seen.{LoseNoEdits, LosesNoEditAfter};
 ghost use Rattle.reuse_disk.specs.Written.{is_kept};
 ghost use Rattle.std.specs.Result.{result_map_both};
 ghost use Rattle.reuse_store.specs.Calls.Call.{ListCall};
@@ -100,8 +101,8 @@ impl<R: Files<File = File> + AllocGlobal + Clone + Drop> DiskStore<R> {
     }
 
     /// From now on the first put of a call fails if a file was read that can't keep its owner,
-    /// unless that is allowed.
-    pub fn watch_owners(&mut self) {
+    /// unless that is allowed, or if a name was asked for that no file can have.
+    pub fn watch_writes(&mut self) {
         self.folder.keeping().watch();
     }
 
@@ -135,7 +136,7 @@ impl<R: Files<File = File> + AllocGlobal + Clone + Drop> DiskStore<R> {
     }
 
     /// No put fails for that any more, but those of such files; whether one has failed.
-    pub fn release_owners(&mut self) -> bool {
+    pub fn release_writes(&mut self) -> bool {
         self.folder.keeping().release()
     }
 
@@ -220,6 +221,7 @@ impl<R: Files<File = File> + AllocGlobal + Clone + Drop> DiskStore<R> {
         answer: Result<(), FolderFault>,
     ) -> Result<(), StoreFault>
         ensures write { IsWrite ⟦<DiskStore<R> as Store>⟧ write.now.path.now write.now.file self.old self.new result }
+        ensures folder { self.new.folder ≡ self.old.folder }
         ensures ok { answer ≡ Ok tt → result ≡ Ok tt }
         ensures fails { IfErr answer (λ fault. result ≡ Err (fault_of_store fault)) }
     {
@@ -231,7 +233,8 @@ impl<R: Files<File = File> + AllocGlobal + Clone + Drop> DiskStore<R> {
 
     // Notes writes that were made.
     fn note_made(&mut self, alloc: Global, writes: &[FileWrite])
-        ensures { AreWrites ⟦<DiskStore<R> as Store>⟧ writes.now self.old self.new (Ok tt) }
+        ensures writes { AreWrites ⟦<DiskStore<R> as Store>⟧ writes.now self.old self.new (Ok tt) }
+        ensures folder { self.new.folder ≡ self.old.folder }
     {
         for write in writes {
             let _ = self.note_write(alloc, write, Ok(()));
@@ -247,7 +250,8 @@ impl<R: Files<File = File> + AllocGlobal + Clone + Drop> DiskStore<R> {
         answer: Result<(), Stop>,
     ) -> Result<(), StoreFault>
         requires { IfErr answer (λ stop. stop.made < length writes.now) }
-        ensures { AreWrites ⟦<DiskStore<R> as Store>⟧ writes.now self.old self.new result }
+        ensures writes { AreWrites ⟦<DiskStore<R> as Store>⟧ writes.now self.old self.new result }
+        ensures folder { self.new.folder ≡ self.old.folder }
     {
         match answer {
             Ok(()) => {
@@ -341,6 +345,10 @@ impl<R: Files<File = File> + AllocGlobal + Clone + Drop> Store for DiskStore<R> 
         ensures place { ⟦<HostSystem<R> as System>⟧.honest self.new.folder.system
             → IsPutIn (⟦<HostSystem<R> as System>⟧.folders self.new.folder.system) path.now (joined parts.entry) (is_kept self.old.folder.unsynced.syncs)
             (⟦<HostSystem<R> as System>⟧.holds self.old.folder.system) (⟦<HostSystem<R> as System>⟧.holds self.new.folder.system) (is_ok result) }
+        // The file at the path stays if it isn't what was read there.
+        ensures keeps_edits { LosesNoEditAfter self.old.folder.reads.items path.now
+            (⟦<HostSystem<R> as System>⟧.changes self.old.folder.system) (⟦<HostSystem<R> as System>⟧.changes self.new.folder.system)
+            (⟦<HostSystem<R> as System>⟧.holds self.old.folder.system) (⟦<HostSystem<R> as System>⟧.holds self.new.folder.system) }
     {
         let answer = self.folder.put(alloc, path, parts);
         self.note_put(alloc, path, parts, answer)
@@ -354,12 +362,21 @@ impl<R: Files<File = File> + AllocGlobal + Clone + Drop> Store for DiskStore<R> 
             → IfOk result (λ _. IsGone (⟦<HostSystem<R> as System>⟧.folders self.new.folder.system) (⟦<HostSystem<R> as System>⟧.holds self.new.folder.system) path.now) }
         ensures place { ⟦<HostSystem<R> as System>⟧.honest self.new.folder.system
             → IsRemovedIn (⟦<HostSystem<R> as System>⟧.folders self.new.folder.system) path.now (⟦<HostSystem<R> as System>⟧.holds self.old.folder.system) (⟦<HostSystem<R> as System>⟧.holds self.new.folder.system) }
+        // The file at the path stays if it isn't what was read there.
+        ensures keeps_edits { LosesNoEditAfter self.old.folder.reads.items path.now
+            (⟦<HostSystem<R> as System>⟧.changes self.old.folder.system) (⟦<HostSystem<R> as System>⟧.changes self.new.folder.system)
+            (⟦<HostSystem<R> as System>⟧.holds self.old.folder.system) (⟦<HostSystem<R> as System>⟧.holds self.new.folder.system) }
     {
         let answer = self.folder.remove(alloc, path);
         self.note_removal(alloc, path, answer)
     }
 
-    fn write_all(&mut self, alloc: Global, writes: &[FileWrite]) -> Result<(), StoreFault> {
+    fn write_all(&mut self, alloc: Global, writes: &[FileWrite]) -> Result<(), StoreFault>
+        ensures writes { AreWrites ⟦<DiskStore<R> as Store>⟧ writes.now self.old self.new result }
+        // No path changes at which something else stands than was read there.
+        ensures keeps_edits { LoseNoEdits self.old.folder.reads.items writes.now
+            (⟦<HostSystem<R> as System>⟧.changes self.old.folder.system) (⟦<HostSystem<R> as System>⟧.changes self.new.folder.system) }
+    {
         if writes.is_empty() {
             return Ok(());
         }

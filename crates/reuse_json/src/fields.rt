@@ -88,11 +88,7 @@ fn bytes_of(alloc: Global, value: &Value) -> Result<Bytes, DecodeFault>
 }
 
 /// The bytes of the next member, which has to have this key.
-pub fn next_bytes(
-    alloc: Global,
-    fields: &mut Fields<'_>,
-    key: &str,
-) -> Result<Bytes, DecodeFault>
+pub fn next_bytes(alloc: Global, fields: &mut Fields<'_>, key: &str) -> Result<Bytes, DecodeFault>
     ensures { GivesBy (λ bytes. (bytes, members_view fields.new)) result (field_in hex_in key.now (members_view fields.old)) }
 {
     bytes_of(alloc, field(fields, key)?)
@@ -135,11 +131,7 @@ fn path_of(alloc: Global, value: &Value) -> Result<PathText, DecodeFault>
 }
 
 /// The path of the next member, which has to have this key.
-pub fn next_path(
-    alloc: Global,
-    fields: &mut Fields<'_>,
-    key: &str,
-) -> Result<PathText, DecodeFault>
+pub fn next_path(alloc: Global, fields: &mut Fields<'_>, key: &str) -> Result<PathText, DecodeFault>
     ensures { GivesBy (λ path. (path, members_view fields.new)) result (field_in path_in key.now (members_view fields.old)) }
 {
     path_of(alloc, field(fields, key)?)

@@ -60,11 +60,7 @@ fn append_digits(text: &mut Vec<u8>, bytes: &[u8]) -> Result<(), AllocError>
 }
 
 /// A string.
-pub fn append_string(
-    alloc: Global,
-    text: &mut Vec<u8>,
-    content: &str,
-) -> Result<(), AllocError>
+pub fn append_string(alloc: Global, text: &mut Vec<u8>, content: &str) -> Result<(), AllocError>
     ensures { OnOk result (text.new.items ≡ text.old.items ++ quoted content.now) }
 {
     if !is_plain(content.as_bytes()) {

@@ -1,8 +1,8 @@
 -- Places of files that are written aside or read, and of names in open folders.
-use Rattle.std.specs.Prelude.{◌≡◌, ◌⊎◌, ℕ, List, string_bytes, IsTrue}
+use Rattle.std.specs.Prelude.{◌≡◌, ◌⊎◌, ◌++◌, ℕ, List, codes, decimal, string_bytes, IsTrue}
 use Rattle.reuse_system.specs.FileStates.{FileKey, Place, place_in}
 use Rattle.reuse_system.specs.FileStates.FileKey.{Made}
-use Rattle.reuse_system.specs.KeptOut.{is_new_name, new_name}
+use Rattle.reuse_system.specs.KeptOut.{is_new_name}
 use Rattle.reuse_system.specs.declared.place.Identity.{Identity}
 use Rattle.reuse_system.specs.declared.handle.OpenFolder.{OpenFolder}
 use Rattle.reuse_system.specs.declared.system.Aside.{Aside}
@@ -28,6 +28,11 @@ key_of aside = Made aside.number
 abbrev pub IsNewIn : Identity → Place → Type 0
 IsNewIn folder place = (name : List ℕ) × IsTrue (is_new_name name) × (place ≡ place_in folder name)
 
+-- The name of a file that is written beside the one that it is to be: behind the dot stands the number of the folder
+-- of new files, so it is no name of anybody else's.
+abbrev pub beside_name : Identity → List ℕ
+beside_name new_files = codes ".reuse-undo-new." ++ decimal new_files.number
+
 -- where a new file is written: in the folder of new files, or else beside the one that it is to be
 abbrev pub IsNewPlace : Identity → Identity → Place → Type 0
-IsNewPlace new_files target place = IsNewIn new_files place ⊎ (place ≡ place_in target new_name)
+IsNewPlace new_files target place = IsNewIn new_files place ⊎ (place ≡ place_in target (beside_name new_files))

@@ -5,10 +5,6 @@ use Rattle.std.specs.List.{starts_with, list_all}
 use Rattle.std.specs.Str.{bytes_eq, str_eq_ignore_ascii_case}
 use Rattle.reuse_system.specs.Names.{between_slashes}
 
--- the name of a file that is written beside the one that it is to be
-abbrev pub new_name : List ℕ
-new_name = codes ".reuse-undo-new"
-
 -- A folder of this name holds what version control keeps. Capital and small letters are the same, as they are on some
 -- file systems, but in `CVS`: a folder of sources may be called `cvs`.
 abbrev pub is_control_folder : List ℕ → Bool
@@ -18,11 +14,6 @@ is_control_folder name =
     || str_eq_ignore_ascii_case name (codes ".sl") || str_eq_ignore_ascii_case name (codes ".pijul") || str_eq_ignore_ascii_case name (codes ".repo")
     || bytes_eq name (codes "CVS")
 
--- a file of this name leads to what version control keeps elsewhere, as that of a submodule does, or hasn't its name
--- yet
-abbrev pub is_name_kept_out : List ℕ → Bool
-is_name_kept_out name = str_eq_ignore_ascii_case name (codes ".git") || bytes_eq name new_name
-
 -- the names begin with those of a journal's folder
 abbrev pub begins_journal : List (List ℕ) → Bool
 begins_journal (first ∷ second ∷ names) = bytes_eq first (codes ".reuse") && bytes_eq second (codes "undo")
@@ -31,6 +22,17 @@ begins_journal names = false
 -- a number in decimal digits
 abbrev pub is_number : List ℕ → Bool
 is_number bytes = not (length bytes == 0) && list_all is_ascii_digit bytes
+
+-- A file of this name may be one that was written beside the one that it is to be: the number is that of a journal's
+-- folder.
+abbrev pub is_beside_name : List ℕ → Bool
+is_beside_name name =
+    bytes_eq name (codes ".reuse-undo-new") || (starts_with nat_eq name (codes ".reuse-undo-new.") && is_number (drop 16 name))
+
+-- a file of this name leads to what version control keeps elsewhere, as that of a submodule does, or hasn't its name
+-- yet
+abbrev pub is_name_kept_out : List ℕ → Bool
+is_name_kept_out name = str_eq_ignore_ascii_case name (codes ".git") || is_beside_name name
 
 -- A file of this name in a journal's folder was written aside and has no name of its own yet: the first one, or one of
 -- several.

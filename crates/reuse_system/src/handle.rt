@@ -3,12 +3,12 @@
 //! through its handle, so a folder that is moved or replaced meanwhile is worked where it is, and
 //! no link is followed that has taken its place. Races with other programs are tested by
 //! tests/races.sh.
-ghost use Rattle.std.specs.Prelude.{◌≡◌, ◌++◌, IfOk, string_bytes};
+ghost use Rattle.std.specs.Prelude.{◌≡◌, ◌++◌, IfOk, Ok, length, nat_lt, string_bytes, true};
 
 use crate::bare::is_bare_repository;
 use crate::fault::{FolderFault, Obstacle};
 use crate::owner::Owner;
-use crate::place::{FileStatus, Found, Identity, look_at};
+use crate::place::{FileStatus, Found, Identity, is_long_name, look_at};
 use crate::process::ProcessIds;
 use std::alloc::{AllocError, Global};
 use std::fs::{self, File, Metadata, OpenOptions};
@@ -22,9 +22,6 @@ const WRITTEN_BY_OTHERS: u32 = 0o022;
 
 /// The bit of a folder's mode by which it passes its group on to what is made in it.
 const PASSES_GROUP: u32 = 0o2000;
-
-/// The most bytes that a name can have on Linux.
-const LONGEST_NAME: usize = 255;
 
 /// A folder that is open, and the very one that was looked at.
 #[derive(Drop)]
@@ -210,8 +207,10 @@ impl OpenFolder {
 
     /// What stands at this name. Where it is longer than any name can be, nothing does, though the
     /// system tells that as a fault.
-    pub fn look(&self, rt: &impl Files, alloc: Global, name: &str) -> Result<Found, FolderFault> {
-        if name.len() > LONGEST_NAME {
+    pub fn look(&self, rt: &impl Files, alloc: Global, name: &str) -> Result<Found, FolderFault>
+        ensures long { nat_lt 255 (length name.now) ≡ true → result ≡ Ok Found.Nothing }
+    {
+        if is_long_name(name) {
             return Ok(Found::Nothing);
         }
         look_at(rt, self.path_of(alloc, name)?.as_str())

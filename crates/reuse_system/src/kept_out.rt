@@ -5,7 +5,7 @@ ghost use Rattle.std.specs.List.{list_all};
 ghost use Rattle.std.specs.Option.{option_map_or};
 ghost use Rattle.std.specs.Str.{str_eq_ignore_ascii_case};
 ghost use Rattle.reuse_system.specs.Names.{between_slashes};
-ghost use Rattle.reuse_system.specs.KeptOut.{is_control_folder, is_name_kept_out, begins_journal, is_number, is_new_name, begins_new, is_new_in_reuse, is_new, is_foreign, is_kept_out, is_folder_kept_out};
+ghost use Rattle.reuse_system.specs.KeptOut.{is_control_folder, is_name_kept_out, begins_journal, is_number, is_beside_name, is_new_name, begins_new, is_new_in_reuse, is_new, is_foreign, is_kept_out, is_folder_kept_out};
 
 /// The folder of the journal.
 pub const JOURNAL: &str = ".reuse/undo";
@@ -20,8 +20,8 @@ pub const HEAD: &str = "head.json";
 /// at once, the others have a dot and a number behind it.
 pub const NEW: &str = "new";
 
-/// The name of that file where it is written beside the one that it is to be, since the journal's
-/// folder lies on another device.
+/// How the name of that file begins where it is written beside the one that it is to be, since the
+/// journal's folder lies on another device. A dot and that folder's number stand behind it.
 pub const NEW_BESIDE: &str = ".reuse-undo-new";
 
 /// Whether the names are the same but for capital and small letters.
@@ -46,13 +46,6 @@ fn is_control_folder(name: &str) -> bool
         || is_same(name, ".pijul")
         || is_same(name, ".repo")
         || name == "CVS"
-}
-
-/// Whether a file of this name is no part of the tree.
-fn is_name_kept_out(name: &str) -> bool
-    ensures { result ≡ is_name_kept_out name.now }
-{
-    is_same(name, ".git") || name == NEW_BESIDE
 }
 
 /// The first name along the path, and what stands behind the slash after it.
@@ -95,6 +88,21 @@ fn is_number(bytes: &[u8]) -> bool
     ensures { result ≡ is_number bytes.now }
 {
     !bytes.is_empty() && are_digits(bytes)
+}
+
+/// Whether a file of this name may be one that is written beside the one that it is to be.
+fn is_beside_name(name: &str) -> bool
+    ensures { result ≡ is_beside_name name.now }
+{
+    let bytes = name.as_bytes();
+    name == NEW_BESIDE || (bytes.starts_with(b".reuse-undo-new.") && is_number(&bytes[16..]))
+}
+
+/// Whether a file of this name is no part of the tree.
+fn is_name_kept_out(name: &str) -> bool
+    ensures { result ≡ is_name_kept_out name.now }
+{
+    is_same(name, ".git") || is_beside_name(name)
 }
 
 /// Whether a file of this name in the journal's folder has no name of its own yet.

@@ -1,10 +1,11 @@
-//! Names of new files in the journal's folder.
-ghost use Rattle.std.specs.Prelude.{◌≡◌, IsTrue, string_bytes, true};
+//! Names of new files: in the journal's folder, or beside the files that they are to be.
+ghost use Rattle.std.specs.Prelude.{◌≡◌, IfOk, IsTrue, string_bytes, true};
+ghost use Rattle.reuse_system.specs.Asides.{beside_name};
 ghost use Rattle.reuse_system.specs.KeptOut.{is_new_name};
 
 use crate::fault::FolderFault;
 use crate::handle::OpenFolder;
-use crate::kept_out::{NEW, is_new_name};
+use crate::kept_out::{NEW, NEW_BESIDE, is_new_name};
 use std::alloc::{AllocError, Global};
 use std::fs::{self, File};
 use std::rt::Files;
@@ -42,6 +43,15 @@ impl NewName {
     {
         self.name.as_str()
     }
+}
+
+/// The name of a file that is written beside the one that it is to be, if this is the folder of new
+/// files: no run with another journal takes it, and nobody else would.
+pub fn beside_name(alloc: Global, new_files: &OpenFolder) -> Result<String, AllocError>
+    ensures { IfOk result (λ name. string_bytes name ≡ beside_name new_files.now.identity) }
+{
+    let number = new_files.identity().number();
+    Ok(format!(in alloc; "{NEW_BESIDE}.{number}")?)
 }
 
 /// The names of the new files that a stopped run has left in this folder.

@@ -1,5 +1,5 @@
 //! What stands at a path below a root. No link is followed.
-ghost use Rattle.std.specs.Prelude.{◌≡◌, IsTrue};
+ghost use Rattle.std.specs.Prelude.{◌≡◌, ℕ, List, IsTrue, length, nat_lt};
 ghost use Rattle.reuse_system.specs.Owners.{rights_of_mode};
 ghost use Rattle.reuse_system.specs.Names.{IsNameOf, IsSplit};
 
@@ -13,6 +13,9 @@ use std::time::Duration;
 
 /// The bits of a file's mode that a rewritten file keeps: who may read, write and run it.
 const KEPT_BITS: u32 = 0o777;
+
+/// The most bytes that a name can have on Linux.
+const LONGEST_NAME: usize = 255;
 
 /// A device, and a number on it: no two files or folders have both.
 #[derive(Clone, Copy, PartialEq, Eq)]
@@ -28,6 +31,13 @@ impl Identity {
             device: metadata.dev(),
             number: metadata.ino(),
         }
+    }
+
+    /// The number on the device.
+    pub(crate) fn number(self) -> u64
+        ensures { result ≡ self.number }
+    {
+        self.number
     }
 
     /// Whether the file or folder of this identity is found at this path.
@@ -226,6 +236,21 @@ pub fn folder_and_name(path: &str) -> (&str, &str)
     ensures split { IsSplit path.now result.0.now result.1.now }
 {
     path.rsplit_once('/').unwrap_or(("", path))
+}
+
+/// Whether a name is longer than any can be.
+pub fn is_long_name(name: &str) -> bool
+    ensures { result ≡ nat_lt 255 (length name.now) }
+{
+    name.len() > LONGEST_NAME
+}
+
+/// Whether the name at the end of the path is longer than any can be.
+pub fn ends_in_long_name(path: &str) -> bool
+    ensures { (name : List ℕ) × IsNameOf path.now name × (result ≡ nat_lt 255 (length name)) }
+{
+    let (_, name) = folder_and_name(path);
+    is_long_name(name)
 }
 
 /// What stands at this place, as the system takes it.

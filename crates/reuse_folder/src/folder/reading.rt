@@ -5,9 +5,9 @@ ghost use Rattle.reuse_folder.specs.Seen.{expected_of, IsNoted, IsSeenBefore};
 ghost use Rattle.reuse_system.specs.KeptOut.{is_kept_out};
 ghost use Rattle.reuse_system.specs.Within.{IsWithin};
 
-use crate::rolled_back::Foreign;
 use super::RootFolder;
 use super::seen::ReadPath;
+use crate::rolled_back::Foreign;
 use reuse_change::PathText;
 use reuse_store::Reading;
 use reuse_system::fault::{FolderFault, Obstacle};

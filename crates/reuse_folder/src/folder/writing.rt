@@ -147,7 +147,7 @@ impl<R: Files<File = File> + AllocGlobal + Clone + Drop> RootFolder<R> {
             wanted: self.keeping.wanted(target.folder, found),
             found,
         };
-        let written = new_file.write(&mut self.system, target, content, &mut self.unsynced);
+        let written = new_file.write(&mut self.system, alloc, target, content, &mut self.unsynced);
         self.note_written(path, found, new_file, written.is_ok());
         written
     }

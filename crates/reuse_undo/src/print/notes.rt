@@ -314,6 +314,10 @@ pub fn note_denial(rt: &impl Eprint, denial: &Denial) {
             "written anew, this file would have another owner or group, and somebody more or less access than now: \
             --allow-owner-change writes it all the same"
         }
+        Denial::NameTooLong(_) => {
+            "the file that would be made has a name of more than 255 bytes, which none can have: \
+            with --style annotate writes into the file itself"
+        }
     };
     note(rt, text);
 }

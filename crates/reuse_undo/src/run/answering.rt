@@ -1,7 +1,7 @@
-//! Makes the call that a line asks for, unless it would take a file from its owner. That shows only
-//! once the call has planned what it changes. So it is held before its first put if it has read a
-//! file that can't keep its owner, and then what it would change is looked at, path by path, as in
-//! a dry run.
+//! Makes the call that a line asks for, unless it would take a file from its owner, or make one
+//! whose name no file can have. That shows only once the call has planned what it changes. So it is
+//! held before its first put if it has asked for such a file, and then what it would change is
+//! looked at, path by path, as in a dry run.
 ghost use Rattle.std.specs.Prelude.{◌≡◌, ◌≤◌};
 ghost use Rattle.reuse_command.specs.Answer.{TellsNoFault};
 ghost use Rattle.reuse_journal.specs.Journal.{State};
@@ -19,6 +19,7 @@ use reuse_print::output::Output;
 use reuse_session::{Call, Counts, PathOutcome, PathOutcomes, Refusal, Request, Session};
 use reuse_shown::progress::{ClearedOutput, Progress};
 use reuse_store::Store;
+use reuse_system::place::ends_in_long_name;
 use std::alloc::Global;
 use std::fs::File;
 use std::io;
@@ -38,8 +39,8 @@ pub struct Asking<'a, R: Clock + Eprint + Drop> {
     pub options: PrintOptions,
 }
 
-/// Answers the request and prints the answer, unless it is a call and a file that it would change
-/// can't keep its owner. It answers what the call counted, too.
+/// Answers the request and prints the answer, unless it is a call and would change a file that
+/// can't be written. It answers what the call counted, too.
 pub fn answer<R: Files<File = File> + AllocGlobal + Clock + Env + Print + Eprint + Clone + Drop>(
     folder: DiskStore<R>,
     alloc: Global,
@@ -55,27 +56,23 @@ pub fn answer<R: Files<File = File> + AllocGlobal + Clock + Env + Print + Eprint
 }
 
 /// Makes the call that is asked for. If it was held before its first put, it is made once more if
-/// it changes no file that can't keep its owner.
+/// it changes no file that can't be written.
 fn make<R: Files<File = File> + AllocGlobal + Clock + Env + Print + Eprint + Clone + Drop>(
     mut folder: DiskStore<R>,
     alloc: Global,
     asking: &Asking<'_, R>,
     call: &Call,
 ) -> (DiskStore<R>, CallEnding, Counts) {
-    folder.watch_owners();
+    folder.watch_writes();
     folder.remember_files(time_now(asking.rt));
     let (mut folder, outcome, counts) = answer_at_once(folder, alloc, asking);
-    if !folder.release_owners() {
+    if !folder.release_writes() {
         return (folder, Ok(outcome), counts);
     }
     drop(outcome);
-    let (folder, lost) = first_lost(folder, alloc, call);
-    match lost {
-        Some(path) => (
-            folder,
-            Err(Denial::CannotKeepOwner(path)),
-            Counts::none(alloc),
-        ),
+    let (folder, denial) = first_denial(folder, alloc, call);
+    match denial {
+        Some(denial) => (folder, Err(denial), Counts::none(alloc)),
         None => {
             let (folder, outcome, counts) = answer_at_once(folder, alloc, asking);
             (folder, Ok(outcome), counts)
@@ -112,37 +109,57 @@ fn answer_at_once<
     (folder, outcome, counts)
 }
 
-/// The first path that the call would change and whose file can't keep its owner, if there is one.
-/// If the call would be refused or fail, the call itself reports that.
-fn first_lost<R: Files<File = File> + AllocGlobal + Clone + Drop>(
+/// Why the first path can't be written that the call would change and that can't be, if there is
+/// one. If the call would be refused or fail, the call itself reports that.
+fn first_denial<R: Files<File = File> + AllocGlobal + Clone + Drop>(
     folder: DiskStore<R>,
     alloc: Global,
     call: &Call,
-) -> (DiskStore<R>, Option<PathText>) {
+) -> (DiskStore<R>, Option<Denial>) {
     let (mut folder, path_outcomes) = preview(alloc, folder, call);
-    let lost = match path_outcomes {
-        Ok(path_outcomes) => lost_among(alloc, &mut folder, path_outcomes.as_slice()),
+    let denial = match path_outcomes {
+        Ok(path_outcomes) => denial_among(alloc, &mut folder, path_outcomes.as_slice()),
         Err(_) => None,
     };
-    (folder, lost)
+    (folder, denial)
 }
 
-fn lost_among<R: Files<File = File> + AllocGlobal + Clone + Drop>(
+fn denial_among<R: Files<File = File> + AllocGlobal + Clone + Drop>(
     alloc: Global,
     folder: &mut DiskStore<R>,
     path_outcomes: &[PathOutcome],
-) -> Option<PathText> {
+) -> Option<Denial> {
     if is_refused(path_outcomes) {
         return None;
     }
     for path_outcome in path_outcomes {
         if let PathOutcome::Changes(path) = path_outcome
-            && folder.may_write(alloc, path) == Ok(false)
+            && let Some(denial) = denial_of(alloc, folder, path)
         {
-            return path.try_clone(alloc).ok();
+            return Some(denial);
         }
     }
     None
+}
+
+/// Why the file at this path can't be written, if that shows before.
+fn denial_of<R: Files<File = File> + AllocGlobal + Clone + Drop>(
+    alloc: Global,
+    folder: &mut DiskStore<R>,
+    path: &PathText,
+) -> Option<Denial> {
+    if ends_in_long_name(path.text()) {
+        return Some(Denial::NameTooLong(file_of(alloc, path)?));
+    }
+    let is_lost = folder.may_write(alloc, path) == Ok(false);
+    let path = path.try_clone(alloc).ok()?;
+    is_lost.then_some(Denial::CannotKeepOwner(path))
+}
+
+/// The file that the one at this path is the neighbour of, if it is one.
+fn file_of(alloc: Global, path: &PathText) -> Option<PathText> {
+    let file = path.text().strip_suffix(".license");
+    PathText::new(alloc, file.unwrap_or(path.text())).ok()
 }
 
 /// What a call would do, path by path. Nothing is changed, unless a step is pending, which is

@@ -13,6 +13,8 @@ pub enum Denial {
     JournalOfAnother,
     /// A file that the call would change can't keep its owner or its group.
     CannotKeepOwner(PathText),
+    /// The call would make this file or its neighbour, and no name can be that long.
+    NameTooLong(PathText),
 }
 
 impl fmt::Display for Denial {
@@ -22,6 +24,7 @@ impl fmt::Display for Denial {
         match self {
             Denial::JournalOfAnother => f.write_str("journal of another user"),
             Denial::CannotKeepOwner(path) => write!(f, "{}: cannot keep its owner", path.text()),
+            Denial::NameTooLong(path) => write!(f, "{}: too long", path.text()),
         }
     }
 }

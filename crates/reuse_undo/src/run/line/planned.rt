@@ -6,8 +6,8 @@ ghost use Rattle.reuse_undo.specs.run.Drawn.{planned_in, planned_unless, IsAnswe
 ghost use Rattle.reuse_session.specs.session.Requests.{as_answer};
 
 use super::printed::is_refused;
-use reuse_change::Direction::{Backward, Forward};
 use reuse_change::Direction;
+use reuse_change::Direction::{Backward, Forward};
 use reuse_session::{Answer, Call, Changes, Previewed, Refusal, Request, Response, Session};
 use reuse_store::Store;
 use std::alloc::Global;

@@ -1,7 +1,6 @@
-use Rattle.std.proofs.Common.{◌≡◌, ◌∙◌, inl, inr, refl, sym, subst}
-use Rattle.std.specs.Prelude.{codes}
-use Rattle.reuse_system.specs.Asides.{name_in, place_of, IsNewIn, IsNewPlace}
-use Rattle.reuse_system.specs.FileStates.{Place}
+use Rattle.std.proofs.Common.{◌≡◌, ◌∙◌, ap, inr}
+use Rattle.reuse_system.specs.Asides.{name_in, place_of, IsNewPlace}
+use Rattle.reuse_system.specs.FileStates.{Place, place_in}
 use Rattle.reuse_disk.proofs.EditLemmas.{guarded_only, guarded_then, guarded_weaker, only_weaker}
 use Rattle.reuse_disk.proofs.new_file.NewFile.write_beside.Goals as goal
 
@@ -12,8 +11,8 @@ returns-clause-guarded g c =
     let to = c.args.target.folder.now.identity in
     let target = name_in c.args.target.folder.now c.args.target.name.now in
     let seen = c.args.content.found in
-    let place = name_in c.args.target.folder.now (codes ".reuse-undo-new") in
-    let is : (other : Place) → other ≡ place → IsNewPlace folder to other = λ other e. inr e in
+    let place = name_in c.args.target.folder.now c.as_str.result.now in
+    let is : (other : Place) → other ≡ place → IsNewPlace folder to other = λ other e. inr (e ∙ ap (place_in to) (c.as_str.ensures.value ∙ c.in_ok-name.ensures)) in
     let a = c.args.system.now in
     let b = c.make.new.system in
     let d = c.put_or_discard-written.new.system in
