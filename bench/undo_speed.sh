@@ -2,14 +2,13 @@
 # Measures annotate, undo and redo without syncs on a tmpfs, on three trees: 20,000 Python files of
 # some 3 kB, as many of some 16 kB, and 100,000 of some bytes. Beside them in the same run: `cp -r`
 # of the same tree; the floor, a C program that reads each file once, writes it aside with a header,
-# and renames it; and the goal, half again of the floor and the time in which the kit's SHA-256
-# hashes each file of the tree twice, right after it was read, as the seals of a step ask for
-# (without seals, for a journal of version 1.0, half again of the floor alone). Each call begins a
-# tenth of a second after the files were written: those that were changed right before a call are
-# read twice. Then histories: a log of 500 MB in 61 entries, and of 1,000 entries; one file of the
-# 100,000; and help. Prints the least of nine rounds on the first tree and of five on the others,
-# each with all that is compared: seconds, those of the processor, the ratio to `cp -r` and to the
-# goal, and the peak memory.
+# and renames it; and the time in which the kit's SHA-256 hashes each file of the tree twice, right
+# after it was read, as the seals of a step ask for. Each call begins a tenth of a second after the
+# files were written: those that were changed right before a call are read twice. Then histories: a
+# log of 500 MB in 61 entries, and of 1,000 entries; one file of the 100,000; and help. Prints the
+# least of nine rounds on the first tree and of five on the others, each with all that is compared:
+# seconds, those of the processor, the ratio to `cp -r` and to the floor with the hashing (without,
+# for a journal of version 1.0, which has no seals), and the peak memory.
 # usage: bench/undo_speed.sh PROGRAM [FILES]      (20,000 files by default in the first two trees)
 set -euo pipefail
 . "$(dirname "$0")/../tests/common.sh"
@@ -54,19 +53,19 @@ hashing() {
   note hashing "$("$hash_speed" "$room/list" | cut -d' ' -f1) 0 0 0"
 }
 
-# report GOAL NAME..: prints what was noted of these commands, beside `cp -r` and the goal in
-# seconds.
+# report LEAST NAME..: prints what was noted of these commands, beside `cp -r` and what the floor
+# takes, perhaps with the hashing, in seconds.
 report() {
-  local goal=$1 name seconds user system kilobytes
+  local least=$1 name seconds user system kilobytes
   shift
   for name in "$@"; do
     read -r seconds user system kilobytes <<< "${best[$name]}"
     awk -v name="$name" -v time="$seconds" -v busy="$user" -v system_busy="$system" \
-      -v copy="${best[cp -r]:-0}" -v goal="$goal" -v memory="$kilobytes" 'BEGIN {
+      -v copy="${best[cp -r]:-0}" -v least="$least" -v memory="$kilobytes" 'BEGIN {
       printf "  %-20s %6.2f s (processor %6.2f s) %6.0f MB",
         name, time, busy + system_busy, memory / 1024
       if (copy > 0) printf "  %5.2f of cp -r", time / copy
-      if (goal > 0) printf "  %5.2f of the goal of %.2f s", time / goal, goal
+      if (least > 0) printf "  %5.2f of the least, %.2f s", time / least, least
       print ""
     }'
   done
@@ -101,9 +100,8 @@ times_on() {
   floor=${best[floor]%% *}
   report 0 "cp -r" floor
   echo "  hashing each file twice: $hash s"
-  report "$(awk -v floor="$floor" -v hash="$hash" 'BEGIN { print 1.5 * floor + hash }')" annotate \
-    undo redo
-  report "$(awk -v floor="$floor" 'BEGIN { print 1.5 * floor }')" "undo without seals"
+  report "$(awk -v floor="$floor" -v hash="$hash" 'BEGIN { print floor + hash }')" annotate undo redo
+  report "$floor" "undo without seals"
   report 0 log
 }
 
