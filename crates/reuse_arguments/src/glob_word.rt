@@ -4,7 +4,7 @@ ghost use Rattle.std.specs.Option.{option_map};
 ghost use Rattle.reuse_arguments.specs.Globs.{behind_any_folder, glob_texts, globs_of_word, read_globs};
 
 use crate::place_word::place_of_word;
-use reuse_session::Place;
+use reuse_command::command::Place;
 use reuse_toml::Glob;
 use std::alloc::{AllocError, Global};
 

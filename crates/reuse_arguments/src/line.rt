@@ -4,8 +4,9 @@ ghost use Rattle.reuse_arguments.specs.ChangeStatuses.{change_status_of};
 ghost use Rattle.reuse_arguments.specs.RefusalTexts.{line_fault_text};
 ghost use Rattle.reuse_arguments.specs.declared.line.ChangeStatus.TheVariants as statuses;
 
+use reuse_change::EntryNumbers;
+use reuse_command::request::Request;
 use reuse_notice::NoticeRefusal;
-use reuse_session::{EntryNumbers, Request};
 use reuse_shown::shown_name::Names;
 use std::alloc::{AllocError, AllocFailed};
 use std::error::Error;

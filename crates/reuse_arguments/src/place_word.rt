@@ -5,7 +5,7 @@ ghost use Rattle.reuse_arguments.specs.Places.{without_end_slash, parts_of, path
 ghost use Rattle.reuse_system.specs.Names.{between_slashes};
 
 use reuse_change::{PathError, PathText};
-use reuse_session::Place;
+use reuse_command::command::Place;
 use std::alloc::{AllocError, Global};
 
 /// The place that the word names: parts `.` and a slash at the end are dropped, and `.` is the

@@ -2,7 +2,11 @@
 ghost use Rattle.std.specs.Prelude.{◌≡◌, if◌then◌else◌};
 ghost use Rattle.reuse_arguments.specs.Requests.{made_or_seen, with_texts, call_with_texts, command_with_texts, request_listed, call_listed, command_listed};
 
-use reuse_session::{Call, Command, Ids, LicenceTexts, Moment, PathList, Request};
+use reuse_change::Moment;
+use reuse_command::choice::PathList;
+use reuse_command::command::Command;
+use reuse_command::licence::{Ids, LicenceTexts};
+use reuse_command::request::{Call, Request};
 
 /// To make the call at this moment, or in a dry run what it would do.
 pub fn made_or_seen(call: Call, moment: Moment, dry_run: bool) -> Request

@@ -3,8 +3,9 @@ ghost use Rattle.std.specs.Prelude.{◌≡◌, ◌↔◌, IfErr, IsOk, Some};
 ghost use Rattle.reuse_print.specs.RefusalTexts.{fault_text};
 ghost use Rattle.reuse_print.specs.declared.fault.Fault.TheVariants as faults;
 
+use reuse_command::path_outcome::PathOutcomes;
+use reuse_command::reply::Refusal;
 use reuse_lock::LockFault;
-use reuse_session::{PathOutcomes, Refusal};
 use std::alloc::AllocError;
 use std::error::Error;
 use std::{fmt, io};

@@ -6,7 +6,8 @@ ghost use Rattle.reuse_shown.specs.JoinedTexts.{AppendsSome};
 
 use crate::rows::{print_row, print_rows};
 use reuse_change::{Change, PathText};
-use reuse_session::{PathOutcome, Response, Reverted, Shown};
+use reuse_command::path_outcome::PathOutcome;
+use reuse_command::reply::{Response, Reverted, Shown};
 use reuse_shown::shown_name::{Names, print_name};
 use std::io::{self, Write};
 

@@ -7,7 +7,8 @@ ghost use Rattle.reuse_print.specs.RowLines.{IsRowLine, AreRowLines, row_line, c
 ghost use Rattle.reuse_shown.specs.JoinedTexts.{AppendsSome};
 
 use jiff::civil::Date;
-use reuse_session::{CommandName, Row};
+use reuse_change::CommandName;
+use reuse_command::reply::Row;
 use reuse_shown::date::date_of;
 use std::io::{self, Write};
 

@@ -7,8 +7,8 @@ use crate::line::{ChangeStatus, OutputFormat};
 use crate::settings::Settings;
 use crate::words::found::flag;
 use clap::ArgMatches;
+use reuse_command::command::Unknown;
 use reuse_header::{Form, How};
-use reuse_session::Unknown;
 use reuse_system::owner::OwnerChange;
 use reuse_system::syncs::Syncs;
 

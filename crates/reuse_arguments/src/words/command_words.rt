@@ -11,8 +11,8 @@ use crate::words::choices::{read_how, read_unknown};
 use crate::words::file_words::{read_globs, read_places, read_style};
 use crate::words::found::{flag, value, values};
 use clap::ArgMatches;
+use reuse_command::command::{Command, Scope};
 use reuse_notice::{Additions, Prefix};
-use reuse_session::{Command, Scope};
 use std::alloc::Global;
 
 /// What `annotate` is asked for, in this year.
