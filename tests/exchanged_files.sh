@@ -18,7 +18,7 @@ set -euo pipefail
 wants python3 python3
 
 python3 - "$program" "$room" "${2:-200}" << 'PYTHON'
-import ctypes, multiprocessing, os, random, re, subprocess, sys, time
+import ctypes, itertools, multiprocessing, os, random, re, subprocess, sys, time
 
 program, room, rounds = sys.argv[1], sys.argv[2], int(sys.argv[3])
 tree = os.path.join(room, 'tree')
@@ -127,7 +127,12 @@ for part, pause in enumerate((0, 0.05, 0.5, 3)):
                 file.write(version(name, 0))
         run('forget', '--all')
     process.start()
-    for _ in range(max(rounds // 4, 10)):
+    limit = time.monotonic() + 120
+    for call in itertools.count():
+        # The first part goes on until a call has met an exchange, and one was made.
+        is_shown = part or made and caught or time.monotonic() > limit
+        if call >= max(rounds // 4, 10) and is_shown:
+            break
         kind = random.choice(['annotate', 'annotate', 'annotate one', 'undo', 'redo', 'revert'])
         words = {'annotate': [*ANNOTATE, '-r', '.'], 'annotate one': [*ANNOTATE, 'sub/c.py'],
                  'undo': ['undo'], 'redo': ['redo'],
