@@ -7,6 +7,7 @@
 # The tags below are data: REUSE-IgnoreStart
 set -euo pipefail
 . "$(dirname "$0")/common.sh"
+wants strace strace
 tree=$room/tree
 annotate=(annotate -l MIT -r .)
 header='# SPDX-License-Identifier: MIT'
@@ -203,6 +204,31 @@ mounted() {
     cmp -s - "$room/out" || fail "below a mount: $(cat "$room/out")"
 }
 
+# A run is killed at each of its renamings. What it leaves below a mount goes with the next write
+# there, and the user's file of that kind stays.
+mounted_and_killed() {
+  local script='mount -t tmpfs none "$1/mounted" && echo x > "$1/mounted/a.py" &&
+    echo mine > "$1/mounted/.reuse-undo-new" || exit
+    calls=rename,renameat,renameat2,link,linkat
+    strace -f -qq -o /dev/null -e trace=$calls -e inject=$calls:signal=KILL:when=$3 \
+      "$2" --root "$1" annotate -l MIT -r . > /dev/null 2>&1 && exit 1
+    "$2" --root "$1" log > /dev/null 2>&1 && cat "$1/mounted/a.py" &&
+    "$2" --root "$1" annotate -l MIT -r . && "$2" undo --root "$1" &&
+    cat "$1/mounted/a.py" "$1/mounted/.reuse-undo-new" && ls -A "$1/mounted"' k
+  for k in 1 2 3 4 5 6; do
+    anew
+    mkdir "$tree/mounted"
+    if ! unshare -m mount -t tmpfs none "$tree/mounted" 2> "$room/error"; then
+      echo 'mounted_and_killed: not tried, since no mount can be made'
+      return
+    fi
+    { unshare -m bash -c "$script" bash "$tree" "$program" "$k"; } > "$room/out" 2> "$room/error" ||
+      fail "killed below a mount at $k: $(cat "$room/out" "$room/error")"
+    printf '%s\n' x 'changed mounted/a.py' 'undone mounted/a.py' x mine .reuse-undo-new a.py |
+      cmp -s - "$room/out" || fail "killed below a mount at $k: $(cat "$room/out")"
+  done
+}
+
 # Where the system doesn't show open folders, they are sought by their paths, and a note tells. Nor
 # does it show the process' user: each file and each journal counts as another user's.
 without_proc() {
@@ -241,7 +267,8 @@ roots() {
   tells 0 $'changed a.py\n' annotate -l MIT a.py
 }
 
-for group in empty names not_utf8 links bits in_the_way mounted without_proc roots read_only; do
+for group in empty names not_utf8 links bits in_the_way mounted mounted_and_killed without_proc \
+  roots read_only; do
   $group
   echo "$group: as stated"
 done
