@@ -1,5 +1,6 @@
 -- Paths of a tree, as bytes.
-use Rattle.std.specs.Prelude.{ℕ, Bool, not, ◌&&◌, List, [], ◌∷◌, ◌++◌, map, length, nat_eq, nat_lt, nat_le, ◌==◌, slice_index, codes, if◌then◌else◌}
+use Rattle.std.specs.Prelude.{ℕ, Bool, not, ◌&&◌, List, [], ◌∷◌, ◌++◌, map, length, nat_eq, nat_lt, nat_le, ◌==◌}
+use Rattle.std.specs.Prelude.{slice_index, codes, if◌then◌else◌}
 use Rattle.std.specs.List.{slice_split, starts_with, list_all}
 use Rattle.std.specs.Str.{bytes_eq}
 
