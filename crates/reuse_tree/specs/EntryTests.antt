@@ -21,7 +21,8 @@ pub record IsSoundChange (change : Change) : Type 0 where
 -- no path lies under another
 abbrev pub AreApart : List (List ℕ) → Type 0
 AreApart [] = Unit {0}
-AreApart (path ∷ paths) = AllByRecursion (λ other. (lies_under other path || lies_under path other) ≡ false) paths × AreApart paths
+AreApart (path ∷ paths) =
+    AllByRecursion (λ other. (lies_under other path || lies_under path other) ≡ false) paths × AreApart paths
 
 -- the changes pass all tests
 pub record Passes (changes : List Change) : Type 0 where

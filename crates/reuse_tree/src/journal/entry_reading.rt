@@ -4,7 +4,8 @@ ghost use Rattle.serde_json.specs.Data.{Data};
 ghost use Rattle.serde_json.specs.View.{view, members_view};
 ghost use Rattle.reuse_json.specs.Decoded.{Gives, GivesBy, IsAnswer};
 ghost use Rattle.reuse_json.specs.EntryText.{HavePaths, IsGoodEntry, IsJsonEntry};
-ghost use Rattle.reuse_json.specs.EntryReading.{change_in, command_from, command_in, drop_in, frame_in, if_known, make_in, seal_of, splice_bytes_in, splice_end_in, splice_in, whole_in};
+ghost use Rattle.reuse_json.specs.EntryReading.{change_in, command_from, command_in, drop_in, frame_in, if_known};
+ghost use Rattle.reuse_json.specs.EntryReading.{make_in, seal_of, splice_bytes_in, splice_end_in, splice_in, whole_in};
 ghost use Rattle.reuse_json.specs.Json.{IsJson};
 ghost use Rattle.reuse_json.specs.JsonReading.{field_in};
 ghost use Rattle.reuse_json.specs.Trimmed.{trim};
@@ -97,7 +98,8 @@ fn frame_of(value: &Value) -> Result<(CommandName, bool, Moment), DecodeFault>
 }
 
 fn next_command(members: &mut Fields<'_>) -> Result<CommandName, DecodeFault>
-    ensures { GivesBy (λ command. (command, members_view members.new)) result (field_in command_in (codes "command") (members_view members.old)) }
+    ensures { GivesBy (λ command. (command, members_view members.new)) result
+        (field_in command_in (codes "command") (members_view members.old)) }
 {
     command_of(text_of(field(members, "command")?)?)
 }

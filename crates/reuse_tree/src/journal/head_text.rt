@@ -2,7 +2,8 @@
 ghost use Rattle.std.specs.Prelude.{◌≡◌, ◌≢◌, ◌≤◌, ◌+◌, ◌*◌, ◌↔◌, true, AllPairs, IfOk, IsTrue, length};
 ghost use Rattle.serde_json.specs.View.{view};
 ghost use Rattle.reuse_json.specs.Decoded.{Gives, IsAnswer};
-ghost use Rattle.reuse_tree.specs.Head.{head_text, listed, head_value, pending_value as value_of_pending, IsGoodHead, IsJsonHead, IsSoundHead, PendingFits};
+ghost use Rattle.reuse_tree.specs.Head.{head_text, listed, head_value, pending_value as value_of_pending, IsGoodHead};
+ghost use Rattle.reuse_tree.specs.Head.{IsJsonHead, IsSoundHead, PendingFits};
 ghost use Rattle.reuse_tree.specs.HeadReading.{head_in, pending_in, some_pending_in, direction_from};
 ghost use Rattle.reuse_json.specs.Json.{counts};
 ghost use Rattle.reuse_tree.specs.declared.journal.head.Head.{Head};
