@@ -1,5 +1,6 @@
 -- A file as a front, a part and a back.
-use Rattle.std.proofs.Common.{◌≡◌, ℕ, ◌+◌, ◌-◌, List, ◌++◌, length, take, drop, Some, refl, sym, ap, ◌∙◌, arith, append_assoc, length-append, length-take, length-drop, drop-drop}
+use Rattle.std.proofs.Common.{◌≡◌, ℕ, ◌+◌, ◌-◌, List, ◌++◌, length, take, drop, Some, refl, sym, ap, ◌∙◌, arith}
+use Rattle.std.proofs.Common.{append_assoc, length-append, length-take, length-drop, drop-drop}
 use Rattle.std.proofs.lemmas.List.{take-append-drop, take_at, drop_at}
 use Rattle.std.specs.List.{slice_range}
 use Rattle.reuse_change.specs.Change.{HoldsBetween, HoldsPart}
@@ -12,25 +13,32 @@ pub record Cuts (file front part back : List ℕ) (at rest : ℕ) : Type 0 where
   pub between : slice_range file at (at + length part) ≡ part
   pub behind : drop (at + length part) file ≡ back
 
-range_at : (front part back : List ℕ) (at : ℕ) → length front ≡ at → slice_range (front ++ part ++ back) at (at + length part) ≡ part
+range_at : (front part back : List ℕ) (at : ℕ) → length front ≡ at
+    → slice_range (front ++ part ++ back) at (at + length part) ≡ part
 range_at front part back at e =
     let n : at + length part - at ≡ length part = omega arith in
-    ap (λ k. take k (drop at (front ++ part ++ back))) n ∙ ap (take (length part)) (ap (drop at) (append_assoc front part back) ∙ drop_at front (part ++ back) at e) ∙ take_at part back (length part) refl
+    ap (λ k. take k (drop at (front ++ part ++ back))) n
+    ∙ ap (take (length part)) (ap (drop at) (append_assoc front part back) ∙ drop_at front (part ++ back) at e)
+    ∙ take_at part back (length part) refl
 
 -- what holds the part is cut so
-pub cuts : (file front part back : List ℕ) (at rest : ℕ) → HoldsBetween (Some file) front part back at rest → Cuts file front part back at rest
+pub cuts : (file front part back : List ℕ) (at rest : ℕ) → HoldsBetween (Some file) front part back at rest
+    → Cuts file front part back at rest
 cuts file front part back at rest h =
     let whole : file ≡ front ++ part ++ back = let e = h.whole in cc in
     record {
       whole = whole;
-      total = ap length whole ∙ length-append (front ++ part) back ∙ omega (arith, length-append front part, h.before, h.behind);
+      total = ap length whole ∙ length-append (front ++ part) back
+          ∙ omega (arith, length-append front part, h.before, h.behind);
       before = ap (take at) (whole ∙ append_assoc front part back) ∙ take_at front (part ++ back) at h.before;
       between = ap (λ f. slice_range f at (at + length part)) whole ∙ range_at front part back at h.before;
-      behind = ap (drop (at + length part)) whole ∙ drop_at (front ++ part) back (at + length part) (omega (arith, length-append front part, h.before));
+      behind = ap (drop (at + length part)) whole
+          ∙ drop_at (front ++ part) back (at + length part) (omega (arith, length-append front part, h.before));
     }
 
 -- a file of this length with the part in its range holds the part
-pub holds_part : (file part : List ℕ) (at rest : ℕ) → length file ≡ at + length part + rest → slice_range file at (at + length part) ≡ part → HoldsPart (Some file) part at rest
+pub holds_part : (file part : List ℕ) (at rest : ℕ) → length file ≡ at + length part + rest
+    → slice_range file at (at + length part) ≡ part → HoldsPart (Some file) part at rest
 holds_part file part at rest total between =
     let n : at + length part - at ≡ length part = omega arith in
     let middle : take (length part) (drop at file) ≡ part = ap (λ k. take k (drop at file)) (sym n) ∙ between in
@@ -50,7 +58,8 @@ holds_part file part at rest total between =
     )
 
 -- two parts between ends of equal lengths are equal
-pub one_part : (file : List ℕ) (old new : List ℕ) (at rest : ℕ) → HoldsPart (Some file) old at rest → HoldsPart (Some file) new at rest → old ≡ new
+pub one_part : (file : List ℕ) (old new : List ℕ) (at rest : ℕ) → HoldsPart (Some file) old at rest
+    → HoldsPart (Some file) new at rest → old ≡ new
 one_part file old new at rest h k =
     let c = cuts file h.0 old h.1 at rest h.2 in
     let d = cuts file k.0 new k.1 at rest k.2 in

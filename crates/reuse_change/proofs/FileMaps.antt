@@ -3,7 +3,8 @@ use Rattle.std.proofs.Common.{◌≡◌, ◌≢◌, ◌⊎◌, inl, inr, ℕ, Bo
 use Rattle.std.specs.Ordering.{nat_cmp, eq_by_cmp}
 use Rattle.std.specs.Cmp.Lexicographic.{slice_cmp, nat_list_cmp_total}
 use Rattle.std.specs.Str.{bytes_eq}
-use Rattle.std.specs.FinMap.{get, insert, remove, get-insert, get-remove, same_map, slice_cmp-IsAntisymmetric, nat_cmp-IsAntisymmetric}
+use Rattle.std.specs.FinMap.{get, insert, remove, get-insert, get-remove, same_map, slice_cmp-IsAntisymmetric}
+use Rattle.std.specs.FinMap.{nat_cmp-IsAntisymmetric}
 use Rattle.std.proofs.lemmas.Bool.{false≢true}
 use Rattle.std.proofs.lemmas.Slice.Eq.{bytes_eq-Decides}
 use Rattle.std.proofs.lemmas.Map.Text.{is_eq-slice_cmp}
@@ -36,13 +37,16 @@ pub same_files : (m n : Files) → ((q : List ℕ) → get m q ≡ get n q) → 
 same_files m n h = same_map nat_list_cmp_total (slice_cmp-IsAntisymmetric nat_cmp-IsAntisymmetric) m n h
 
 pub get-put_same : (m : Files) (p bytes : List ℕ) → get (insert m p bytes) p ≡ Some bytes
-get-put_same m p bytes = get-insert nat_list_cmp_total m p bytes p ∙ ap (λ b. cond b (Some bytes) (get m p)) (ties p p refl)
+get-put_same m p bytes =
+    get-insert nat_list_cmp_total m p bytes p ∙ ap (λ b. cond b (Some bytes) (get m p)) (ties p p refl)
 
 pub get-put_other : (m : Files) (p bytes q : List ℕ) → q ≢ p → get (insert m p bytes) q ≡ get m q
-get-put_other m p bytes q other = get-insert nat_list_cmp_total m p bytes q ∙ ap (λ b. cond b (Some bytes) (get m q)) (not_tied q p other)
+get-put_other m p bytes q other =
+    get-insert nat_list_cmp_total m p bytes q ∙ ap (λ b. cond b (Some bytes) (get m q)) (not_tied q p other)
 
 pub get-removed_same : (m : Files) (p : List ℕ) → get (remove m p) p ≡ None
 get-removed_same m p = get-remove nat_list_cmp_total m p p ∙ ap (λ b. cond b None (get m p)) (ties p p refl)
 
 pub get-removed_other : (m : Files) (p q : List ℕ) → q ≢ p → get (remove m p) q ≡ get m q
-get-removed_other m p q other = get-remove nat_list_cmp_total m p q ∙ ap (λ b. cond b None (get m q)) (not_tied q p other)
+get-removed_other m p q other =
+    get-remove nat_list_cmp_total m p q ∙ ap (λ b. cond b None (get m q)) (not_tied q p other)

@@ -1,5 +1,7 @@
 -- A look-up among paths in byte order, and the folders above them.
-use Rattle.std.proofs.Common.{◌≡◌, ℕ, zero, suc, ◌+◌, ◌<◌, ◌≤◌, Bool, true, false, cond, ◌&&◌, ◌||◌, List, [], ◌∷◌, ◌++◌, length, get_or, drop, Less, Equal, Greater, Ordering, nat_cmp, nat_lt, nat_eq, refl, sym, ap, ap₂, ◌∙◌, arith, append_assoc, ◌⊎◌, inl, inr, filter}
+use Rattle.std.proofs.Common.{◌≡◌, ℕ, zero, suc, ◌+◌, ◌<◌, ◌≤◌, Bool, true, false, cond, ◌&&◌, ◌||◌, List, [], ◌∷◌}
+use Rattle.std.proofs.Common.{◌++◌, length, get_or, drop, Less, Equal, Greater, Ordering, nat_cmp, nat_lt, nat_eq, refl}
+use Rattle.std.proofs.Common.{sym, ap, ap₂, ◌∙◌, arith, append_assoc, ◌⊎◌, inl, inr, filter}
 use Rattle.std.specs.Ordering.{ordering_then, ordering_reverse, MatchOrdering, is_lt, is_eq}
 use Rattle.std.specs.Cmp.Lexicographic.{slice_cmp}
 use Rattle.std.specs.List.{AllByRecursion, starts_with, list_any, take_while}
@@ -51,15 +53,21 @@ slash_within (x ∷ path) (suc k) e = let h = slash_within path k e in omega ari
 pub under_from_test : (path folder : List ℕ) → lies_under path folder ≡ true → LiesUnder folder path
 under_from_test path folder h =
     let parts = and_parts (starts_with nat_eq path folder) _ h in
-    let begun : path ≡ folder ++ drop (length folder) path = (starts_is Decides-eqb path folder (starts_with nat_eq path folder) refl).0 parts.0 in
-    (drop (length folder + 1) path, begun ∙ ap (λ l. folder ++ l) (drop_more path (length folder) 0 (slash_within path (length folder) parts.1) ∙ ap (λ (n : ℕ). n ∷ drop (length folder + 1) path) (eqb-true _ 47 parts.1)))
+    let begun : path ≡ folder ++ drop (length folder) path =
+    (starts_is Decides-eqb path folder (starts_with nat_eq path folder) refl).0 parts.0 in (
+      drop (length folder + 1) path,
+      begun ∙ ap (λ l. folder ++ l) (drop_more path (length folder) 0 (slash_within path (length folder) parts.1)
+          ∙ ap (λ (n : ℕ). n ∷ drop (length folder + 1) path) (eqb-true _ 47 parts.1)),
+    )
 
 pub test_from_under : (path folder : List ℕ) → LiesUnder folder path → lies_under path folder ≡ true
 test_from_under path folder h =
     and_from _ _ ((starts_is Decides-eqb path folder (starts_with nat_eq path folder) refl).1 (47 ∷ h.0) h.1)
-    (ap (λ (l : List ℕ). nat_eq (get_or l (length folder) 0) 47) h.1 ∙ ap (λ n. nat_eq n 47) (get_or_after folder 47 h.0))
+    (ap (λ (l : List ℕ). nat_eq (get_or l (length folder) 0) 47) h.1
+    ∙ ap (λ n. nat_eq n 47) (get_or_after folder 47 h.0))
 
-then_less_at : (r : Ordering) (a b : ℕ) (o : Ordering) → MatchOrdering r (a < b) (a ≡ b) (b < a) → ordering_then r o ≡ Less → (a < b) ⊎ ((a ≡ b) × (o ≡ Less))
+then_less_at : (r : Ordering) (a b : ℕ) (o : Ordering) → MatchOrdering r (a < b) (a ≡ b) (b < a)
+    → ordering_then r o ≡ Less → (a < b) ⊎ ((a ≡ b) × (o ≡ Less))
 then_less_at Less a b o m e = inl m
 then_less_at Equal a b o m e = inr (m, e)
 then_less_at Greater a b o m e = absurd (cc)
@@ -71,7 +79,8 @@ parts_of_cons : (c a : ℕ) (q l : List ℕ) → c ∷ q ≡ a ∷ l → (c ≡ 
 parts_of_cons c a q l e = (cc, cc)
 
 -- what lies between p and something that begins with p begins with p
-begins_between : (p x q rest : List ℕ) → before p x ≡ Less → before x q ≡ Less → q ≡ p ++ rest → (mid : List ℕ) × (x ≡ p ++ mid)
+begins_between : (p x q rest : List ℕ) → before p x ≡ Less → before x q ≡ Less → q ≡ p ++ rest
+    → (mid : List ℕ) × (x ≡ p ++ mid)
 begins_between [] x q rest low high is = (x, refl)
 begins_between (a ∷ p) [] q rest low high is = absurd (cc)
 begins_between (a ∷ p) (b ∷ x) [] rest low high is = absurd (cc)
@@ -109,36 +118,48 @@ before_nothing (x ∷ xs) e = absurd (cc)
 under_not_below : (folder path : List ℕ) → before path (folder ++ 47 ∷ []) ≡ Less → lies_under path folder ≡ false
 under_not_below folder path less = false_from_ne_true (lies_under path folder) (λ e.
     let under = under_from_test path folder e in
-    let front : before (folder ++ 47 ∷ under.0) (folder ++ 47 ∷ []) ≡ before (47 ∷ under.0) (47 ∷ []) = before_front folder (47 ∷ under.0) (47 ∷ []) in
-    before_nothing under.0 (sym (front ∙ refl) ∙ ap (λ (l : List ℕ). before l (folder ++ 47 ∷ [])) (sym under.1) ∙ less))
+    let front : before (folder ++ 47 ∷ under.0) (folder ++ 47 ∷ []) ≡ before (47 ∷ under.0) (47 ∷ []) =
+    before_front folder (47 ∷ under.0) (47 ∷ []) in
+    before_nothing under.0
+    (sym (front ∙ refl) ∙ ap (λ (l : List ℕ). before l (folder ++ 47 ∷ [])) (sym under.1) ∙ less))
 
 -- what isn't below the folder with its slash, and is below a path under it, lies under it
-under_between : (folder path q : List ℕ) → is_lt (before path (folder ++ 47 ∷ [])) ≡ false → before path q ≡ Less → lies_under q folder ≡ true → lies_under path folder ≡ true
+under_between : (folder path q : List ℕ) → is_lt (before path (folder ++ 47 ∷ [])) ≡ false → before path q ≡ Less
+    → lies_under q folder ≡ true → lies_under path folder ≡ true
 under_between folder path q not_below low h =
     let under = under_from_test q folder h in
     test_from_under path folder (elim (not_less (before path (folder ++ 47 ∷ [])) not_below) [
-      | inl equal ↦ ([], (bytes_eq-Decides path (folder ++ 47 ∷ [])).0 (sym (is_eq-slice_cmp path (folder ++ 47 ∷ [])) ∙ ap is_eq equal))
+      | inl equal ↦ (
+        [],
+        (bytes_eq-Decides path (folder ++ 47 ∷ [])).0 (sym (is_eq-slice_cmp path (folder ++ 47 ∷ [])) ∙ ap is_eq equal),
+      )
       | inr greater ↦
-          let above : before (folder ++ 47 ∷ []) path ≡ Less = nat_list_cmp_total.antisymm (folder ++ 47 ∷ []) path ∙ ap ordering_reverse greater in
-          let mid = begins_between (folder ++ 47 ∷ []) path q under.0 above low (under.1 ∙ sym (append_assoc folder (47 ∷ []) under.0)) in
+          let above : before (folder ++ 47 ∷ []) path ≡ Less =
+          nat_list_cmp_total.antisymm (folder ++ 47 ∷ []) path ∙ ap ordering_reverse greater in
+          let mid = begins_between (folder ++ 47 ∷ []) path q under.0 above low
+          (under.1 ∙ sym (append_assoc folder (47 ∷ []) under.0)) in
           (mid.0, mid.1 ∙ append_assoc folder (47 ∷ []) mid.0)
     ])
 
 -- ---- a look-up by halves
 
-above : (x : List ℕ) (xs : List (List ℕ)) (k : ℕ) (d : List ℕ) → AllByRecursion (λ y. before x y ≡ Less) xs → k < length xs → before x (get_or xs k d) ≡ Less
+above : (x : List ℕ) (xs : List (List ℕ)) (k : ℕ) (d : List ℕ) → AllByRecursion (λ y. before x y ≡ Less) xs
+    → k < length xs → before x (get_or xs k d) ≡ Less
 above x [] k d each h = absurd (omega arith)
 above x (y ∷ ys) zero d each h = each.0
 above x (y ∷ ys) (suc k) d each h = above x ys k d each.1 (omega arith)
 
 -- those below a target come first
-pub below_first : (target : List ℕ) (ks : List (List ℕ)) → ArePaths ks → IsPartitionedBy (λ k. is_lt (before k target)) ks
+pub below_first : (target : List ℕ) (ks : List (List ℕ)) → ArePaths ks
+    → IsPartitionedBy (λ k. is_lt (before k target)) ks
 below_first target [] sorted i j d low high e = absurd (omega arith)
 below_first target (x ∷ xs) sorted zero zero d low high e = e
 below_first target (x ∷ xs) sorted zero (suc j) d low high e =
-    ap is_lt (nat_list_cmp_total.trans x (get_or xs j d) target (above x xs j d (sorted_head before x xs sorted) (omega arith)) (is_less _ e))
+    ap is_lt (nat_list_cmp_total.trans x (get_or xs j d) target
+    (above x xs j d (sorted_head before x xs sorted) (omega arith)) (is_less _ e))
 below_first target (x ∷ xs) sorted (suc i) zero d low high e = absurd (omega arith)
-below_first target (x ∷ xs) sorted (suc i) (suc j) d low high e = below_first target xs (sorted_tail before x xs sorted) i j d (omega arith) (omega arith) e
+below_first target (x ∷ xs) sorted (suc i) (suc j) d low high e =
+    below_first target xs (sorted_tail before x xs sorted) i j d (omega arith) (omega arith) e
 
 one_more_below : (i n : ℕ) → nat_lt (suc i) (suc n) ≡ nat_lt i n
 one_more_below i n = grind (arith, nat_tests)
@@ -147,7 +168,8 @@ one_more_below i n = grind (arith, nat_tests)
 module _ (test : List ℕ → Bool) (target : List ℕ)
     (low : (x : List ℕ) → before x target ≡ Less → test x ≡ false)
     (high : (x y : List ℕ) → is_lt (before x target) ≡ false → before x y ≡ Less → test y ≡ true → test x ≡ true) where
-  none_later : (x : List ℕ) (xs : List (List ℕ)) → AllByRecursion (λ y. before x y ≡ Less) xs → is_lt (before x target) ≡ false → test x ≡ false → list_any test xs ≡ false
+  none_later : (x : List ℕ) (xs : List (List ℕ)) → AllByRecursion (λ y. before x y ≡ Less) xs
+      → is_lt (before x target) ≡ false → test x ≡ false → list_any test xs ≡ false
   none_later x [] each from fails = refl
   none_later x (y ∷ ys) each from fails = of_test (test y) refl (none_later x ys each.1 from fails)
     where
@@ -155,19 +177,27 @@ module _ (test : List ℕ → Bool) (target : List ℕ)
       of_test true e rest = absurd (false≢true (sym fails ∙ high x y from each.0 e))
       of_test false e rest = rest
 
-  pub any_at : (ks : List (List ℕ)) (i : ℕ) (d : List ℕ) → ArePaths ks → IsPartitionPoint (λ k. is_lt (before k target) ≡ true) (λ k. is_lt (before k target) ≡ false) ks i → list_any test ks ≡ (nat_lt i (length ks) && test (get_or ks i d))
+  pub any_at : (ks : List (List ℕ)) (i : ℕ) (d : List ℕ) → ArePaths ks
+      → IsPartitionPoint (λ k. is_lt (before k target) ≡ true) (λ k. is_lt (before k target) ≡ false) ks i
+      → list_any test ks ≡ (nat_lt i (length ks) && test (get_or ks i d))
   any_at [] i d sorted point = sym (ap (λ b. b && test (get_or [] i d)) (le-ltb i 0 (omega arith)))
-  any_at (x ∷ xs) zero d sorted point = of_test (test x) refl ∙ sym (ap (λ b. b && test x) (lt-ltb 0 (length (x ∷ xs)) (omega arith)))
+  any_at (x ∷ xs) zero d sorted point =
+      of_test (test x) refl ∙ sym (ap (λ b. b && test x) (lt-ltb 0 (length (x ∷ xs)) (omega arith)))
     where
       of_test : (b : Bool) → test x ≡ b → (b || list_any test xs) ≡ test x
       of_test true e = sym e
-      of_test false e = none_later x xs (sorted_head before x xs sorted) (point.1 0 d (omega arith) (omega arith)) e ∙ sym e
+      of_test false e =
+          none_later x xs (sorted_head before x xs sorted) (point.1 0 d (omega arith) (omega arith)) e ∙ sym e
   any_at (x ∷ xs) (suc i) d sorted point =
       ap (λ b. b || list_any test xs) (low x (is_less _ (point.0 0 d (omega arith) (omega arith))))
-      ∙ any_at xs i d (sorted_tail before x xs sorted) (λ k e from to. point.0 (suc k) e (omega arith) (omega arith), λ k e from to. point.1 (suc k) e (omega arith) (omega arith))
+      ∙ any_at xs i d (sorted_tail before x xs sorted) (
+        λ k e from to. point.0 (suc k) e (omega arith) (omega arith),
+        λ k e from to. point.1 (suc k) e (omega arith) (omega arith),
+      )
       ∙ sym (ap (λ b. b && test (get_or xs i d)) (one_more_below i (length xs)))
 
-  none_kept : (x : List ℕ) (xs : List (List ℕ)) → AllByRecursion (λ y. before x y ≡ Less) xs → is_lt (before x target) ≡ false → test x ≡ false → filter test xs ≡ []
+  none_kept : (x : List ℕ) (xs : List (List ℕ)) → AllByRecursion (λ y. before x y ≡ Less) xs
+      → is_lt (before x target) ≡ false → test x ≡ false → filter test xs ≡ []
   none_kept x [] each from fails = refl
   none_kept x (y ∷ ys) each from fails = of_test (test y) refl (none_kept x ys each.1 from fails)
     where
@@ -175,22 +205,32 @@ module _ (test : List ℕ → Bool) (target : List ℕ)
       of_test true e rest = absurd (false≢true (sym fails ∙ high x y from each.0 e))
       of_test false e rest = rest
 
-  pub filter_at : (ks : List (List ℕ)) (i : ℕ) → ArePaths ks → IsPartitionPoint (λ k. is_lt (before k target) ≡ true) (λ k. is_lt (before k target) ≡ false) ks i → filter test ks ≡ take_while test (drop i ks)
+  pub filter_at : (ks : List (List ℕ)) (i : ℕ) → ArePaths ks → IsPartitionPoint (λ k. is_lt (before k target) ≡ true)
+      (λ k. is_lt (before k target) ≡ false) ks i → filter test ks ≡ take_while test (drop i ks)
   filter_at [] zero sorted point = refl
   filter_at [] (suc i) sorted point = refl
   filter_at (x ∷ xs) zero sorted point =
-      of_test (test x) refl (filter_at xs zero (sorted_tail before x xs sorted) (λ k e from to. absurd (omega arith), λ k e from to. point.1 (suc k) e (omega arith) (omega arith)))
+      of_test (test x) refl (filter_at xs zero (sorted_tail before x xs sorted)
+      (λ k e from to. absurd (omega arith), λ k e from to. point.1 (suc k) e (omega arith) (omega arith)))
     where
-      of_test : (b : Bool) → test x ≡ b → filter test xs ≡ take_while test xs → cond (test x) (x ∷ filter test xs) (filter test xs) ≡ take_while test (x ∷ xs)
-      of_test true e rest = ap (λ b. cond b (x ∷ filter test xs) (filter test xs)) e ∙ ap (λ ys. x ∷ ys) rest ∙ sym (take_while-cons test x xs ∙ ap (λ b. cond b (x ∷ take_while test xs) []) e)
+      of_test : (b : Bool) → test x ≡ b → filter test xs ≡ take_while test xs
+          → cond (test x) (x ∷ filter test xs) (filter test xs) ≡ take_while test (x ∷ xs)
+      of_test true e rest = ap (λ b. cond b (x ∷ filter test xs) (filter test xs)) e ∙ ap (λ ys. x ∷ ys) rest
+          ∙ sym (take_while-cons test x xs ∙ ap (λ b. cond b (x ∷ take_while test xs) []) e)
       of_test false e rest =
-          ap (λ b. cond b (x ∷ filter test xs) (filter test xs)) e ∙ none_kept x xs (sorted_head before x xs sorted) (point.1 0 x (omega arith) (omega arith)) e
+          ap (λ b. cond b (x ∷ filter test xs) (filter test xs)) e
+          ∙ none_kept x xs (sorted_head before x xs sorted) (point.1 0 x (omega arith) (omega arith)) e
           ∙ sym (take_while-cons test x xs ∙ ap (λ b. cond b (x ∷ take_while test xs) []) e)
   filter_at (x ∷ xs) (suc i) sorted point =
-      ap (λ b. cond b (x ∷ filter test xs) (filter test xs)) (low x (is_less _ (point.0 0 x (omega arith) (omega arith))))
-      ∙ filter_at xs i (sorted_tail before x xs sorted) (λ k e from to. point.0 (suc k) e (omega arith) (omega arith), λ k e from to. point.1 (suc k) e (omega arith) (omega arith))
+      ap (λ b. cond b (x ∷ filter test xs) (filter test xs))
+      (low x (is_less _ (point.0 0 x (omega arith) (omega arith))))
+      ∙ filter_at xs i (sorted_tail before x xs sorted) (
+        λ k e from to. point.0 (suc k) e (omega arith) (omega arith),
+        λ k e from to. point.1 (suc k) e (omega arith) (omega arith),
+      )
 
-pub among_at : (ks : List (List ℕ)) (path : List ℕ) (i : ℕ) (d : List ℕ) → ArePaths ks → IsPartitionPoint (λ k. is_lt (before k path) ≡ true) (λ k. is_lt (before k path) ≡ false) ks i
+pub among_at : (ks : List (List ℕ)) (path : List ℕ) (i : ℕ) (d : List ℕ) → ArePaths ks
+    → IsPartitionPoint (λ k. is_lt (before k path) ≡ true) (λ k. is_lt (before k path) ≡ false) ks i
     → is_among ks path ≡ (nat_lt i (length ks) && bytes_eq path (get_or ks i d))
 among_at ks path i d sorted point = any_at (λ other. bytes_eq path other) path low high ks i d sorted point
   where
@@ -201,35 +241,50 @@ among_at ks path i d sorted point = any_at (λ other. bytes_eq path other) path 
         of_test false e = refl
         of_test true e = absurd (not_itself x (ap (before x) (sym ((bytes_eq-Decides path x).0 e)) ∙ less))
 
-    high : (x y : List ℕ) → is_lt (before x path) ≡ false → before x y ≡ Less → bytes_eq path y ≡ true → bytes_eq path x ≡ true
-    high x y from less e = absurd (false≢true (sym from ∙ ap is_lt (ap (before x) ((bytes_eq-Decides path y).0 e) ∙ less)))
+    high : (x y : List ℕ) → is_lt (before x path) ≡ false → before x y ≡ Less → bytes_eq path y ≡ true
+        → bytes_eq path x ≡ true
+    high x y from less e =
+        absurd (false≢true (sym from ∙ ap is_lt (ap (before x) ((bytes_eq-Decides path y).0 e) ∙ less)))
 
-pub folder_at : (ks : List (List ℕ)) (folder : List ℕ) (i : ℕ) (d : List ℕ) → ArePaths ks → IsPartitionPoint (λ k. is_lt (before k (folder ++ 47 ∷ [])) ≡ true) (λ k. is_lt (before k (folder ++ 47 ∷ [])) ≡ false) ks i
+pub folder_at : (ks : List (List ℕ)) (folder : List ℕ) (i : ℕ) (d : List ℕ) → ArePaths ks → IsPartitionPoint
+    (λ k. is_lt (before k (folder ++ 47 ∷ [])) ≡ true) (λ k. is_lt (before k (folder ++ 47 ∷ [])) ≡ false) ks i
     → is_folder_of ks folder ≡ (nat_lt i (length ks) && lies_under (get_or ks i d) folder)
 folder_at ks folder i d sorted point =
-    any_at (λ other. lies_under other folder) (folder ++ 47 ∷ []) (under_not_below folder) (under_between folder) ks i d sorted point
+    any_at (λ other. lies_under other folder) (folder ++ 47 ∷ []) (under_not_below folder)
+    (under_between folder) ks i d sorted point
 
-pub among_found : (ks : List (List ℕ)) (path : List ℕ) (i : ℕ) (d : List ℕ) (r : Bool) → ArePaths ks → IsPartitionPoint (λ k. is_lt (before k path) ≡ true) (λ k. is_lt (before k path) ≡ false) ks i
+pub among_found : (ks : List (List ℕ)) (path : List ℕ) (i : ℕ) (d : List ℕ) (r : Bool) → ArePaths ks
+    → IsPartitionPoint (λ k. is_lt (before k path) ≡ true) (λ k. is_lt (before k path) ≡ false) ks i
     → i < length ks → r ≡ bytes_eq path (get_or ks i d) → r ≡ is_among ks path
-among_found ks path i d r sorted point within e = e ∙ sym (among_at ks path i d sorted point ∙ ap (λ b. b && bytes_eq path (get_or ks i d)) (lt-ltb i (length ks) within))
+among_found ks path i d r sorted point within e = e ∙ sym
+    (among_at ks path i d sorted point ∙ ap (λ b. b && bytes_eq path (get_or ks i d)) (lt-ltb i (length ks) within))
 
-pub among_none : (ks : List (List ℕ)) (path : List ℕ) (i : ℕ) → ArePaths ks → IsPartitionPoint (λ k. is_lt (before k path) ≡ true) (λ k. is_lt (before k path) ≡ false) ks i
+pub among_none : (ks : List (List ℕ)) (path : List ℕ) (i : ℕ) → ArePaths ks
+    → IsPartitionPoint (λ k. is_lt (before k path) ≡ true) (λ k. is_lt (before k path) ≡ false) ks i
     → length ks ≤ i → nat_lt i (length ks) ≡ is_among ks path
 among_none ks path i sorted point past =
-    le-ltb i (length ks) past ∙ sym (among_at ks path i [] sorted point ∙ ap (λ b. b && bytes_eq path (get_or ks i [])) (le-ltb i (length ks) past))
+    le-ltb i (length ks) past ∙ sym
+    (among_at ks path i [] sorted point ∙ ap (λ b. b && bytes_eq path (get_or ks i [])) (le-ltb i (length ks) past))
 
-pub folder_found : (ks : List (List ℕ)) (folder : List ℕ) (i : ℕ) (d : List ℕ) (r : Bool) → ArePaths ks → IsPartitionPoint (λ k. is_lt (before k (folder ++ 47 ∷ [])) ≡ true) (λ k. is_lt (before k (folder ++ 47 ∷ [])) ≡ false) ks i
+pub folder_found : (ks : List (List ℕ)) (folder : List ℕ) (i : ℕ) (d : List ℕ) (r : Bool) → ArePaths ks
+    → IsPartitionPoint (λ k. is_lt (before k (folder ++ 47 ∷ [])) ≡ true)
+    (λ k. is_lt (before k (folder ++ 47 ∷ [])) ≡ false) ks i
     → i < length ks → r ≡ lies_under (get_or ks i d) folder → r ≡ is_folder_of ks folder
 folder_found ks folder i d r sorted point within e =
-    e ∙ sym (folder_at ks folder i d sorted point ∙ ap (λ b. b && lies_under (get_or ks i d) folder) (lt-ltb i (length ks) within))
+    e ∙ sym (folder_at ks folder i d sorted point
+    ∙ ap (λ b. b && lies_under (get_or ks i d) folder) (lt-ltb i (length ks) within))
 
-pub folder_none : (ks : List (List ℕ)) (folder : List ℕ) (i : ℕ) → ArePaths ks → IsPartitionPoint (λ k. is_lt (before k (folder ++ 47 ∷ [])) ≡ true) (λ k. is_lt (before k (folder ++ 47 ∷ [])) ≡ false) ks i
+pub folder_none : (ks : List (List ℕ)) (folder : List ℕ) (i : ℕ) → ArePaths ks → IsPartitionPoint
+    (λ k. is_lt (before k (folder ++ 47 ∷ [])) ≡ true) (λ k. is_lt (before k (folder ++ 47 ∷ [])) ≡ false) ks i
     → length ks ≤ i → nat_lt i (length ks) ≡ is_folder_of ks folder
 folder_none ks folder i sorted point past =
-    le-ltb i (length ks) past ∙ sym (folder_at ks folder i [] sorted point ∙ ap (λ b. b && lies_under (get_or ks i []) folder) (le-ltb i (length ks) past))
+    le-ltb i (length ks) past ∙ sym (folder_at ks folder i [] sorted point
+    ∙ ap (λ b. b && lies_under (get_or ks i []) folder) (le-ltb i (length ks) past))
 
 -- ---- the paths beneath a folder
 
-pub beneath_at : (ks : List (List ℕ)) (folder : List ℕ) (i : ℕ) → ArePaths ks → IsPartitionPoint (λ k. is_lt (before k (folder ++ 47 ∷ [])) ≡ true) (λ k. is_lt (before k (folder ++ 47 ∷ [])) ≡ false) ks i
+pub beneath_at : (ks : List (List ℕ)) (folder : List ℕ) (i : ℕ) → ArePaths ks → IsPartitionPoint
+    (λ k. is_lt (before k (folder ++ 47 ∷ [])) ≡ true) (λ k. is_lt (before k (folder ++ 47 ∷ [])) ≡ false) ks i
     → filter (λ other. lies_under other folder) ks ≡ take_while (λ other. lies_under other folder) (drop i ks)
-beneath_at ks folder i sorted point = filter_at (λ other. lies_under other folder) (folder ++ 47 ∷ []) (under_not_below folder) (under_between folder) ks i sorted point
+beneath_at ks folder i sorted point = filter_at (λ other. lies_under other folder) (folder ++ 47 ∷ [])
+    (under_not_below folder) (under_between folder) ks i sorted point

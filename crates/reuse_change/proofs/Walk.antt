@@ -1,5 +1,6 @@
 -- The walk over the changes of an entry.
-use Rattle.std.proofs.Common.{◌≡◌, ◌≢◌, ℕ, ◌+◌, ◌<◌, Bool, true, false, ◌||◌, List, [], ◌∷◌, length, length-append, get_or, take, Option, IsSome, is_some, refl, sym, ap, subst, ◌∙◌, arith}
+use Rattle.std.proofs.Common.{◌≡◌, ◌≢◌, ℕ, ◌+◌, ◌<◌, Bool, true, false, ◌||◌, List, [], ◌∷◌, length, length-append}
+use Rattle.std.proofs.Common.{get_or, take, Option, IsSome, is_some, refl, sym, ap, subst, ◌∙◌, arith}
 use Rattle.std.specs.Ordering.{nat_cmp}
 use Rattle.std.specs.declared.cmp.Ordering.TheVariants.{Less, Equal}
 use Rattle.std.specs.Cmp.Lexicographic.{slice_cmp, nat_list_cmp_total}
@@ -23,7 +24,8 @@ use Rattle.reuse_change.proofs.Applying.{applies_once, applies_back}
 use Rattle.reuse_change.specs.Tree.{is_of_tree}
 use Rattle.reuse_change.specs.declared.direction.Direction.{Direction}
 use Rattle.reuse_change.specs.declared.direction.Direction.TheVariants.{Forward, Backward}
-use Rattle.reuse_change.specs.Entry.{touches, paths_of, IsEntry, AppliesBy, LeadsByOneChange, LeadsBy, IsReady, CanBeMade, IsFirstWithout, IsFirstStuck, makes}
+use Rattle.reuse_change.specs.Entry.{touches, paths_of, IsEntry, AppliesBy, LeadsByOneChange, LeadsBy, IsReady}
+use Rattle.reuse_change.specs.Entry.{CanBeMade, IsFirstWithout, IsFirstStuck, makes}
 use Rattle.reuse_change.proofs.Differ.{touching}
 
 -- an order that answers Less tells two paths apart
@@ -40,12 +42,15 @@ not_equal : (p q : List ℕ) → p ≢ q → bytes_eq p q ≡ false
 not_equal p q other = not_equal_test p q (bytes_eq p q) refl other
 
 -- what no change touches, no change is of
-pub of_no_change : (changes : List Change) (p : List ℕ) → touches changes p ≡ false → (k : ℕ) (d : Change) → k < length changes → path_of (get_or changes k d) ≢ p
+pub of_no_change : (changes : List Change) (p : List ℕ) → touches changes p ≡ false → (k : ℕ) (d : Change)
+    → k < length changes → path_of (get_or changes k d) ≢ p
 of_no_change changes p none k d lt same =
-    false≢true (sym none ∙ list_any_at (λ change. bytes_eq p (path_of change)) changes k d lt ((bytes_eq-Decides p (path_of (get_or changes k d))).1 (sym same)))
+    false≢true (sym none ∙ list_any_at (λ change. bytes_eq p (path_of change)) changes k d lt
+    ((bytes_eq-Decides p (path_of (get_or changes k d))).1 (sym same)))
 
 module _ (changes : List Change) (good : IsEntry changes) (i : ℕ) (d : Change) (lt : i < length changes) where
-  earlier_below : (j : ℕ) (e : Change) → j < i → slice_cmp nat_cmp (path_of (get_or changes j e)) (path_of (get_or changes i d)) ≡ Less
+  earlier_below : (j : ℕ) (e : Change) → j < i
+      → slice_cmp nat_cmp (path_of (get_or changes j e)) (path_of (get_or changes i d)) ≡ Less
   earlier_below j e h =
       let n : i < length (paths_of changes) = omega (arith, length-map changes path_of) in
       let m : j < length changes = omega arith in
@@ -64,18 +69,22 @@ module _ (changes : List Change) (good : IsEntry changes) (i : ℕ) (d : Change)
       ∙ not_equal path (path_of (get_or changes k e)) (less_differs _ _ (earlier_below k e below)))
 
   pub touched : touches changes (path_of (get_or changes i d)) ≡ true
-  touched = list_any_at (λ change. bytes_eq (path_of (get_or changes i d)) (path_of change)) changes i d lt ((bytes_eq-Decides (path_of (get_or changes i d)) (path_of (get_or changes i d))).1 refl)
+  touched = list_any_at (λ change. bytes_eq (path_of (get_or changes i d)) (path_of change)) changes i d lt
+      ((bytes_eq-Decides (path_of (get_or changes i d)) (path_of (get_or changes i d))).1 refl)
 
 -- a path that one change more doesn't touch
-pub untouched_more : (changes : List Change) (i : ℕ) (lt : i < length changes) (change : Change) (is : change ≡ get_or changes i change) (path : List ℕ) → touches (take (i + 1) changes) path ≡ false
+pub untouched_more : (changes : List Change) (i : ℕ) (lt : i < length changes) (change : Change)
+    (is : change ≡ get_or changes i change) (path : List ℕ) → touches (take (i + 1) changes) path ≡ false
     → (touches (take i changes) path ≡ false) × (path ≢ path_of change)
 untouched_more changes i lt change is path e =
-    let more = list_any_more (λ c. bytes_eq path (path_of c)) changes i change lt ∙ ap (λ c. touches (take i changes) path || bytes_eq path (path_of c)) (sym is) in
+    let more = list_any_more (λ c. bytes_eq path (path_of c)) changes i change lt
+    ∙ ap (λ c. touches (take i changes) path || bytes_eq path (path_of c)) (sym is) in
     let both = or_parts (touches (take i changes) path) (bytes_eq path (path_of change)) (sym more ∙ e) in
     (both.0, λ same. false≢true (sym both.1 ∙ (bytes_eq-Decides path (path_of change)).1 same))
 
 -- a front of the changes touches no more than they do
-pub front_touches : (changes : List Change) (i : ℕ) (p : List ℕ) → touches (take i changes) p ≡ true → touches changes p ≡ true
+pub front_touches : (changes : List Change) (i : ℕ) (p : List ℕ) → touches (take i changes) p ≡ true
+    → touches changes p ≡ true
 front_touches changes i p t = at_test (touches changes p) refl
   where
     at_test : (b : Bool) → touches changes p ≡ b → touches changes p ≡ true
@@ -87,7 +96,8 @@ front_touches changes i p t = at_test (touches changes p) refl
         ∙ not_equal p (path_of (get_or changes k c)) (λ same. of_no_change changes p e k c within (sym same)))) ∙ t))
 
 -- an entry has no change of a path that isn't of the tree
-pub none_outside : (changes : List Change) (path : List ℕ) → IsEntry changes → is_of_tree path ≡ false → touches changes path ≡ false
+pub none_outside : (changes : List Change) (path : List ℕ) → IsEntry changes → is_of_tree path ≡ false
+    → touches changes path ≡ false
 none_outside changes path good out = at_test (touches changes path) refl
   where
     at_test : (b : Bool) → touches changes path ≡ b → touches changes path ≡ false
@@ -97,24 +107,38 @@ none_outside changes path good out = at_test (touches changes path) refl
         absurd (false≢true (sym out ∙ ap is_of_tree found.3 ∙ good.of_tree found.0 found.1 found.2))
 
 -- no change is made at first
-pub leads_none : (direction : Direction) (changes : List Change) (tree : Files) → LeadsBy direction (take 0 changes) tree tree
-leads_none direction changes tree = record { each = λ k c h. absurd (omega (arith, h, length-take 0 changes)); others = λ path e. refl }
+pub leads_none : (direction : Direction) (changes : List Change) (tree : Files)
+    → LeadsBy direction (take 0 changes) tree tree
+leads_none direction changes tree = record {
+  each = λ k c h. absurd (omega (arith, h, length-take 0 changes));
+  others = λ path e. refl;
+}
 
-module _ (direction : Direction) (changes : List Change) (good : IsEntry changes) (i : ℕ) (lt : i < length changes) (change : Change) (is : change ≡ get_or changes i change) (before now : Files) (made : LeadsBy direction (take i changes) before now) where
+module _ (direction : Direction) (changes : List Change) (good : IsEntry changes) (i : ℕ) (lt : i < length changes)
+    (change : Change) (is : change ≡ get_or changes i change) (before now : Files)
+    (made : LeadsBy direction (take i changes) before now) where
   -- before the change is made, its path holds what it held
   pub still : get now (path_of change) ≡ get before (path_of change)
-  still = made.others (path_of change) (ap (λ c. touches (take i changes) (path_of c)) is ∙ not_touched changes good i change lt)
+  still = made.others (path_of change)
+      (ap (λ c. touches (take i changes) (path_of c)) is ∙ not_touched changes good i change lt)
 
   -- one more change is made
-  pub leads_more : (after : Files) → LeadsByOneChange direction change now after → LeadsBy direction (take (i + 1) changes) before after
+  pub leads_more : (after : Files) → LeadsByOneChange direction change now after
+      → LeadsBy direction (take (i + 1) changes) before after
   leads_more after step =
-      let none : touches (take i changes) (path_of change) ≡ false = ap (λ c. touches (take i changes) (path_of c)) is ∙ not_touched changes good i change lt in
+      let none : touches (take i changes) (path_of change) ≡ false =
+      ap (λ c. touches (take i changes) (path_of c)) is ∙ not_touched changes good i change lt in
       let kept : All (λ c. AppliesBy direction c (get before (path_of c)) (get after (path_of c))) (take i changes) =
-      λ k d h. subst (λ f. AppliesBy direction (get_or (take i changes) k d) (get before (path_of (get_or (take i changes) k d))) f)
-      (sym (step.elsewhere (path_of (get_or (take i changes) k d)) (of_no_change (take i changes) (path_of change) none k d h))) (made.each k d h) in
-      let here : AppliesBy direction change (get before (path_of change)) (get after (path_of change)) = subst (λ f. AppliesBy direction change f (get after (path_of change))) still step.here in record {
-        each = All-more (λ c. AppliesBy direction c (get before (path_of c)) (get after (path_of c))) changes i change lt kept (subst (λ c. AppliesBy direction c (get before (path_of c)) (get after (path_of c))) is here);
-        others = λ path e. let both = untouched_more changes i lt change is path e in step.elsewhere path both.1 ∙ made.others path both.0;
+      λ k d h. subst
+      (λ f. AppliesBy direction (get_or (take i changes) k d) (get before (path_of (get_or (take i changes) k d))) f)
+      (sym (step.elsewhere (path_of (get_or (take i changes) k d))
+      (of_no_change (take i changes) (path_of change) none k d h))) (made.each k d h) in
+      let here : AppliesBy direction change (get before (path_of change)) (get after (path_of change)) =
+      subst (λ f. AppliesBy direction change f (get after (path_of change))) still step.here in record {
+        each = All-more (λ c. AppliesBy direction c (get before (path_of c)) (get after (path_of c))) changes i change
+            lt kept (subst (λ c. AppliesBy direction c (get before (path_of c)) (get after (path_of c))) is here);
+        others = λ path e. let both = untouched_more changes i lt change is path e in
+            step.elsewhere path both.1 ∙ made.others path both.0;
       }
 
   -- where each change can be made from the start, this one can be made now
@@ -126,32 +150,44 @@ module _ (direction : Direction) (changes : List Change) (good : IsEntry changes
     where
       at_test : (b : Bool) → touches (take i changes) clash.other ≡ b → ⊥
       at_test true e =
-          false≢true (sym (good.apart (path_of change) clash.other (ap (λ c. touches changes (path_of c)) is ∙ touched changes good i change lt) (front_touches changes i clash.other e)) ∙ clash.nested)
-      at_test false e = can.free made_here (record { other = clash.other; is_file = ap is_some (sym (made.others clash.other e)) ∙ clash.is_file; nested = clash.nested })
+          false≢true (sym (good.apart (path_of change) clash.other (ap (λ c. touches changes (path_of c)) is
+          ∙ touched changes good i change lt) (front_touches changes i clash.other e)) ∙ clash.nested)
+      at_test false e = can.free made_here (record {
+        other = clash.other;
+        is_file = ap is_some (sym (made.others clash.other e)) ∙ clash.is_file;
+        nested = clash.nested;
+      })
 
 -- ---- trees between which changes lead
 
 -- a change leads from a file to one file, either way
-pub applies_once_by : (direction : Direction) (change : Change) (before after other : Option (List ℕ)) → AppliesBy direction change before after → AppliesBy direction change before other → after ≡ other
+pub applies_once_by : (direction : Direction) (change : Change) (before after other : Option (List ℕ))
+    → AppliesBy direction change before after → AppliesBy direction change before other → after ≡ other
 applies_once_by Forward change before after other h k = applies_once change before after other h k
-applies_once_by Backward change before after other h k = applies_once (inverse_of change) before after other (applies_back change after before h) (applies_back change other before k)
+applies_once_by Backward change before after other h k = applies_once (inverse_of change) before after other
+    (applies_back change after before h) (applies_back change other before k)
 
 -- the changes lead from a tree to one tree
-pub leads_once : (direction : Direction) (changes : List Change) (before after other : Files) → LeadsBy direction changes before after → LeadsBy direction changes before other → after ≡ other
-leads_once direction changes before after other h k = same_files after other (λ path. at_test path (touches changes path) refl)
+pub leads_once : (direction : Direction) (changes : List Change) (before after other : Files)
+    → LeadsBy direction changes before after → LeadsBy direction changes before other → after ≡ other
+leads_once direction changes before after other h k =
+    same_files after other (λ path. at_test path (touches changes path) refl)
   where
     at_test : (path : List ℕ) (b : Bool) → touches changes path ≡ b → get after path ≡ get other path
     at_test path false e = h.others path e ∙ sym (k.others path e)
     at_test path true e =
         let found = touching changes path e in
-        subst (λ p. get after p ≡ get other p) (sym found.3) (applies_once_by direction (get_or changes found.0 found.1) _ _ _ (h.each found.0 found.1 found.2) (k.each found.0 found.1 found.2))
+        subst (λ p. get after p ≡ get other p) (sym found.3) (applies_once_by direction
+        (get_or changes found.0 found.1) _ _ _ (h.each found.0 found.1 found.2) (k.each found.0 found.1 found.2))
 
 -- what the changes did they take back
-pub leads_back : (changes : List Change) (before after : Files) → LeadsBy Forward changes before after → LeadsBy Backward changes after before
+pub leads_back : (changes : List Change) (before after : Files) → LeadsBy Forward changes before after
+    → LeadsBy Backward changes after before
 leads_back changes before after h = record { each = h.each; others = λ path e. sym (h.others path e) }
 
 -- what a change makes is a file
-pub made_is_file : (direction : Direction) (change : Change) (old new : Option (List ℕ)) → makes direction change ≡ true → AppliesBy direction change old new → IsSome new
+pub made_is_file : (direction : Direction) (change : Change) (old new : Option (List ℕ)) → makes direction change ≡ true
+    → AppliesBy direction change old new → IsSome new
 made_is_file Forward (Make path new digest) f g e h = ap is_some h.range.1
 made_is_file Forward (Drop path old digest) f g e h = absurd (false≢true e)
 made_is_file Forward (Splice path at old new rest seal) f g e h = absurd (false≢true e)
@@ -160,29 +196,40 @@ made_is_file Backward (Drop path old digest) f g e h = ap is_some h.range.0
 made_is_file Backward (Splice path at old new rest seal) f g e h = absurd (false≢true e)
 
 -- where changes lead from a tree to a tree, each can be made
-pub can_lead : (direction : Direction) (changes : List Change) (before after : Files) → IsEntry changes → AreFiles after → LeadsBy direction changes before after → All (CanBeMade direction before) changes
+pub can_lead : (direction : Direction) (changes : List Change) (before after : Files) → IsEntry changes → AreFiles after
+    → LeadsBy direction changes before after → All (CanBeMade direction before) changes
 can_lead direction changes before after good are leads i d lt =
     let change = get_or changes i d in
     record {
       ready = (get after (path_of change), leads.each i d lt);
       free = λ made clash.
-          let is_file = made_is_file direction change (get before (path_of change)) (get after (path_of change)) made (leads.each i d lt) in
+          let is_file = made_is_file direction change (get before (path_of change)) (get after (path_of change)) made
+          (leads.each i d lt) in
           at_test change is_file (touched changes good i d lt) clash (touches changes clash.other) refl;
     }
   where
-    at_test : (change : Change) → IsSome (get after (path_of change)) → touches changes (path_of change) ≡ true → (clash : Clashes before (path_of change)) → (b : Bool) → touches changes clash.other ≡ b → ⊥
-    at_test change is_file here clash true e = false≢true (sym (good.apart (path_of change) clash.other here e) ∙ clash.nested)
-    at_test change is_file here clash false e = are.apart (path_of change) is_file (record { other = clash.other; is_file = ap is_some (leads.others clash.other e) ∙ clash.is_file; nested = clash.nested })
+    at_test : (change : Change) → IsSome (get after (path_of change)) → touches changes (path_of change) ≡ true
+        → (clash : Clashes before (path_of change)) → (b : Bool) → touches changes clash.other ≡ b → ⊥
+    at_test change is_file here clash true e =
+        false≢true (sym (good.apart (path_of change) clash.other here e) ∙ clash.nested)
+    at_test change is_file here clash false e = are.apart (path_of change) is_file (record {
+      other = clash.other;
+      is_file = ap is_some (leads.others clash.other e) ∙ clash.is_file;
+      nested = clash.nested;
+    })
 
 -- where this holds of each change, there is no first without it
-pub none_without : (Holds : Change → Type 0) (changes : List Change) (path : List ℕ) → All Holds changes → IsFirstWithout Holds changes path → ⊥
+pub none_without : (Holds : Change → Type 0) (changes : List Change) (path : List ℕ) → All Holds changes
+    → IsFirstWithout Holds changes path → ⊥
 none_without Holds changes path all first =
-    let here = (subst (All Holds) first.list all) (length first.before) first.change (omega (arith, length-append first.before (first.change ∷ first.behind), length-cons)) in
+    let here = (subst (All Holds) first.list all) (length first.before) first.change
+    (omega (arith, length-append first.before (first.change ∷ first.behind), length-cons)) in
     first.stuck (subst Holds (get_or-append_seam first.before first.change first.behind first.change) here)
   where
     length-cons : length (first.change ∷ first.behind) ≡ length first.behind + 1
     length-cons = omega arith
 
 -- then none is stuck
-pub none_stuck : (direction : Direction) (tree : Files) (changes : List Change) (path : List ℕ) → All (CanBeMade direction tree) changes → IsFirstStuck direction tree changes path → ⊥
+pub none_stuck : (direction : Direction) (tree : Files) (changes : List Change) (path : List ℕ)
+    → All (CanBeMade direction tree) changes → IsFirstStuck direction tree changes path → ⊥
 none_stuck direction tree changes path all first = none_without (CanBeMade direction tree) changes path all first

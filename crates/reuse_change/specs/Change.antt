@@ -64,7 +64,8 @@ abbrev pub AppliesByRange : Change → Option (List ℕ) → Option (List ℕ) �
 AppliesByRange (Make path new digest) before after = (before ≡ None) × (after ≡ Some new)
 AppliesByRange (Drop path old digest) before after = (before ≡ Some old) × (after ≡ None)
 AppliesByRange (Splice path at old new rest seal) before after =
-    (front : List ℕ) × (back : List ℕ) × HoldsBetween before front old back at rest × HoldsBetween after front new back at rest
+    (front : List ℕ) × (back : List ℕ) × HoldsBetween before front old back at rest
+    × HoldsBetween after front new back at rest
 
 -- the change leads from what the path holds before to what it holds after: each has the digest that is recorded of it
 pub record Applies (change : Change) (before after : Option (List ℕ)) : Type 0 where

@@ -1,5 +1,6 @@
 -- Entries: changes that lead from one tree to another.
-use Rattle.std.specs.Prelude.{◌≡◌, ◌≢◌, ◌⊎◌, ℕ, ◌+◌, ◌*◌, ◌<◌, ◌≤◌, Bool, true, false, ◌||◌, List, [], ◌∷◌, ◌++◌, length, map, sum_by, Option, Some}
+use Rattle.std.specs.Prelude.{◌≡◌, ◌≢◌, ◌⊎◌, ℕ, ◌+◌, ◌*◌, ◌<◌, ◌≤◌, Bool, true, false, ◌||◌, List, [], ◌∷◌, ◌++◌}
+use Rattle.std.specs.Prelude.{length, map, sum_by, Option, Some}
 use Rattle.std.specs.Ordering.{nat_cmp}
 use Rattle.std.specs.Cmp.Lexicographic.{slice_cmp}
 use Rattle.std.specs.List.{All, list_any}
@@ -14,6 +15,7 @@ use Rattle.reuse_change.specs.declared.change.Change.{Change}
 use Rattle.reuse_change.specs.declared.change.Change.TheVariants.{Make, Drop, Splice}
 use Rattle.reuse_text.specs.declared.TheConstants.{LONGEST_FILE}
 use Rattle.reuse_change.specs.Tree.{is_of_tree}
+use Rattle.reuse_change.specs.declared.layout.TheConstants.{LARGEST_ENTRY, MOST_CHANGES}
 use Rattle.reuse_change.specs.declared.direction.Direction.{Direction}
 use Rattle.reuse_change.specs.declared.direction.Direction.TheVariants.{Forward, Backward}
 
@@ -29,7 +31,8 @@ touches changes path = list_any (λ change. bytes_eq path (path_of change)) chan
 abbrev pub IsSmall : Change → Type 0
 IsSmall (Make path new after) = length new ≤ LONGEST_FILE
 IsSmall (Drop path old before) = length old ≤ LONGEST_FILE
-IsSmall (Splice path at old new rest seal) = (at + length old + rest ≤ LONGEST_FILE) × (at + length new + rest ≤ LONGEST_FILE)
+IsSmall (Splice path at old new rest seal) =
+    (at + length old + rest ≤ LONGEST_FILE) × (at + length new + rest ≤ LONGEST_FILE)
 
 -- the bytes that a change takes away, and those that it writes
 abbrev pub removed_by : Change → List ℕ
@@ -59,7 +62,8 @@ fixed_size true = 512
 
 -- what a change counts for in the size of an entry
 abbrev pub change_size : Change → ℕ
-change_size change = fixed_size (is_sealed change) + 6 * length (path_of change) + 2 * length (removed_by change) + 2 * length (written_by change)
+change_size change = fixed_size (is_sealed change) + 6 * length (path_of change) + 2 * length
+    (removed_by change) + 2 * length (written_by change)
 
 abbrev pub entry_size : List Change → ℕ
 entry_size changes = 256 + sum_by change_size changes
@@ -72,9 +76,10 @@ pub record IsEntry (changes : List Change) : Type 0 where
   pub small : All IsSmall changes
   pub of_tree : All (λ change. is_of_tree (path_of change) ≡ true) changes
   pub ascending : IsStrictlySortedBy (slice_cmp nat_cmp) (paths_of changes)
-  pub apart : (path other : List ℕ) → touches changes path ≡ true → touches changes other ≡ true → (lies_under other path || lies_under path other) ≡ false
-  pub few : length changes ≤ 100_000
-  pub light : entry_size changes ≤ 268_435_456
+  pub apart : (path other : List ℕ) → touches changes path ≡ true → touches changes other ≡ true
+      → (lies_under other path || lies_under path other) ≡ false
+  pub few : length changes ≤ MOST_CHANGES
+  pub light : entry_size changes ≤ LARGEST_ENTRY
   pub alike : (sealed : Bool) × AreAllSealed sealed changes
   pub own : All HasOwnDigest changes
 
@@ -90,12 +95,14 @@ pub record LeadsByOneChange (direction : Direction) (change : Change) (before af
 
 -- gone through this way, the changes lead from one tree to the other: each at its path, and no other path differs
 pub record LeadsBy (direction : Direction) (changes : List Change) (before after : Files) : Type 0 where
-  pub each : All (λ change. AppliesBy direction change (get before (path_of change)) (get after (path_of change))) changes
+  pub each : All
+      (λ change. AppliesBy direction change (get before (path_of change)) (get after (path_of change))) changes
   pub others : (path : List ℕ) → touches changes path ≡ false → get after path ≡ get before path
 
 -- some of the changes are made on the first tree, gone through this way, and no other path differs
 pub record SomeMade (direction : Direction) (changes : List Change) (before now : Files) : Type 0 where
-  pub each : All (λ change. (get now (path_of change) ≡ get before (path_of change)) ⊎ AppliesBy direction change (get before (path_of change)) (get now (path_of change))) changes
+  pub each : All (λ change. (get now (path_of change) ≡ get before (path_of change))
+      ⊎ AppliesBy direction change (get before (path_of change)) (get now (path_of change))) changes
   pub others : (path : List ℕ) → touches changes path ≡ false → get now path ≡ get before path
 
 -- the changes lead from one tree to the other
@@ -149,4 +156,5 @@ opposite Backward = Forward
 
 -- a change that may have been made this way: it isn't, or it can be taken back
 abbrev pub CanBeRolledBack : Direction → Files → Change → Type 0
-CanBeRolledBack direction tree change = IsReady direction change (get tree (path_of change)) ⊎ CanBeMade (opposite direction) tree change
+CanBeRolledBack direction tree change =
+    IsReady direction change (get tree (path_of change)) ⊎ CanBeMade (opposite direction) tree change

@@ -48,7 +48,9 @@ pub enum Change {
 }
 
 impl Change {
-    ghost use Rattle.reuse_change.specs.Change.{path_of, inverse_of, is_sealed, sealed_make, sealed_drop, sealed_splice, IsProper, IsAfter, IsBeforeByRange, IsAfterByRange, Records, Applies};
+    ghost use Rattle.reuse_change.specs.Change.{path_of, inverse_of, is_sealed, sealed_make, sealed_drop};
+    ghost use Rattle.reuse_change.specs.Change.{sealed_splice, IsProper, IsAfter, IsBeforeByRange, IsAfterByRange};
+    ghost use Rattle.reuse_change.specs.Change.{Records, Applies};
 
     /// A file made of these bytes, sealed.
     pub fn sealed_make(path: PathText, new: Bytes) -> Change
@@ -77,7 +79,8 @@ impl Change {
     /// The bytes `old` of this file, which stand at `at`, give way to `new`, sealed.
     pub fn sealed_splice(path: PathText, file: &[u8], at: usize, old: Bytes, new: Bytes) -> Change
         ensures change { result ≡ sealed_splice path file.now at old new }
-        ensures applies { (rest : ℕ) → HoldsPart (Some file.now) old at rest → Applies result (Some file.now) (Some (spliced file.now at (length old) new)) }
+        ensures applies { (rest : ℕ) → HoldsPart (Some file.now) old at rest
+            → Applies result (Some file.now) (Some (spliced file.now at (length old) new)) }
     {
         let seal = Seal::of(file, at, old.len(), new.as_slice());
         let rest = file.len().saturating_sub(at).saturating_sub(old.len());
@@ -193,8 +196,10 @@ impl Change {
         ensures neither { (result ≡ ChangeState.Neither)
             ↔ (¬ (IsAfter self.now (option_copied file.entry)) × ¬ (IsBefore self.now (option_copied file.entry))) }
         // A digest that nothing has is that of no file.
-        ensures unmatched { (digest : List ℕ) → Records self.now digest → NothingHas digest → result ≡ ChangeState.Neither }
-        ensures apart { IsProper self.now → IsBefore self.now (option_copied file.entry) → ¬ (IsAfter self.now (option_copied file.entry)) }
+        ensures unmatched { (digest : List ℕ) → Records self.now digest → NothingHas digest
+            → result ≡ ChangeState.Neither }
+        ensures apart { IsProper self.now → IsBefore self.now (option_copied file.entry)
+            → ¬ (IsAfter self.now (option_copied file.entry)) }
     {
         match self.state_by_range(file) {
             ChangeState::Before if self.is_sealed_before(file) => ChangeState::Before,
@@ -208,12 +213,15 @@ impl Change {
     pub fn state_by_range(&self, file: Option<&[u8]>) -> ChangeState
         ensures before { (result ≡ ChangeState.Before) ↔ IsBeforeByRange self.now (option_copied file.entry) }
         ensures after { (result ≡ ChangeState.After)
-            ↔ (IsAfterByRange self.now (option_copied file.entry) × ¬ (IsBeforeByRange self.now (option_copied file.entry))) }
+            ↔ (IsAfterByRange self.now (option_copied file.entry)
+            × ¬ (IsBeforeByRange self.now (option_copied file.entry))) }
         ensures neither { (result ≡ ChangeState.Neither)
-            ↔ (¬ (IsAfterByRange self.now (option_copied file.entry)) × ¬ (IsBeforeByRange self.now (option_copied file.entry))) }
+            ↔ (¬ (IsAfterByRange self.now (option_copied file.entry))
+            × ¬ (IsBeforeByRange self.now (option_copied file.entry))) }
         // It answers the end at which `state` finds the file.
         ensures at_before { IsBefore self.now (option_copied file.entry) → result ≡ ChangeState.Before }
-        ensures at_after { IsAfter self.now (option_copied file.entry) → ¬ (IsBefore self.now (option_copied file.entry)) → result ≡ ChangeState.After }
+        ensures at_after { IsAfter self.now (option_copied file.entry)
+            → ¬ (IsBefore self.now (option_copied file.entry)) → result ≡ ChangeState.After }
     {
         if self.is_before_by_range(file) {
             ChangeState::Before

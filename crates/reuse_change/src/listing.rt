@@ -17,7 +17,8 @@ use std::cmp::Ordering;
 // How many of the paths, which are in byte order, are below the target.
 fn lower_bound(paths: &[PathText], target: &[u8]) -> usize
     ensures within { result ≤ length paths.now }
-    ensures bound { ArePaths paths.now → IsPartitionPoint (λ path. is_lt (slice_cmp nat_cmp path target.now) ≡ true) (λ path. is_lt (slice_cmp nat_cmp path target.now) ≡ false) paths.now result }
+    ensures bound { ArePaths paths.now → IsPartitionPoint (λ path. is_lt (slice_cmp nat_cmp path target.now) ≡ true)
+        (λ path. is_lt (slice_cmp nat_cmp path target.now) ≡ false) paths.now result }
 {
     paths.partition_point(|path| is_below(path, target))
 }
@@ -53,7 +54,8 @@ pub fn paths_beneath<'a>(
     paths: &'a [PathText],
     folder: &PathText,
 ) -> Result<&'a [PathText], AllocError>
-    ensures { ArePaths paths.now → IfOk result (λ beneath. beneath.now ≡ filter (λ path. lies_under path folder.now) paths.now) }
+    ensures { ArePaths paths.now
+        → IfOk result (λ beneath. beneath.now ≡ filter (λ path. lies_under path folder.now) paths.now) }
 {
     let at = first_beneath(alloc, paths, folder)?;
     let rest = &paths[at..];
@@ -64,7 +66,9 @@ pub fn paths_beneath<'a>(
 // How many of the paths, which are in byte order, are below the folder with a slash behind it.
 fn first_beneath(alloc: Global, paths: &[PathText], folder: &PathText) -> Result<usize, AllocError>
     ensures within { IfOk result (λ at. at ≤ length paths.now) }
-    ensures bound { ArePaths paths.now → IfOk result (IsPartitionPoint (λ path. is_lt (slice_cmp nat_cmp path (folder.now ++ 47 ∷ [])) ≡ true) (λ path. is_lt (slice_cmp nat_cmp path (folder.now ++ 47 ∷ [])) ≡ false) paths.now) }
+    ensures bound { ArePaths paths.now
+        → IfOk result (IsPartitionPoint (λ path. is_lt (slice_cmp nat_cmp path (folder.now ++ 47 ∷ [])) ≡ true)
+        (λ path. is_lt (slice_cmp nat_cmp path (folder.now ++ 47 ∷ [])) ≡ false) paths.now) }
 {
     let mut first = Bytes::from_slice(alloc, folder.as_bytes())?;
     first.push_slice(b"/")?;

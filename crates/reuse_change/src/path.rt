@@ -1,10 +1,13 @@
 //! Paths of a tree, as text.
-ghost use Rattle.std.specs.Prelude.{◌≡◌, List, ℕ, IfOk, IsTrue, IsErrOf, ◌↔◌, false, string_bytes, slice_index, nat_eq, refl, Some};
+ghost use Rattle.std.specs.Prelude.{◌≡◌, List, ℕ, IfOk, IsTrue, IsErrOf, ◌↔◌, false, string_bytes, slice_index, nat_eq};
+ghost use Rattle.std.specs.Prelude.{refl, Some};
 ghost use Rattle.std.specs.Ordering.{nat_cmp};
 ghost use Rattle.std.specs.Cmp.{partial_equiv_from_equiv};
-ghost use Rattle.std.specs.Cmp.Lexicographic.{slice_cmp, pointwise, nat_list_eq_equiv, nat_list_cmp_total, texts_po, texts_ties};
+ghost use Rattle.std.specs.Cmp.Lexicographic.{slice_cmp, pointwise, nat_list_eq_equiv, nat_list_cmp_total, texts_po};
+ghost use Rattle.std.specs.Cmp.Lexicographic.{texts_ties};
 ghost use Rattle.reuse_change.specs.Path.{is_path, is_part, has_no_nul, has_good_parts, lies_under, journal_folder};
 
+use crate::layout::JOURNAL;
 use std::alloc::{AllocError, Global};
 use std::cmp::Ordering;
 use std::marker::Model;
@@ -134,7 +137,7 @@ impl PathText {
     pub fn is_in_journal(&self) -> bool
         ensures { result ≡ lies_under self.now journal_folder }
     {
-        bytes_lie_under(self.as_bytes(), b".reuse/undo")
+        bytes_lie_under(self.as_bytes(), JOURNAL.as_bytes())
     }
 }
 

@@ -1,5 +1,7 @@
 -- A text is the stated one exactly where it is read back as the stated table.
-use Rattle.std.proofs.Common.{◌≡◌, ◌≢◌, ℕ, ℤ, pos, ◌<◌, ◌≤◌, Bool, true, false, cond, ◌&&◌, nat_lt, codes, List, [], ◌∷◌, length, map, Option, Some, None, Result, Ok, Err, IfOk, IfErr, refl, sym, ap, ap₂, ◌∙◌, subst, arith}
+use Rattle.std.proofs.Common.{◌≡◌, ◌≢◌, ℕ, ℤ, pos, ◌<◌, ◌≤◌, Bool, true, false, cond, ◌&&◌, nat_lt, codes, List, []}
+use Rattle.std.proofs.Common.{◌∷◌, length, map, Option, Some, None, Result, Ok, Err, IfOk, IfErr, refl, sym, ap, ap₂}
+use Rattle.std.proofs.Common.{◌∙◌, subst, arith}
 use Rattle.std.specs.Prelude.{Vec}
 use Rattle.std.specs.declared.alloc.Global.{Global}
 use Rattle.std.specs.Str.{bytes_eq}
@@ -15,7 +17,8 @@ use Rattle.reuse_toml.specs.GlobText.{glob_text}
 use Rattle.reuse_dep5.specs.Answers.{IsRefusalOf, IsAnswer}
 use Rattle.reuse_dep5.specs.Dep5.{HeaderValue, Dep5Value}
 use Rattle.reuse_dep5.specs.ReuseTable.{Annotation, annotations_of, toml_text}
-use Rattle.reuse_dep5.specs.ReadBack.{text_items, texts_data, with_text, members_with, annotation_members, annotation_items, with_annotations, with_header, table_of}
+use Rattle.reuse_dep5.specs.ReadBack.{text_items, texts_data, with_text, members_with, annotation_members}
+use Rattle.reuse_dep5.specs.ReadBack.{annotation_items, with_annotations, with_header, table_of}
 use Rattle.reuse_toml.specs.TomlText.{read_toml}
 use Rattle.reuse_dep5.specs.ReuseToml.{IsReuseToml, IsTomlRefusal}
 use Rattle.reuse_dep5.specs.SameData.{is_string, is_integer, same_data, same_items, same_members, is_table}
@@ -52,7 +55,8 @@ mutual
       let parts = and_parts (bytes_eq k l && same_data d e) (same_members ms ns) h in
       let first = and_parts (bytes_eq k l) (same_data d e) parts.0 in
       let keys : k ≡ l = (bytes_eq-Decides k l).0 first.0 in
-      ap (λ x. member x d ms) keys ∙ ap (λ x. member l x ms) (data_is d e first.1) ∙ ap (member l e) (members_are ms ns parts.1)
+      ap (λ x. member x d ms) keys ∙ ap (λ x. member l x ms) (data_is d e first.1)
+      ∙ ap (member l e) (members_are ms ns parts.1)
   members_are ms ns h = absurd (false≢true h)
 
 -- ---- texts, whole numbers, arrays and tables pass it
@@ -74,12 +78,14 @@ none_pass = record { same = refl }
 -- a member, whose value passes, before others that do
 passes_more : (k : List ℕ) (d : Data) (ms : Members) → same_data d d ≡ true → Passes ms → Passes (member k d ms)
 passes_more k d ms e f = record {
-  same = and_true (bytes_eq k k && same_data d d) (same_members ms ms) (and_true (bytes_eq k k) (same_data d d) (same_bytes k) e) f.same;
+  same = and_true (bytes_eq k k && same_data d d) (same_members ms ms)
+      (and_true (bytes_eq k k) (same_data d d) (same_bytes k) e) f.same;
 }
 
 text_items_pass : (texts : List (List ℕ)) → same_items (text_items texts) (text_items texts) ≡ true
 text_items_pass [] = refl
-text_items_pass (text ∷ texts) = and_true (bytes_eq text text) (same_items (text_items texts) (text_items texts)) (same_bytes text) (text_items_pass texts)
+text_items_pass (text ∷ texts) = and_true (bytes_eq text text) (same_items (text_items texts) (text_items texts))
+    (same_bytes text) (text_items_pass texts)
 
 texts_pass : (texts : List (List ℕ)) → same_data (texts_data texts) (texts_data texts) ≡ true
 texts_pass [] = refl
@@ -93,26 +99,33 @@ with_text_passes key text rest h = of_test (is_nil text)
     of_test true = h
     of_test false = passes_more key (string text) rest (same_bytes text) h
 
-members_pass : (paths notices : List (List ℕ)) (license comment : List ℕ) → Passes (members_with paths notices license comment)
+members_pass : (paths notices : List (List ℕ)) (license comment : List ℕ)
+    → Passes (members_with paths notices license comment)
 members_pass paths notices license comment =
     with_text_passes (codes "SPDX-FileComment") comment _
     (passes_more (codes "SPDX-FileCopyrightText") (texts_data notices) _ (texts_pass notices)
     (passes_more (codes "SPDX-License-Identifier") (string license) _ (same_bytes license)
     (passes_more (codes "path") (texts_data paths) _ (texts_pass paths)
-    (passes_more (codes "precedence") (string (codes "aggregate")) no_members (same_bytes (codes "aggregate")) none_pass))))
+    (passes_more (codes "precedence") (string (codes "aggregate")) no_members
+    (same_bytes (codes "aggregate")) none_pass))))
 
-annotations_pass : (annotations : List Annotation) → same_items (annotation_items annotations) (annotation_items annotations) ≡ true
+annotations_pass : (annotations : List Annotation)
+    → same_items (annotation_items annotations) (annotation_items annotations) ≡ true
 annotations_pass [] = refl
 annotations_pass (a ∷ annotations) =
-    and_true (same_members (annotation_members a) (annotation_members a)) (same_items (annotation_items annotations) (annotation_items annotations))
+    and_true (same_members (annotation_members a) (annotation_members a))
+    (same_items (annotation_items annotations) (annotation_items annotations))
     (members_pass (map glob_text a.globs) a.notices a.license a.comment).same (annotations_pass annotations)
 
-with_annotations_passes : (annotations : List Annotation) (rest : Members) → Passes rest → Passes (with_annotations annotations rest)
+with_annotations_passes : (annotations : List Annotation) (rest : Members) → Passes rest
+    → Passes (with_annotations annotations rest)
 with_annotations_passes annotations rest h = of_test (is_nil annotations)
   where
-    of_test : (b : Bool) → Passes (cond b rest (member (codes "annotations") (array (annotation_items annotations)) rest))
+    of_test : (b : Bool)
+        → Passes (cond b rest (member (codes "annotations") (array (annotation_items annotations)) rest))
     of_test true = h
-    of_test false = passes_more (codes "annotations") (array (annotation_items annotations)) rest (annotations_pass annotations) h
+    of_test false =
+        passes_more (codes "annotations") (array (annotation_items annotations)) rest (annotations_pass annotations) h
 
 with_header_passes : (header : HeaderValue) (rest : Members) → Passes rest → Passes (with_header header rest)
 with_header_passes header rest h =
@@ -128,10 +141,12 @@ table_passes dep5 =
 
 -- ---- what is read back
 
-pub read_back : (dep5 : Dep5Value) (found : Option Members) → found ≡ Some (table_of dep5) → is_table found (table_of dep5) ≡ true
+pub read_back : (dep5 : Dep5Value) (found : Option Members) → found ≡ Some (table_of dep5)
+    → is_table found (table_of dep5) ≡ true
 read_back dep5 found e = ap (λ f. is_table f (table_of dep5)) e ∙ (table_passes dep5).same
 
-pub not_read_back : (dep5 : Dep5Value) (found : Option Members) → found ≢ Some (table_of dep5) → is_table found (table_of dep5) ≡ false
+pub not_read_back : (dep5 : Dep5Value) (found : Option Members) → found ≢ Some (table_of dep5)
+    → is_table found (table_of dep5) ≡ false
 not_read_back dep5 None other = refl
 not_read_back dep5 (Some members) other = of_test (same_members members (table_of dep5)) refl
   where
@@ -150,14 +165,16 @@ longer most n h = grind (arith, nat_tests)
 abbrev refused : Dep5Refusal → Result (List ℕ) Dep5Refusal
 refused e = Err e
 
-by_tests : (a b : Bool) (x y : Dep5Refusal) (text : List ℕ) (c d : Bool) → a ≡ c → b ≡ d → cond a (refused x) (cond b (Ok text) (refused y)) ≡ cond c (refused x) (cond d (Ok text) (refused y))
+by_tests : (a b : Bool) (x y : Dep5Refusal) (text : List ℕ) (c d : Bool) → a ≡ c → b ≡ d
+    → cond a (refused x) (cond b (Ok text) (refused y)) ≡ cond c (refused x) (cond d (Ok text) (refused y))
 by_tests a b x y text c d e f = ap₂ (λ p q. cond p (refused x) (cond q (Ok text) (refused y))) e f
 
 abbrev pub items_of : Vec ℕ Global → List ℕ
 items_of text = text.items
 
 -- what is answered to a dep5 is its text
-pub toml_answer : (dep5 : Dep5Value) (result : Result (Vec ℕ Global) Dep5Refusal) → IfOk result (λ text. IsReuseToml dep5 text.items) → IfErr result (IsTomlRefusal dep5) → IsAnswer items_of result (toml_of dep5)
+pub toml_answer : (dep5 : Dep5Value) (result : Result (Vec ℕ Global) Dep5Refusal) → IfOk result
+    (λ text. IsReuseToml dep5 text.items) → IfErr result (IsTomlRefusal dep5) → IsAnswer items_of result (toml_of dep5)
 toml_answer dep5 (Ok text) ok err =
     ap (λ q. text_unless q dep5) ok.no_question
     ∙ by_tests _ _ refusal.TooLong refusal.NotToml (toml_text dep5) false true
@@ -169,7 +186,8 @@ toml_answer dep5 (Err (refusal.BadDep5 line cause)) ok err = absurd err
 toml_answer dep5 (Err (refusal.Question line)) ok err = ap (λ q. text_unless q dep5) err
 toml_answer dep5 (Err refusal.TooLong) ok err =
     ap (λ q. text_unless q dep5) err.0
-    ∙ ap (λ b. cond b (refused refusal.TooLong) (cond (is_table (read_toml (toml_text dep5)) (table_of dep5)) (Ok (toml_text dep5)) (refused refusal.NotToml))) (longer LONGEST_FILE (length (toml_text dep5)) err.1)
+    ∙ ap (λ b. cond b (refused refusal.TooLong) (cond (is_table (read_toml (toml_text dep5)) (table_of dep5))
+    (Ok (toml_text dep5)) (refused refusal.NotToml))) (longer LONGEST_FILE (length (toml_text dep5)) err.1)
 toml_answer dep5 (Err refusal.NotToml) ok err =
     ap (λ q. text_unless q dep5) err.0
     ∙ by_tests _ _ refusal.TooLong refusal.NotToml (toml_text dep5) false false
@@ -177,11 +195,13 @@ toml_answer dep5 (Err refusal.NotToml) ok err =
 toml_answer dep5 (Err refusal.Memory) ok err = tt
 
 -- a refusal of the dep5 is that of its conversion
-pub refusal_stays : (e : Dep5Refusal) (given : Result Dep5Value Dep5Refusal) → IsRefusalOf e given → IsRefusalOf e (converted_from given)
+pub refusal_stays : (e : Dep5Refusal) (given : Result Dep5Value Dep5Refusal) → IsRefusalOf e given
+    → IsRefusalOf e (converted_from given)
 refusal_stays refusal.Memory given h = tt
 refusal_stays e given h = ap converted_from h
 
 -- a text that is answered isn't too long
-pub text_fits : (dep5 : Dep5Value) (result : Result (Vec ℕ Global) Dep5Refusal) → IfOk result (λ text. IsReuseToml dep5 text.items) → IfOk result (λ text. length text.items ≤ LONGEST_FILE)
+pub text_fits : (dep5 : Dep5Value) (result : Result (Vec ℕ Global) Dep5Refusal)
+    → IfOk result (λ text. IsReuseToml dep5 text.items) → IfOk result (λ text. length text.items ≤ LONGEST_FILE)
 text_fits dep5 (Ok text) ok = ok.fits
 text_fits dep5 (Err e) ok = tt

@@ -1,5 +1,6 @@
 -- What a conversion that succeeded, or was refused, has found.
-use Rattle.std.proofs.Common.{◌≡◌, ◌≢◌, ◌↔◌, ◌⊎◌, inl, inr, ℕ, ◌<◌, ◌≤◌, Bool, true, false, cond, nat_lt, List, length, Option, Some, None, Result, Ok, Err, refl, sym, ap, ◌∙◌, subst, arith}
+use Rattle.std.proofs.Common.{◌≡◌, ◌≢◌, ◌↔◌, ◌⊎◌, inl, inr, ℕ, ◌<◌, ◌≤◌, Bool, true, false, cond, nat_lt, List, length}
+use Rattle.std.proofs.Common.{Option, Some, None, Result, Ok, Err, refl, sym, ap, ◌∙◌, subst, arith}
 use Rattle.std.specs.Str.{is_utf8}
 use Rattle.std.proofs.lemmas.Bool.{false≢true}
 use Rattle.std.proofs.lemmas.Bool.Decides.{nat_tests}
@@ -21,15 +22,19 @@ use Rattle.reuse_dep5.proofs.GrammarLemmas.{refused}
 use Rattle.reuse_dep5.proofs.ConversionLemmas.{members_are, read_back, toml_answer}
 
 -- a table passes the test against a stated one exactly where it is that
-pub stated_exactly : (members : Members) (dep5 : Dep5Value) → (same_members members (table_of dep5) ≡ true) ↔ (members ≡ table_of dep5)
-stated_exactly members dep5 = (members_are members (table_of dep5), λ e. read_back dep5 (Some members) (ap (λ ms. Some ms) e))
+pub stated_exactly : (members : Members) (dep5 : Dep5Value)
+    → (same_members members (table_of dep5) ≡ true) ↔ (members ≡ table_of dep5)
+stated_exactly members dep5 =
+    (members_are members (table_of dep5), λ e. read_back dep5 (Some members) (ap (λ ms. Some ms) e))
 
 -- what was found is a table that passes
-found_table : (found : Option Members) (dep5 : Dep5Value) → is_table found (table_of dep5) ≡ true → found ≡ Some (table_of dep5)
+found_table : (found : Option Members) (dep5 : Dep5Value) → is_table found (table_of dep5) ≡ true
+    → found ≡ Some (table_of dep5)
 found_table None dep5 h = absurd (false≢true h)
 found_table (Some members) dep5 h = ap (λ ms. Some ms) (members_are members (table_of dep5) h)
 
-no_table : (found : Option Members) (dep5 : Dep5Value) → is_table found (table_of dep5) ≡ false → found ≢ Some (table_of dep5)
+no_table : (found : Option Members) (dep5 : Dep5Value) → is_table found (table_of dep5) ≡ false
+    → found ≢ Some (table_of dep5)
 no_table found dep5 h e = false≢true (sym h ∙ read_back dep5 found e)
 
 not_over : (most n : ℕ) → nat_lt most n ≡ false → n ≤ most
@@ -44,7 +49,8 @@ over most n h = grind (arith, nat_tests)
 abbrev given : Bool → Bool → List ℕ → Result (List ℕ) Dep5Refusal
 given long same text = cond long (Err refusal.TooLong) (cond same (Ok text) (Err refusal.NotToml))
 
-given_text : (long same : Bool) (text found : List ℕ) → given long same text ≡ Ok found → (long ≡ false) × (same ≡ true) × (text ≡ found)
+given_text : (long same : Bool) (text found : List ℕ) → given long same text ≡ Ok found
+    → (long ≡ false) × (same ≡ true) × (text ≡ found)
 given_text true same text found h = cc
 given_text false true text found h = (refl, refl, cc)
 given_text false false text found h = cc
@@ -55,7 +61,8 @@ text_is dep5 text = by_question (question_of dep5.files) refl
     by_question : (q : Option ℕ) → question_of dep5.files ≡ q → text_unless q dep5 ≡ Ok text → IsReuseToml dep5 text
     by_question (Some line) e h = cc
     by_question None e h =
-        let parts = given_text (nat_lt LONGEST_FILE (length (toml_text dep5))) (is_table (read_toml (toml_text dep5)) (table_of dep5)) (toml_text dep5) text h in
+        let parts = given_text (nat_lt LONGEST_FILE (length (toml_text dep5)))
+        (is_table (read_toml (toml_text dep5)) (table_of dep5)) (toml_text dep5) text h in
         subst (IsReuseToml dep5) parts.2 (record {
           no_question = e;
           stated = refl;
@@ -85,29 +92,43 @@ text_given dep5 text is =
 abbrev IsStatedRefusal : Dep5Value → Dep5Refusal → Type 0
 IsStatedRefusal dep5 e = IsTomlRefusal dep5 e × (e ≢ refusal.Memory)
 
-given_refusal : (dep5 : Dep5Value) (long same : Bool) (e : Dep5Refusal) → question_of dep5.files ≡ None → nat_lt LONGEST_FILE (length (toml_text dep5)) ≡ long → is_table (read_toml (toml_text dep5)) (table_of dep5) ≡ same → given long same (toml_text dep5) ≡ Err e → IsStatedRefusal dep5 e
+given_refusal : (dep5 : Dep5Value) (long same : Bool) (e : Dep5Refusal) → question_of dep5.files ≡ None
+    → nat_lt LONGEST_FILE (length (toml_text dep5)) ≡ long → is_table (read_toml (toml_text dep5))
+    (table_of dep5) ≡ same → given long same (toml_text dep5) ≡ Err e → IsStatedRefusal dep5 e
 given_refusal dep5 true same e none long_is same_is h =
-    subst (IsStatedRefusal dep5) (let f : refusal.TooLong ≡ e = cc in f) ((none, over LONGEST_FILE (length (toml_text dep5)) long_is), λ f. cc)
+    subst (IsStatedRefusal dep5) (let f : refusal.TooLong ≡ e = cc in f)
+    ((none, over LONGEST_FILE (length (toml_text dep5)) long_is), λ f. cc)
 given_refusal dep5 false true e none long_is same_is h = cc
 given_refusal dep5 false false e none long_is same_is h =
-    subst (IsStatedRefusal dep5) (let f : refusal.NotToml ≡ e = cc in f)
-    ((none, not_over LONGEST_FILE (length (toml_text dep5)) long_is, no_table (read_toml (toml_text dep5)) dep5 same_is), λ f. cc)
+    subst (IsStatedRefusal dep5) (let f : refusal.NotToml ≡ e = cc in f) (
+      (
+        none,
+        not_over LONGEST_FILE (length (toml_text dep5)) long_is,
+        no_table (read_toml (toml_text dep5)) dep5 same_is,
+      ),
+      λ f. cc,
+    )
 
 pub refusal_is : (dep5 : Dep5Value) (e : Dep5Refusal) → toml_of dep5 ≡ Err e → IsStatedRefusal dep5 e
 refusal_is dep5 e = by_question (question_of dep5.files) refl
   where
     by_question : (q : Option ℕ) → question_of dep5.files ≡ q → text_unless q dep5 ≡ Err e → IsStatedRefusal dep5 e
-    by_question (Some line) f h = subst (IsStatedRefusal dep5) (let g : refusal.Question line ≡ e = cc in g) (f, λ g. cc)
+    by_question (Some line) f h =
+        subst (IsStatedRefusal dep5) (let g : refusal.Question line ≡ e = cc in g) (f, λ g. cc)
     by_question None f h =
-        given_refusal dep5 (nat_lt LONGEST_FILE (length (toml_text dep5))) (is_table (read_toml (toml_text dep5)) (table_of dep5)) e f refl refl h
+        given_refusal dep5 (nat_lt LONGEST_FILE (length (toml_text dep5)))
+        (is_table (read_toml (toml_text dep5)) (table_of dep5)) e f refl refl h
 
 -- ---- the text of the bytes of a dep5
 
-pub converted_text : (bytes text : List ℕ) → (converted bytes ≡ Ok text) ↔ ((dep5 : Dep5Value) × (dep5_of bytes ≡ Ok dep5) × IsReuseToml dep5 text)
+pub converted_text : (bytes text : List ℕ)
+    → (converted bytes ≡ Ok text) ↔ ((dep5 : Dep5Value) × (dep5_of bytes ≡ Ok dep5) × IsReuseToml dep5 text)
 unfolding converted
-converted_text bytes text = (read (dep5_of bytes) refl, λ found. ap converted_from found.1 ∙ text_given found.0 text found.2)
+converted_text bytes text =
+    (read (dep5_of bytes) refl, λ found. ap converted_from found.1 ∙ text_given found.0 text found.2)
   where
-    read : (r : Result Dep5Value Dep5Refusal) → dep5_of bytes ≡ r → converted_from r ≡ Ok text → (dep5 : Dep5Value) × (dep5_of bytes ≡ Ok dep5) × IsReuseToml dep5 text
+    read : (r : Result Dep5Value Dep5Refusal) → dep5_of bytes ≡ r → converted_from r ≡ Ok text
+        → (dep5 : Dep5Value) × (dep5_of bytes ≡ Ok dep5) × IsReuseToml dep5 text
     read (Ok dep5) e h = (dep5, e, text_is dep5 text h)
     read (Err refused) e h = cc
 
@@ -124,13 +145,16 @@ bad_dep5 number cause e = cc
 never_memory : (bytes : List ℕ) → dep5_of bytes ≢ Err refusal.Memory
 never_memory bytes = by_test (is_utf8 bytes)
   where
-    by_test : (b : Bool) → cond b (paragraphs_of (paragraphs (dep5_lines bytes))) (Err refusal.NotUtf8) ≢ Err refusal.Memory
-    by_test true h = let fault = refused (paragraphs (dep5_lines bytes)) refusal.Memory h in bad_dep5 fault.0 fault.1 fault.2
+    by_test : (b : Bool)
+        → cond b (paragraphs_of (paragraphs (dep5_lines bytes))) (Err refusal.NotUtf8) ≢ Err refusal.Memory
+    by_test true h = let fault = refused (paragraphs (dep5_lines bytes)) refusal.Memory h in
+        bad_dep5 fault.0 fault.1 fault.2
     by_test false h = cc
 
 -- the refusal is that of the dep5, or that of its text
 abbrev pub IsConversionRefusal : List ℕ → Dep5Refusal → Type 0
-IsConversionRefusal bytes e = (e ≢ refusal.Memory) × ((dep5_of bytes ≡ Err e) ⊎ ((dep5 : Dep5Value) × (dep5_of bytes ≡ Ok dep5) × IsTomlRefusal dep5 e))
+IsConversionRefusal bytes e = (e ≢ refusal.Memory)
+    × ((dep5_of bytes ≡ Err e) ⊎ ((dep5 : Dep5Value) × (dep5_of bytes ≡ Ok dep5) × IsTomlRefusal dep5 e))
 
 stated : (e : Dep5Refusal) (r : Result (List ℕ) Dep5Refusal) → e ≢ refusal.Memory → IsRefusalOf e r → r ≡ Err e
 stated refusal.Memory r other h = absurd (other refl)
@@ -140,7 +164,8 @@ pub converted_refusal : (bytes : List ℕ) (e : Dep5Refusal) → (converted byte
 unfolding converted
 converted_refusal bytes e = (read (dep5_of bytes) refl, back)
   where
-    read : (r : Result Dep5Value Dep5Refusal) → dep5_of bytes ≡ r → converted_from r ≡ Err e → IsConversionRefusal bytes e
+    read : (r : Result Dep5Value Dep5Refusal) → dep5_of bytes ≡ r → converted_from r ≡ Err e
+        → IsConversionRefusal bytes e
     read (Ok dep5) f h = let is = refusal_is dep5 e h in (is.1, inr (dep5, f, is.0))
     read (Err d) f h =
         let same : d ≡ e = cc in
@@ -151,5 +176,6 @@ converted_refusal bytes e = (read (dep5_of bytes) refl, back)
     back is =
         elim is.1 [
           | inl f ↦ ap converted_from f
-          | inr found ↦ ap converted_from found.1 ∙ stated e (toml_of found.0) is.0 (toml_answer found.0 (Err e) tt found.2)
+          | inr found ↦
+              ap converted_from found.1 ∙ stated e (toml_of found.0) is.0 (toml_answer found.0 (Err e) tt found.2)
         ]

@@ -1,5 +1,6 @@
 -- The names of the fields of a paragraph, one line after another.
-use Rattle.std.proofs.Common.{◌≡◌, ℕ, ◌||◌, ◌&&◌, Bool, true, false, cond, List, [], ◌∷◌, ◌++◌, refl, sym, ap, ◌∙◌, arith}
+use Rattle.std.proofs.Common.{◌≡◌, ℕ, ◌||◌, ◌&&◌, Bool, true, false, cond, List, [], ◌∷◌, ◌++◌, refl, sym, ap, ◌∙◌}
+use Rattle.std.proofs.Common.{arith}
 use Rattle.std.specs.BTreeSet.{BTreeSet, Updates}
 use Rattle.std.specs.Cmp.Lexicographic.{slice_cmp, texts_ties}
 use Rattle.std.specs.List.{list_any}
@@ -26,7 +27,10 @@ one_more false true = refl
 one_more false false = refl
 
 -- the name of a field line more
-pub names_more : (old new : BTreeSet (List ℕ)) (before : List NumberedLine) (line : NumberedLine) → is_field line.content ≡ true → Updates (slice_cmp nat_cmp) old new (str_to_ascii_lowercase (field_name line.content)) true → HoldsNames old before → HoldsNames new (before ++ line ∷ [])
+pub names_more : (old new : BTreeSet (List ℕ)) (before : List NumberedLine) (line : NumberedLine)
+    → is_field line.content ≡ true
+    → Updates (slice_cmp nat_cmp) old new (str_to_ascii_lowercase (field_name line.content)) true
+    → HoldsNames old before → HoldsNames new (before ++ line ∷ [])
 names_more old new before line field updates holds = λ name.
     let key : List ℕ = str_to_ascii_lowercase (field_name line.content) in
     let q : List ℕ = str_to_ascii_lowercase name in

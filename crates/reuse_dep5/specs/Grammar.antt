@@ -5,7 +5,8 @@ use Rattle.std.specs.Str.{IsUtf8}
 use Rattle.reuse_dep5.specs.declared.refusal.Dep5Refusal.{Dep5Refusal}
 use Rattle.reuse_dep5.specs.declared.refusal.Dep5Refusal.TheVariants.{NotUtf8, BadDep5}
 use Rattle.reuse_dep5.specs.declared.refusal.Dep5Cause.{Dep5Cause}
-use Rattle.reuse_dep5.specs.declared.refusal.Dep5Cause.TheVariants.{Empty, NoField, Orphan, Repeated, NoFormat, NoKind, Missing, BadEscape}
+use Rattle.reuse_dep5.specs.declared.refusal.Dep5Cause.TheVariants.{Empty, NoField, Orphan, Repeated, NoFormat, NoKind}
+use Rattle.reuse_dep5.specs.declared.refusal.Dep5Cause.TheVariants.{Missing, BadEscape}
 use Rattle.reuse_dep5.specs.SourceText.{NumberedLine, is_continuation, dep5_lines, paragraphs}
 use Rattle.reuse_dep5.specs.Fields.{is_field, field_name, has_name, text_of, nonempty_lines, first_line}
 use Rattle.reuse_dep5.specs.PatternText.{words_of, word_pieces}
@@ -30,7 +31,8 @@ IsLineFault before line _ = ⊥
 
 -- the lines are fields: nothing is wrong with any of them
 abbrev pub AreFields : List NumberedLine → Type 0
-AreFields p = (before : List NumberedLine) (line : NumberedLine) (after : List NumberedLine) → p ≡ before ++ line ∷ after → (cause : Dep5Cause) → ¬ IsLineFault before line cause
+AreFields p = (before : List NumberedLine) (line : NumberedLine) (after : List NumberedLine)
+    → p ≡ before ++ line ∷ after → (cause : Dep5Cause) → ¬ IsLineFault before line cause
 
 -- the first line with which something is wrong
 pub record IsFirstLineFault (p : List NumberedLine) (number : ℕ) (cause : Dep5Cause) : Type 0 where
@@ -85,7 +87,8 @@ IsGrammatical (p ∷ ps) = IsHeader p × AreLater ps
 -- what is wrong with a header: a line, else the `Format`
 abbrev pub IsHeaderFault : List NumberedLine → ℕ → Dep5Cause → Type 0
 IsHeaderFault p number cause =
-    IsFirstLineFault p number cause ⊎ (AreFields p × (text_of (format_value p) ≡ []) × (number ≡ first_number p) × (cause ≡ NoFormat))
+    IsFirstLineFault p number cause
+    ⊎ (AreFields p × (text_of (format_value p) ≡ []) × (number ≡ first_number p) × (cause ≡ NoFormat))
 
 -- the first word that is no pattern
 pub record IsFirstBadWord (words : List NumberedLine) (number : ℕ) : Type 0 where

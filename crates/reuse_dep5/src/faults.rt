@@ -23,7 +23,8 @@ fn add_name(
 ) -> Result<bool, AllocError>
     requires holds { HoldsNames names.old before.now }
     requires field { is_field line.now.content ≡ true }
-    ensures added { IfOk result (λ added. added ≡ not (list_any (λ (l : NumberedLine). has_name (field_name line.now.content) l.content) before.now)) }
+    ensures added { IfOk result (λ added. added ≡ not
+        (list_any (λ (l : NumberedLine). has_name (field_name line.now.content) l.content) before.now)) }
     ensures holds { OnOk result (HoldsNames names.new (before.now ++ line.now ∷ [])) }
 {
     let name = leading_name(line.content).to_ascii_lowercase(alloc)?;

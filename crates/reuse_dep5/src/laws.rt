@@ -20,7 +20,8 @@ pub use reuse_toml::{glob_text_is_read_back, globs_are_decided};
 /// Paragraphs are read as a dep5 exactly where they are grammatical, and refused exactly by their
 /// first fault.
 pub fn dep5_is_grammatical()
-    ensures accepted { (ps : List (List NumberedLine)) → ((dep5 : Dep5Value) × (paragraphs_of ps ≡ Ok dep5)) ↔ IsGrammatical ps }
+    ensures accepted { (ps : List (List NumberedLine))
+        → ((dep5 : Dep5Value) × (paragraphs_of ps ≡ Ok dep5)) ↔ IsGrammatical ps }
     ensures refused { (ps : List (List NumberedLine)) (e : Dep5Refusal) → (paragraphs_of ps ≡ Err e)
         ↔ ((number : ℕ) × (cause : Dep5Cause) × (Dep5Refusal.BadDep5 number cause ≡ e) × IsFirstFault ps number cause) }
 {}
@@ -39,24 +40,29 @@ pub fn texts_have_one_answer()
 /// a backslash alone.
 pub fn values_are_text()
     ensures lines { (bytes : List ℕ) → IsUtf8 bytes
-        → EachPasses (λ (p : List NumberedLine). (name : List ℕ) → EachPasses (λ (l : NumberedLine). IsUtf8 l.content) (value_of name p)) (paragraphs (dep5_lines bytes)) }
+        → EachPasses (λ (p : List NumberedLine). (name : List ℕ)
+        → EachPasses (λ (l : NumberedLine). IsUtf8 l.content) (value_of name p)) (paragraphs (dep5_lines bytes)) }
     ensures words { (bytes : List ℕ) → IsUtf8 bytes
-        → EachPasses (λ (p : List NumberedLine). (name : List ℕ) → EachPasses (λ (w : NumberedLine). IsUtf8 w.content) (words_of (value_of name p))) (paragraphs (dep5_lines bytes)) }
+        → EachPasses (λ (p : List NumberedLine). (name : List ℕ) → EachPasses (λ (w : NumberedLine). IsUtf8 w.content)
+        (words_of (value_of name p))) (paragraphs (dep5_lines bytes)) }
 {
     reuse_text::lines_are_one();
 }
 
 /// A table passes the test against the stated table of a dep5 exactly where it is that table.
 pub fn stated_tables_are_known()
-    ensures { (members : Members) (dep5 : Dep5Value) → (same_members members (table_of dep5) ≡ true) ↔ (members ≡ table_of dep5) }
+    ensures { (members : Members) (dep5 : Dep5Value)
+        → (same_members members (table_of dep5) ≡ true) ↔ (members ≡ table_of dep5) }
 {}
 
 /// Bytes convert to a text exactly where they are a dep5 and the text is its `REUSE.toml`, which
 /// has at most 16 MiB. They are refused exactly as the dep5 or its text is, and never for want of
 /// memory.
 pub fn conversions_are_stated()
-    ensures text { (bytes text : List ℕ) → (converted bytes ≡ Ok text) ↔ ((dep5 : Dep5Value) × (dep5_of bytes ≡ Ok dep5) × IsReuseToml dep5 text) }
+    ensures text { (bytes text : List ℕ)
+        → (converted bytes ≡ Ok text) ↔ ((dep5 : Dep5Value) × (dep5_of bytes ≡ Ok dep5) × IsReuseToml dep5 text) }
     ensures fits { (bytes text : List ℕ) → converted bytes ≡ Ok text → length text ≤ LONGEST_FILE }
     ensures refused { (bytes : List ℕ) (e : Dep5Refusal) → (converted bytes ≡ Err e)
-        ↔ ((e ≢ Dep5Refusal.Memory) × ((dep5_of bytes ≡ Err e) ⊎ ((dep5 : Dep5Value) × (dep5_of bytes ≡ Ok dep5) × IsTomlRefusal dep5 e))) }
+        ↔ ((e ≢ Dep5Refusal.Memory)
+        × ((dep5_of bytes ≡ Err e) ⊎ ((dep5 : Dep5Value) × (dep5_of bytes ≡ Ok dep5) × IsTomlRefusal dep5 e))) }
 {}

@@ -5,7 +5,8 @@ ghost use Rattle.reuse_dep5.specs.PatternValue.{PatternValue};
 ghost use Rattle.reuse_dep5.specs.Translation.{translated};
 ghost use Rattle.reuse_toml.specs.GlobText.{glob_text};
 ghost use Rattle.reuse_toml.specs.TomlText.{quoted};
-ghost use Rattle.reuse_dep5.specs.ReuseTable.{more_items, list_text, key_line, text_line, annotation_of, annotation_text, header_text, toml_text};
+ghost use Rattle.reuse_dep5.specs.ReuseTable.{more_items, list_text, key_line, text_line, annotation_of};
+ghost use Rattle.reuse_dep5.specs.ReuseTable.{annotation_text, header_text, toml_text};
 
 use crate::convert::translate_pieces;
 use crate::dep5::{Dep5, FilesParagraph, Header};
@@ -15,7 +16,8 @@ use std::alloc::{AllocError, Global};
 
 /// Writes the items of a list after its first at the end.
 fn push_more_items(out: &mut Vec<u8>, texts: &[Vec<u8>]) -> Result<(), AllocError>
-    ensures { OnOk result (out.new.items ≡ out.old.items ++ more_items (map (λ (t : Vec ℕ Global). t.items) texts.now)) }
+    ensures { OnOk result
+        (out.new.items ≡ out.old.items ++ more_items (map (λ (t : Vec ℕ Global). t.items) texts.now)) }
 {
     for text in texts {
         out.extend_from_slice(b", ")?;
@@ -62,7 +64,8 @@ fn push_quoted_line(out: &mut Vec<u8>, key: &[u8], text: &[u8]) -> Result<(), Al
 
 /// Writes a line with a list of texts at the end.
 fn push_list_line(out: &mut Vec<u8>, key: &[u8], texts: &[Vec<u8>]) -> Result<(), AllocError>
-    ensures { OnOk result (out.new.items ≡ out.old.items ++ key_line key.now (list_text (map (λ (t : Vec ℕ Global). t.items) texts.now))) }
+    ensures { OnOk result (out.new.items ≡ out.old.items ++ key_line key.now
+        (list_text (map (λ (t : Vec ℕ Global). t.items) texts.now))) }
 {
     out.extend_from_slice(key)?;
     out.extend_from_slice(b" = ")?;
@@ -72,7 +75,8 @@ fn push_list_line(out: &mut Vec<u8>, key: &[u8], texts: &[Vec<u8>]) -> Result<()
 
 /// The globs of patterns without `?`, as they are written.
 pub(crate) fn written_globs(alloc: Global, patterns: &[Pattern]) -> Result<Vec<Vec<u8>>, AllocError>
-    ensures { IfOk result (λ texts. map (λ (t : Vec ℕ Global). t.items) texts.items ≡ map glob_text (map (λ (p : PatternValue). translated p.pieces) patterns.now)) }
+    ensures { IfOk result (λ texts. map (λ (t : Vec ℕ Global). t.items) texts.items ≡ map glob_text
+        (map (λ (p : PatternValue). translated p.pieces) patterns.now)) }
 {
     let mut texts = Vec::new(alloc);
     for pattern in patterns {

@@ -49,15 +49,18 @@ pub fn to_toml(alloc: Global, dep5: &Dep5) -> Result<Vec<u8>, Dep5Refusal>
     ensures refused { IfErr result (IsTomlRefusal dep5.now) }
 
     // The first `?` is refused before any memory is asked for.
-    ensures question { (line : ℕ) → (result ≡ Err (Dep5Refusal.Question line)) ↔ (question_of dep5.now.files ≡ Some line) }
+    ensures question { (line : ℕ)
+        → (result ≡ Err (Dep5Refusal.Question line)) ↔ (question_of dep5.now.files ≡ Some line) }
 
     // For every path the last matching record of the text, read with `toml` and its paths as globs,
     // is the record of the last matching paragraph.
-    ensures written_agrees { IfOk result (λ text. (document : Members) → read_toml text.items ≡ Some document → (path : List ℕ) (k : ℕ)
+    ensures written_agrees { IfOk result
+        (λ text. (document : Members) → read_toml text.items ≡ Some document → (path : List ℕ) (k : ℕ)
         → IsWrittenAnswer document path k ↔ IsDep5Answer dep5.now path k) }
 
     // So is that of the records as they are meant.
-    ensures agrees { IfOk result (λ _. (path : List ℕ) (k : ℕ) → IsTableAnswer (annotations_of dep5.now) path k ↔ IsDep5Answer dep5.now path k) }
+    ensures agrees { IfOk result
+        (λ _. (path : List ℕ) (k : ℕ) → IsTableAnswer (annotations_of dep5.now) path k ↔ IsDep5Answer dep5.now path k) }
 {
     if let Some(line) = first_question_of(&dep5.files) {
         return Err(Dep5Refusal::Question(line));

@@ -1,12 +1,15 @@
 -- What a value was, where a part of it was read.
-use Rattle.std.proofs.Common.{◌≡◌, ℕ, ◌+◌, ◌^◌, ◌==◌, ◌<◌, ◌≤◌, length, get_or, drop, Bool, true, false, cond, ◌⊎◌, inl, inr, List, [], ◌∷◌, ◌++◌, map, Option, Some, None, option_and_then, refl, sym, ap, ap₂, ◌∙◌, subst, lt-ltb, ltb-true, eqb-true, append_assoc, append-nil, Result, Ok, Err}
+use Rattle.std.proofs.Common.{◌≡◌, ℕ, ◌+◌, ◌^◌, ◌==◌, ◌<◌, ◌≤◌, length, get_or, drop, Bool, true, false, cond, ◌⊎◌, inl}
+use Rattle.std.proofs.Common.{inr, List, [], ◌∷◌, ◌++◌, map, Option, Some, None, option_and_then, refl, sym, ap, ap₂}
+use Rattle.std.proofs.Common.{◌∙◌, subst, lt-ltb, ltb-true, eqb-true, append_assoc, append-nil, Result, Ok, Err}
 use Rattle.std.specs.Prelude.{IfOk}
 use Rattle.std.specs.List.{AllByRecursion}
 use Rattle.std.proofs.lemmas.List.{drop_more, drop_all}
 use Rattle.std.proofs.lemmas.Option.{none-some, same_Some, cond_some}
 use Rattle.std.specs.Str.{bytes_eq}
 use Rattle.std.proofs.lemmas.Slice.Eq.{bytes_eq-Decides}
-use Rattle.serde_json.specs.Data.{Num, unsigned, Data, number, string, array, object, Items, no_items, item, Members, no_members, member}
+use Rattle.serde_json.specs.Data.{Num, unsigned, Data, number, string, array, object, Items, no_items, item, Members}
+use Rattle.serde_json.specs.Data.{no_members, member}
 use Rattle.serde_json.specs.Find.{as_array, as_object, as_str, as_u64}
 use Rattle.serde_json.specs.View.{view, items_of, items_view}
 use Rattle.serde_json.specs.declared.value.Value.{Value}
@@ -14,24 +17,29 @@ use Rattle.reuse_json.specs.declared.fault.DecodeFault.{DecodeFault}
 use Rattle.reuse_json.specs.declared.fault.DecodeFault.TheVariants.{NotGood, Memory}
 use Rattle.reuse_json.specs.Decoded.{Fails, Gives, IsAnswer}
 use Rattle.reuse_json.specs.Json.{count, counts, IsJson}
-use Rattle.reuse_json.specs.JsonReading.{first_member, field_in, if_none_left, number_in, small_in, smalls_in, read_items, format_of_number, format_in, with_front}
+use Rattle.reuse_json.specs.JsonReading.{first_member, field_in, if_none_left, number_in, small_in, smalls_in}
+use Rattle.reuse_json.specs.JsonReading.{read_items, format_of_number, format_in, with_front}
 use Rattle.reuse_json.specs.Format.{format_number}
 
 -- the two steps of a bind that gave a value
-pub bind_some : {A B : Type 0} (f : A → Option B) (o : Option A) (y : B) → option_and_then f o ≡ Some y → (x : A) × (o ≡ Some x) × (f x ≡ Some y)
+pub bind_some : {A B : Type 0} (f : A → Option B) (o : Option A) (y : B) → option_and_then f o ≡ Some y
+    → (x : A) × (o ≡ Some x) × (f x ≡ Some y)
 bind_some f None y e = absurd (none-some y e)
 bind_some f (Some x) y e = (x, refl, e)
 
 -- either the test led to the value, or it failed and the rest did
-pub either : {A : Type 0} (b : Bool) (x y : A) (rest : Option A) → cond b (Some x) rest ≡ Some y → ((b ≡ true) × (x ≡ y)) ⊎ (rest ≡ Some y)
+pub either : {A : Type 0} (b : Bool) (x y : A) (rest : Option A) → cond b (Some x) rest ≡ Some y
+    → ((b ≡ true) × (x ≡ y)) ⊎ (rest ≡ Some y)
 either true x y rest e = inl (refl, same_Some x y e)
 either false x y rest e = inr e
 
 -- a name that is that of a word
-pub named : {A : Type 0} (text : A → List ℕ) (name : List ℕ) (v w : A) → (bytes_eq name (text v) ≡ true) × (v ≡ w) → name ≡ text w
+pub named : {A : Type 0} (text : A → List ℕ) (name : List ℕ) (v w : A)
+    → (bytes_eq name (text v) ≡ true) × (v ≡ w) → name ≡ text w
 named text name v w h = (bytes_eq-Decides name (text v)).0 h.0 ∙ ap text h.1
 
-pub first_member_found : (key : List ℕ) (ms : Members) (p : Data × Members) → first_member key ms ≡ Some p → ms ≡ member key p.0 p.1
+pub first_member_found : (key : List ℕ) (ms : Members) (p : Data × Members) → first_member key ms ≡ Some p
+    → ms ≡ member key p.0 p.1
 first_member_found key no_members p e = absurd (none-some p e)
 first_member_found key (member k d rest) p e =
     let t = cond_some _ _ _ e in
@@ -39,16 +47,20 @@ first_member_found key (member k d rest) p e =
     ap (λ l. member l d rest) same ∙ ap (λ (q : Data × Members). member key q.0 q.1) t.1
 
 -- what was read of the first member
-pub field_found : {A : Type 0} (f : Data → Option A) (key : List ℕ) (ms : Members) (p : A × Members) → field_in f key ms ≡ Some p → (d : Data) × (f d ≡ Some p.0) × (ms ≡ member key d p.1)
+pub field_found : {A : Type 0} (f : Data → Option A) (key : List ℕ) (ms : Members) (p : A × Members)
+    → field_in f key ms ≡ Some p → (d : Data) × (f d ≡ Some p.0) × (ms ≡ member key d p.1)
 field_found {A} f key ms p e =
     let first = bind_some _ (first_member key ms) p e in
     let value = bind_some _ (f first.0.0) p first.2 in
-    subst (λ (q : A × Members). (d : Data) × (f d ≡ Some q.0) × (ms ≡ member key d q.1)) (same_Some (value.0, first.0.1) p value.2) (first.0.0, value.1, first_member_found key ms first.0 first.1)
+    subst (λ (q : A × Members). (d : Data) × (f d ≡ Some q.0) × (ms ≡ member key d q.1))
+    (same_Some (value.0, first.0.1) p value.2) (first.0.0, value.1, first_member_found key ms first.0 first.1)
 
 -- where that tells the member's value
-pub field_is : {A : Type 0} (f : Data → Option A) (value : A → Data) → ((d : Data) (x : A) → f d ≡ Some x → d ≡ value x) → (key : List ℕ) (ms : Members) (p : A × Members)
+pub field_is : {A : Type 0} (f : Data → Option A) (value : A → Data) → ((d : Data) (x : A) → f d ≡ Some x → d ≡ value x)
+    → (key : List ℕ) (ms : Members) (p : A × Members)
     → field_in f key ms ≡ Some p → ms ≡ member key (value p.0) p.1
-field_is f value found key ms p e = let field = field_found f key ms p e in field.2 ∙ ap (λ (d : Data). member key d p.1) (found field.0 p.0 field.1)
+field_is f value found key ms p e = let field = field_found f key ms p e in
+    field.2 ∙ ap (λ (d : Data). member key d p.1) (found field.0 p.0 field.1)
 
 pub none_left_found : (ms : Members) (u : Unit) → if_none_left ms ≡ Some u → ms ≡ no_members
 none_left_found no_members u e = refl
@@ -105,9 +117,11 @@ smalls_in_items_found no_items ns e = ap (λ (ms : List ℕ). items_of (map coun
 smalls_in_items_found (item d ds) ns e =
     let first = bind_some _ (small_in d) ns e in
     let rest = bind_some _ (read_items small_in ds) ns first.2 in
-    ap₂ item (small_found d first.0 first.1).0 (smalls_in_items_found ds rest.0 rest.1) ∙ ap (λ (ms : List ℕ). items_of (map count ms)) (same_Some _ ns rest.2)
+    ap₂ item (small_found d first.0 first.1).0 (smalls_in_items_found ds rest.0 rest.1)
+    ∙ ap (λ (ms : List ℕ). items_of (map count ms)) (same_Some _ ns rest.2)
 
-smalls_in_items_again : (ns : List ℕ) → AllByRecursion (λ n. n < 2 ^ 32) ns → read_items small_in (items_of (map count ns)) ≡ Some ns
+smalls_in_items_again : (ns : List ℕ) → AllByRecursion (λ n. n < 2 ^ 32) ns
+    → read_items small_in (items_of (map count ns)) ≡ Some ns
 unfolding read_items
 smalls_in_items_again [] h = refl
 smalls_in_items_again (n ∷ ns) h = rw (small_again n h.0, smalls_in_items_again ns h.1) refl
@@ -128,7 +142,8 @@ with_front-nil : {A : Type 0} (o : Option (List A)) → with_front [] o ≡ o
 with_front-nil None = refl
 with_front-nil (Some xs) = refl
 
-with_front-push : {A : Type 0} (front : List A) (x : A) (o : Option (List A)) → with_front (front ++ x ∷ []) o ≡ with_front front (option_and_then (λ xs. Some (x ∷ xs)) o)
+with_front-push : {A : Type 0} (front : List A) (x : A) (o : Option (List A))
+    → with_front (front ++ x ∷ []) o ≡ with_front front (option_and_then (λ xs. Some (x ∷ xs)) o)
 with_front-push front x None = refl
 with_front-push front x (Some xs) = ap Some (append_assoc front (x ∷ []) xs)
 
@@ -137,16 +152,20 @@ module _ {A : Type 0} (f : Data → Option A) (vs : List Value) where
   abbrev pub rest_read : List A → ℕ → Option (List A)
   rest_read front i = with_front front (read_items f (items_view (drop i vs)))
 
-  step : (front : List A) (i : ℕ) (v : Value) → i < length vs → v ≡ get_or vs i v → rest_read front i ≡ with_front front (option_and_then (λ x. option_and_then (λ xs. Some (x ∷ xs)) (read_items f (items_view (drop (i + 1) vs)))) (f (view v)))
+  step : (front : List A) (i : ℕ) (v : Value) → i < length vs → v ≡ get_or vs i v
+      → rest_read front i ≡ with_front front (option_and_then
+      (λ x. option_and_then (λ xs. Some (x ∷ xs)) (read_items f (items_view (drop (i + 1) vs)))) (f (view v)))
   unfolding read_items
   step front i v within is = rw (drop_more vs i v within) (rw (← is) refl)
 
   -- one more item was read
-  pub one_more : (front : List A) (i : ℕ) (v : Value) (x : A) → i < length vs → v ≡ get_or vs i v → f (view v) ≡ Some x → rest_read front i ≡ rest_read (front ++ x ∷ []) (i + 1)
+  pub one_more : (front : List A) (i : ℕ) (v : Value) (x : A) → i < length vs → v ≡ get_or vs i v → f (view v) ≡ Some x
+      → rest_read front i ≡ rest_read (front ++ x ∷ []) (i + 1)
   one_more front i v x within is e = step front i v within is ∙ rw e (sym (with_front-push front x _))
 
   -- an item was refused
-  pub one_refused : (front : List A) (i : ℕ) (v : Value) → i < length vs → v ≡ get_or vs i v → f (view v) ≡ None → rest_read front i ≡ None
+  pub one_refused : (front : List A) (i : ℕ) (v : Value) → i < length vs → v ≡ get_or vs i v → f (view v) ≡ None
+      → rest_read front i ≡ None
   one_refused front i v within is e = step front i v within is ∙ rw e refl
 
   -- nothing was read yet
@@ -159,17 +178,20 @@ module _ {A : Type 0} (f : Data → Option A) (vs : List Value) where
   all_read front i past = rw (drop_all i vs past) (ap Some (append-nil front))
 
 -- an error that one step passes on is right for the whole
-pub refusal_passes : {A B : Type 0} (e : DecodeFault) (part : Option A) (whole : Option B) → (part ≡ None → whole ≡ None) → Fails e part → Fails e whole
+pub refusal_passes : {A B : Type 0} (e : DecodeFault) (part : Option A) (whole : Option B)
+    → (part ≡ None → whole ≡ None) → Fails e part → Fails e whole
 refusal_passes NotGood part whole passes h = passes h
 refusal_passes Memory part whole passes h = tt
 
 -- ---- from what is read to what is answered
 
-pub IfOk-from_gives : {A : Type 0} (r : Result A DecodeFault) (o : Option A) (P : A → Type 0) → ((x : A) → o ≡ Some x → P x) → Gives r o → IfOk r P
+pub IfOk-from_gives : {A : Type 0} (r : Result A DecodeFault) (o : Option A) (P : A → Type 0)
+    → ((x : A) → o ≡ Some x → P x) → Gives r o → IfOk r P
 IfOk-from_gives (Ok x) o P each gives = each x gives
 IfOk-from_gives (Err e) o P each gives = tt
 
-pub IsAnswer-from_gives : {A : Type 0} (r : Result A DecodeFault) (o : Option A) (x : A) → Gives r o → o ≡ Some x → IsAnswer r x
+pub IsAnswer-from_gives : {A : Type 0} (r : Result A DecodeFault) (o : Option A) (x : A) → Gives r o
+    → o ≡ Some x → IsAnswer r x
 IsAnswer-from_gives (Ok y) o x gives e = same_Some y x (sym gives ∙ e)
 IsAnswer-from_gives (Err NotGood) o x gives e = none-some x (sym gives ∙ e)
 IsAnswer-from_gives (Err Memory) o x gives e = tt

@@ -1,5 +1,6 @@
 -- A value with no float is read back from its compact text.
-use Rattle.std.proofs.Common.{◌≡◌, ℕ, ◌≤◌, List, [], ◌∷◌, ◌++◌, map, false, Some, Option, option_and_then, refl, sym, ap, ap₂, ◌∙◌, append_assoc, append-nil}
+use Rattle.std.proofs.Common.{◌≡◌, ℕ, ◌≤◌, List, [], ◌∷◌, ◌++◌, map, false, Some, Option, option_and_then, refl, sym}
+use Rattle.std.proofs.Common.{ap, ap₂, ◌∙◌, append_assoc, append-nil}
 use Rattle.std.specs.List.{join_with_byte}
 use Rattle.json.specs.Token.{Token}
 use Rattle.json.specs.Lex.{tokens}
@@ -25,11 +26,13 @@ pub record IsReadable (d : Data) : Type 0 where
 pub read-compact_text : (d : Data) → IsReadable d → read (compact_text d) ≡ Some d
 read-compact_text d h =
     let ts = tree.json_tokens (outline d) in
-    let same : tokens (compact_text d) ≡ ts ++ [] = ap tokens (sym (print-outline d)) ∙ tokens-print ts (ArePrintable-json_tokens (outline d) h.numbers) ∙ sym (append-nil ts) in
+    let same : tokens (compact_text d) ≡ ts ++ [] = ap tokens (sym (print-outline d))
+    ∙ tokens-print ts (ArePrintable-json_tokens (outline d) h.numbers) ∙ sym (append-nil ts) in
     ap whole (ap (json.value max_depth) same ∙ value-json_tokens (outline d) max_depth [] h.shallow) ∙ h.again
 
 -- the text of an array's items, each with its text
-pub items_text-map : {A : Type 0} (value : A → Data) (text : A → List ℕ) → ((x : A) → compact_text (value x) ≡ text x) → (xs : List A) → items_text false (items_of (map value xs)) ≡ join_with_byte 44 (map text xs) ++ 93 ∷ []
+pub items_text-map : {A : Type 0} (value : A → Data) (text : A → List ℕ) → ((x : A) → compact_text (value x) ≡ text x)
+    → (xs : List A) → items_text false (items_of (map value xs)) ≡ join_with_byte 44 (map text xs) ++ 93 ∷ []
 items_text-map value text same [] = refl
 items_text-map value text same (x ∷ []) = ap (λ l. l ++ 93 ∷ []) (same x)
 items_text-map value text same (x ∷ y ∷ xs) =

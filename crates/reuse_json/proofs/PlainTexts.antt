@@ -21,11 +21,15 @@ plain_digits [] h = All-nil _
 plain_digits (b ∷ bytes) h =
     let byte : b < 256 = h 0 in
     let Plain : ℕ → Type 0 = λ x. is_plain x ≡ true in
-    All-cons Plain (slice_index lower_digits (b / 16)) (slice_index lower_digits (b % 16) ∷ encode_lower bytes) (plain_digit (b / 16) 0 (omega arith))
-    (All-cons Plain (slice_index lower_digits (b % 16)) (encode_lower bytes) (plain_digit (b % 16) 0 (omega arith)) (plain_digits bytes (λ i. h (suc i))))
+    All-cons Plain (slice_index lower_digits (b / 16)) (slice_index lower_digits (b % 16) ∷ encode_lower bytes)
+    (plain_digit (b / 16) 0 (omega arith))
+    (All-cons Plain (slice_index lower_digits (b % 16)) (encode_lower bytes) (plain_digit (b % 16) 0 (omega arith))
+    (plain_digits bytes (λ i. h (suc i))))
 
 -- the digits of two lists of bytes in a row
-pub encode_with-append : (table xs ys : List ℕ) → encode_with table (xs ++ ys) ≡ encode_with table xs ++ encode_with table ys
+pub encode_with-append : (table xs ys : List ℕ)
+    → encode_with table (xs ++ ys) ≡ encode_with table xs ++ encode_with table ys
 unfolding encode_with
 encode_with-append table [] ys = refl
-encode_with-append table (x ∷ xs) ys = ap (λ (l : List ℕ). slice_index table (x / 16) ∷ slice_index table (x % 16) ∷ l) (encode_with-append table xs ys)
+encode_with-append table (x ∷ xs) ys =
+    ap (λ (l : List ℕ). slice_index table (x / 16) ∷ slice_index table (x % 16) ∷ l) (encode_with-append table xs ys)

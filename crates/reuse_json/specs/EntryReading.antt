@@ -1,5 +1,6 @@
 -- For private clauses: an entry's value as it is taken apart.
-use Rattle.std.specs.Prelude.{ℕ, ◌==◌, nat_le, nat_lt, Bool, true, false, List, [], ◌∷◌, ◌++◌, length, codes, Option, Some, None, option_and_then, option_map, if◌then◌else◌}
+use Rattle.std.specs.Prelude.{ℕ, ◌==◌, nat_le, nat_lt, Bool, true, false, List, [], ◌∷◌, ◌++◌, length, codes, Option}
+use Rattle.std.specs.Prelude.{Some, None, option_and_then, option_map, if◌then◌else◌}
 use Rattle.std.specs.Result.{result_ok}
 use Rattle.std.specs.Str.{bytes_eq}
 use Rattle.hex.specs.Hex.{decode_of}
@@ -13,7 +14,8 @@ use Rattle.reuse_change.specs.declared.digest.Seal.{Seal}
 use Rattle.reuse_change.specs.declared.change.Change.TheVariants.{Make, Drop, Splice}
 use Rattle.reuse_json.specs.declared.entry.Entry.{Entry}
 use Rattle.reuse_change.specs.declared.command_name.CommandName.{CommandName}
-use Rattle.reuse_change.specs.declared.command_name.CommandName.TheVariants.{Annotate, ConvertDep5, Download, Revert, Amend}
+use Rattle.reuse_change.specs.declared.command_name.CommandName.TheVariants.{Annotate, ConvertDep5, Download, Revert}
+use Rattle.reuse_change.specs.declared.command_name.CommandName.TheVariants.{Amend}
 
 -- the value is this text
 abbrev pub if_text : List ℕ → Data → Option Unit
@@ -60,7 +62,8 @@ digest_in d = do
   digest ← hex_in d
   if length digest == 32 then Some digest else None
 
--- the digest of the first member, which has to have this key, and the members after it; where the changes are not sealed, none
+-- the digest of the first member, which has to have this key, and the members after it; where the changes are not
+-- sealed, none
 unfoldable pub first_digest : Bool → List ℕ → Members → Option (Option (List ℕ) × Members)
 first_digest false key fields = Some (None, fields)
 first_digest true key fields = do
@@ -161,7 +164,8 @@ listed_in sealed fields = if_few_changes (option_and_then (changes_in sealed) (g
 -- the changes that were read, and the next one, unless they are too many
 abbrev pub with_next : Option (List Change) → Option Change → Option (List Change)
 with_next None next = None
-with_next (Some changes) next = if nat_lt (length changes) 100000 then option_map (λ change. changes ++ change ∷ []) next else None
+with_next (Some changes) next =
+    if nat_lt (length changes) 100000 then option_map (λ change. changes ++ change ∷ []) next else None
 
 unfoldable pub entry_in : Data → Option Entry
 entry_in d = do

@@ -2,18 +2,20 @@
 use Rattle.std.specs.Prelude.{◌≡◌, ℕ, nat_le, false, List, length, Some, if◌then◌else◌}
 use Rattle.json.specs.Token.{Token}
 use Rattle.json.specs.Json.{value, items, members}
-use Rattle.serde_json.specs.Data.{Data, null, boolean, number, string, array, object, Items, no_items, item, Members, no_members, member}
+use Rattle.serde_json.specs.Data.{Data, null, boolean, number, string, array, object, Items, no_items, item, Members}
+use Rattle.serde_json.specs.Data.{no_members, member}
 use Rattle.serde_json.specs.Events.{items_len, members_len}
 use Rattle.serde_json.specs.Read.{of_json, of_items, of_members, converted}
 use Rattle.serde_json.specs.View.{view}
 use Rattle.serde_json.specs.declared.value.Value.{Value}
+use Rattle.reuse_change.specs.declared.layout.TheConstants.{MOST_LISTED}
 use Rattle.reuse_json.specs.declared.room.Room.{Room}
 use Rattle.reuse_json.specs.declared.room.Room.TheVariants.{Head, Numbers, Entry, Change, Leaf}
 
 -- how many items or members are kept at a place
 abbrev pub most : Room → ℕ
 most Head = 5
-most Numbers = 4096
+most Numbers = MOST_LISTED
 most Entry = 4
 most Change = 8
 most Leaf = 0
@@ -54,13 +56,17 @@ one_more room more found = if nat_le (length found) (most room) then more else f
 
 -- of the tokens `old`, a value comes first, which is this one when it is trimmed, and then `new`
 abbrev pub ReadsValue : ℕ → Room → List Token → List Token → Value → Type 0
-ReadsValue depth room old new v = (d : Data) × (converted of_json (value depth old) ≡ Some (d, new)) × (view v ≡ trim room d)
+ReadsValue depth room old new v =
+    (d : Data) × (converted of_json (value depth old) ≡ Some (d, new)) × (view v ≡ trim room d)
 
 -- the items of a list come first
 abbrev pub ReadsItems : ℕ → Room → List Token → List Token → Value → Type 0
-ReadsItems depth room old new v = (ds : Items) × (converted of_items (items (value depth) (length old) old) ≡ Some (ds, new)) × (view v ≡ trim room (array ds))
+ReadsItems depth room old new v = (ds : Items)
+    × (converted of_items (items (value depth) (length old) old) ≡ Some (ds, new)) × (view v ≡ trim room (array ds))
 
 -- the members of an object come first
 abbrev pub ReadsMembers : ℕ → Room → List Token → List Token → Value → Type 0
 ReadsMembers depth room old new v =
-    (ms : Members) × (converted (λ js. of_members js no_members) (members (value depth) (length old) old) ≡ Some (ms, new)) × (view v ≡ trim room (object ms))
+    (ms : Members)
+    × (converted (λ js. of_members js no_members) (members (value depth) (length old) old) ≡ Some (ms, new))
+    × (view v ≡ trim room (object ms))

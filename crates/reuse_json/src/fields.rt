@@ -3,7 +3,8 @@ ghost use Rattle.serde_json.specs.Find.{as_object, as_str};
 ghost use Rattle.serde_json.specs.View.{view, items_view, members_view};
 ghost use Rattle.reuse_json.specs.Decoded.{Gives, GivesBy};
 ghost use Rattle.reuse_json.specs.EntryReading.{digest_in, first_digest, hex_in, if_text, moment_in, path_in};
-ghost use Rattle.reuse_json.specs.JsonReading.{field_in, first_member, if_none_left, format_in, number_in, small_in, smalls_in, read_items};
+ghost use Rattle.reuse_json.specs.JsonReading.{field_in, first_member, if_none_left, format_in, number_in, small_in};
+ghost use Rattle.reuse_json.specs.JsonReading.{smalls_in, read_items};
 
 use crate::fault::DecodeFault;
 use hex::FromHexError;
@@ -71,7 +72,8 @@ fn expect_text(value: &Value, text: &str) -> Result<(), DecodeFault>
 
 /// Tests that the next member has this key, and this text as its value.
 pub fn expect_next(fields: &mut Fields<'_>, key: &str, text: &str) -> Result<(), DecodeFault>
-    ensures { GivesBy (λ found. (found, members_view fields.new)) result (field_in (if_text text.now) key.now (members_view fields.old)) }
+    ensures { GivesBy (λ found. (found, members_view fields.new)) result
+        (field_in (if_text text.now) key.now (members_view fields.old)) }
 {
     expect_text(field(fields, key)?, text)
 }
@@ -89,7 +91,8 @@ fn bytes_of(alloc: Global, value: &Value) -> Result<Bytes, DecodeFault>
 
 /// The bytes of the next member, which has to have this key.
 pub fn next_bytes(alloc: Global, fields: &mut Fields<'_>, key: &str) -> Result<Bytes, DecodeFault>
-    ensures { GivesBy (λ bytes. (bytes, members_view fields.new)) result (field_in hex_in key.now (members_view fields.old)) }
+    ensures { GivesBy (λ bytes. (bytes, members_view fields.new)) result
+        (field_in hex_in key.now (members_view fields.old)) }
 {
     bytes_of(alloc, field(fields, key)?)
 }
@@ -110,7 +113,8 @@ pub fn next_digest<'a>(
     key: &str,
     sealed: bool,
 ) -> Result<Option<Digest>, DecodeFault>
-    ensures { GivesBy (λ digest. (digest, members_view fields.new)) result (first_digest sealed key.now (members_view fields.old)) }
+    ensures { GivesBy (λ digest. (digest, members_view fields.new)) result
+        (first_digest sealed key.now (members_view fields.old)) }
 {
     if sealed {
         Ok(Some(digest_of(alloc, field(fields, key)?)?))
@@ -132,7 +136,8 @@ fn path_of(alloc: Global, value: &Value) -> Result<PathText, DecodeFault>
 
 /// The path of the next member, which has to have this key.
 pub fn next_path(alloc: Global, fields: &mut Fields<'_>, key: &str) -> Result<PathText, DecodeFault>
-    ensures { GivesBy (λ path. (path, members_view fields.new)) result (field_in path_in key.now (members_view fields.old)) }
+    ensures { GivesBy (λ path. (path, members_view fields.new)) result
+        (field_in path_in key.now (members_view fields.old)) }
 {
     path_of(alloc, field(fields, key)?)
 }
@@ -153,7 +158,8 @@ fn number_of(value: &Value) -> Result<u64, DecodeFault>
 
 /// The number of the next member, which has to have this key.
 pub fn next_number(fields: &mut Fields<'_>, key: &str) -> Result<u64, DecodeFault>
-    ensures { GivesBy (λ number. (number, members_view fields.new)) result (field_in number_in key.now (members_view fields.old)) }
+    ensures { GivesBy (λ number. (number, members_view fields.new)) result
+        (field_in number_in key.now (members_view fields.old)) }
 {
     number_of(field(fields, key)?)
 }
@@ -172,7 +178,8 @@ fn small_of(value: &Value) -> Result<u32, DecodeFault>
 
 /// The number of 32 bits of the next member, which has to have this key.
 pub fn next_small(fields: &mut Fields<'_>, key: &str) -> Result<u32, DecodeFault>
-    ensures { GivesBy (λ number. (number, members_view fields.new)) result (field_in small_in key.now (members_view fields.old)) }
+    ensures { GivesBy (λ number. (number, members_view fields.new)) result
+        (field_in small_in key.now (members_view fields.old)) }
 {
     small_of(field(fields, key)?)
 }
@@ -190,7 +197,8 @@ fn is_second_format(value: &Value) -> Result<bool, DecodeFault>
 
 /// Whether the format, which the next member has to tell under this key, is the second.
 pub fn next_format(fields: &mut Fields<'_>, key: &str) -> Result<bool, DecodeFault>
-    ensures { GivesBy (λ second. (second, members_view fields.new)) result (field_in format_in key.now (members_view fields.old)) }
+    ensures { GivesBy (λ second. (second, members_view fields.new)) result
+        (field_in format_in key.now (members_view fields.old)) }
 {
     is_second_format(field(fields, key)?)
 }
@@ -215,7 +223,8 @@ pub fn next_numbers(
     fields: &mut Fields<'_>,
     key: &str,
 ) -> Result<EntryNumbers, DecodeFault>
-    ensures { GivesBy (λ numbers. (numbers, members_view fields.new)) result (field_in smalls_in key.now (members_view fields.old)) }
+    ensures { GivesBy (λ numbers. (numbers, members_view fields.new)) result
+        (field_in smalls_in key.now (members_view fields.old)) }
 {
     numbers_of(alloc, field(fields, key)?)
 }

@@ -1,5 +1,6 @@
 //! A text of the journal, taken apart as this program writes it.
-ghost use Rattle.std.specs.Prelude.{◌≡◌, ◌↔◌, ◌++◌, ◌∷◌, ◌<◌, ◌≤◌, ◌+◌, [], List, ℕ, Some, IfOk, IfSome, OnOk, IsTrue, IsUtf8, decimal, codes, false, take, slice_index, length};
+ghost use Rattle.std.specs.Prelude.{◌≡◌, ◌↔◌, ◌++◌, ◌∷◌, ◌<◌, ◌≤◌, ◌+◌, [], List, ℕ, Some, IfOk, IfSome, OnOk, IsTrue};
+ghost use Rattle.std.specs.Prelude.{IsUtf8, decimal, codes, false, take, slice_index, length};
 ghost use Rattle.std.specs.List.{AllPass};
 ghost use Rattle.json.specs.Print.{quoted};
 ghost use Rattle.json.specs.Run.{is_plain};
@@ -96,7 +97,8 @@ impl<'a> WrittenText<'a> {
 
     /// Takes a member whose value is a digest, where this opening of one stands next.
     pub fn digest(&mut self, opening: &str) -> Result<Option<Digest>, DecodeFault>
-        ensures text { (key : List ℕ) → opening.now ≡ codes "\"" ++ key ++ codes "\":" → IfOk result (λ digest. self.old ≡ digest_text key digest ++ self.new) }
+        ensures text { (key : List ℕ) → opening.now ≡ codes "\"" ++ key ++ codes "\":"
+            → IfOk result (λ digest. self.old ≡ digest_text key digest ++ self.new) }
         ensures digest { IfOk result AreDigestBytes }
     {
         if !self.skip(opening) {

@@ -80,7 +80,8 @@ pub fn try_lock<R: Files<File = File>>(
     noted: &mut LockRecord,
 ) -> (Option<AskedFolder>, LockAnswer)
     ensures noted { noted.new.calls ≡ TryCall path.now hold result.1 ∷ noted.old.calls }
-    ensures opened { MatchOption result.0 (result.1 ≡ LockAnswer.NotOpened) (λ folder. result.1 ≢ LockAnswer.NotOpened) }
+    ensures opened { MatchOption result.0 (result.1 ≡ LockAnswer.NotOpened)
+        (λ folder. result.1 ≢ LockAnswer.NotOpened) }
 {
     let Some(folder) = open_folder(rt, path).unwrap_or(None) else {
         let kind = AskKind::Lock(hold, LockAnswer::NotOpened);

@@ -1,8 +1,10 @@
 //! One run at a time on a tree, and on the trees that lie in one another.
 #![tactic(auto)]
 
-ghost use Rattle.std.specs.Prelude.{◌≡◌, ◌↔◌, ◌⊎◌, ◌+◌, List, ℕ, [], length, IfErr, IfOk, IsErr, MatchOption, OnOk, string_bytes};
-ghost use Rattle.reuse_lock.specs.Locks.{calls_of, folder_of, AreKept, AreOpen, AreLockedAbove, AreLockedAt, HasNoSlash, IsAbove, IsCutAtLast, IsGranted, IsLocked};
+ghost use Rattle.std.specs.Prelude.{◌≡◌, ◌↔◌, ◌⊎◌, ◌+◌, List, ℕ, [], length, IfErr, IfOk, IsErr, MatchOption, OnOk};
+ghost use Rattle.std.specs.Prelude.{string_bytes};
+ghost use Rattle.reuse_lock.specs.Locks.{calls_of, folder_of, AreKept, AreOpen, AreLockedAbove, AreLockedAt};
+ghost use Rattle.reuse_lock.specs.Locks.{HasNoSlash, IsAbove, IsCutAtLast, IsGranted, IsLocked};
 ghost use Rattle.reuse_lock.specs.declared.fault.LockFault.TheVariants.{InUse, Memory};
 
 mod calls;
@@ -154,7 +156,8 @@ fn lock_above<R: Files<File = File>>(
     path: &str,
     held: &mut LockedFolders,
 ) -> Result<(), LockFault>
-    ensures locked { OnOk result ((folder : List ℕ) → IsAbove path.now folder → IsGranted folder Hold.Shared (calls_of held.new)) }
+    ensures locked { OnOk result
+        ((folder : List ℕ) → IsAbove path.now folder → IsGranted folder Hold.Shared (calls_of held.new)) }
     ensures open { AreOpen held.old → OnOk result (AreOpen held.new) }
     ensures kept { AreKept (calls_of held.old) (calls_of held.new) }
     ensures fault { IfErr result (λ fault. (fault ≡ InUse) ⊎ (fault ≡ Memory)) }

@@ -6,7 +6,14 @@ use Rattle.reuse_store.specs.Asked.{OnlyReads, IsLater}
 module _ {S : Type 0} (store : Ghosts S) where
   -- nothing was asked
   pub reads_none : (old : S) → OnlyReads store old old
-  reads_none old = record { was_honest = λ honest. honest; files = λ honest. refl; may = λ left is. is; failures = omega arith; written = refl; mutations = refl }
+  reads_none old = record {
+    was_honest = λ honest. honest;
+    files = λ honest. refl;
+    may = λ left is. is;
+    failures = omega arith;
+    written = refl;
+    mutations = refl;
+  }
 
   pub reads_more : (old mid new : S) → OnlyReads store old mid → OnlyReads store mid new → OnlyReads store old new
   reads_more old mid new before last = record {
@@ -19,7 +26,12 @@ module _ {S : Type 0} (store : Ghosts S) where
   }
 
   pub later_none : (old : S) → IsLater store old old
-  later_none old = record { was_honest = λ honest. honest; failures = omega arith; written = omega arith; mutations = omega arith }
+  later_none old = record {
+    was_honest = λ honest. honest;
+    failures = omega arith;
+    written = omega arith;
+    mutations = omega arith;
+  }
 
   -- what only reads is later too
   pub later_reads : (old new : S) → OnlyReads store old new → IsLater store old new

@@ -1,5 +1,7 @@
 -- The walk over the changes of an entry by batches of writes: after so many changes, and where a write fails.
-use Rattle.std.proofs.Common.{◌≡◌, ◌≢◌, ◌⊎◌, inl, inr, ⊎_elim, ℕ, zero, suc, ◌+◌, ◌-◌, ◌<◌, ◌≤◌, Bool, true, false, List, [], ◌∷◌, ◌++◌, length, map, take, drop, get_or, Option, Result, Ok, Err, OnOk, OnErr, refl, sym, ap, subst, ◌∙◌, arith}
+use Rattle.std.proofs.Common.{◌≡◌, ◌≢◌, ◌⊎◌, inl, inr, ⊎_elim, ℕ, zero, suc, ◌+◌, ◌-◌, ◌<◌, ◌≤◌, Bool, true, false}
+use Rattle.std.proofs.Common.{List, [], ◌∷◌, ◌++◌, length, map, take, drop, get_or, Option, Result, Ok, Err, OnOk}
+use Rattle.std.proofs.Common.{OnErr, refl, sym, ap, subst, ◌∙◌, arith}
 use Rattle.std.specs.Prelude.{◌==◌}
 use Rattle.std.specs.FinMap.{get}
 use Rattle.std.specs.List.{All, AllZip}
@@ -12,7 +14,8 @@ use Rattle.reuse_store.specs.Batch.{IsFrontOf, IsReadIn, IsReadReady, MakesRead}
 use Rattle.reuse_store.specs.declared.apply_changes.ReadChange.{ReadChange}
 use Rattle.reuse_store.specs.Asked.{IsLater, OnlyReads, IsSynced, IsWrite, AreWrites, Leaves}
 use Rattle.reuse_change.specs.Change.{path_of, IsProper}
-use Rattle.reuse_change.specs.Entry.{touches, CanBeMade, CanGo, IsEntry, IsReady, IsSmall, LeadsBy, LeadsByOneChange, AppliesBy}
+use Rattle.reuse_change.specs.Entry.{touches, CanBeMade, CanGo, IsEntry, IsReady, IsSmall, LeadsBy, LeadsByOneChange}
+use Rattle.reuse_change.specs.Entry.{AppliesBy}
 use Rattle.reuse_change.specs.Files.{Files, AreFiles, tree_of}
 use Rattle.reuse_store.specs.Lasting.{IsMidway}
 use Rattle.reuse_change.specs.Tree.{is_of_tree, Sets, undo_folder_of}
@@ -25,7 +28,8 @@ use Rattle.reuse_store.specs.declared.file_write.FileWrite.{FileWrite}
 use Rattle.reuse_store.specs.declared.store.Store.{Ghosts}
 use Rattle.reuse_change.specs.declared.direction.Direction.{Direction}
 use Rattle.reuse_store.proofs.AskedLemmas.{later_more, later_reads}
-use Rattle.reuse_store.proofs.AtChange.{StaysBeside, at_change, folder_at_stop, leads_at_stop, of_entry, stays_none, stays_on}
+use Rattle.reuse_store.proofs.AtChange.{StaysBeside, at_change, folder_at_stop, leads_at_stop, of_entry, stays_none}
+use Rattle.reuse_store.proofs.AtChange.{stays_on}
 use Rattle.reuse_store.proofs.Lasting.{midway_none, midway_set}
 use Rattle.reuse_store.proofs.OfTree.{clash_in_tree, folder_stays, step_of_tree, tree_at}
 use Rattle.reuse_store.proofs.ApplyLemmas.{makes_where_clash, step_by}
@@ -33,11 +37,14 @@ use Rattle.reuse_change.proofs.Walk.{free_now, front_touches, leads_more, leads_
 use Rattle.reuse_store.proofs.WriteLeaves.{WriteLeaves, write_leaves}
 
 -- a list of which so many items are gone
-pub at_drop : {A : Type 0} (xs : List A) (i : ℕ) (x : A) (rest : List A) → drop i xs ≡ x ∷ rest → (i < length xs) × (x ≡ get_or xs i x) × (drop (i + 1) xs ≡ rest)
+pub at_drop : {A : Type 0} (xs : List A) (i : ℕ) (x : A) (rest : List A) → drop i xs ≡ x ∷ rest
+    → (i < length xs) × (x ≡ get_or xs i x) × (drop (i + 1) xs ≡ rest)
 at_drop [] zero x rest is = absurd (cc)
 at_drop [] (suc i) x rest is = absurd (cc)
-at_drop (y ∷ ys) zero x rest is = let same : y ≡ x = cc in let others : ys ≡ rest = cc in (omega arith, sym same, others)
-at_drop (y ∷ ys) (suc i) x rest is = let h = at_drop ys i x rest is in let lt = h.0 in (omega (arith, lt), h.1, subst (λ n. drop n (y ∷ ys) ≡ rest) (one_further i) h.2)
+at_drop (y ∷ ys) zero x rest is = let same : y ≡ x = cc in let others : ys ≡ rest = cc in
+    (omega arith, sym same, others)
+at_drop (y ∷ ys) (suc i) x rest is = let h = at_drop ys i x rest is in let lt = h.0 in
+    (omega (arith, lt), h.1, subst (λ n. drop n (y ∷ ys) ≡ rest) (one_further i) h.2)
   where
     one_further : (n : ℕ) → suc (n + 1) ≡ suc n + 1
     one_further n = omega arith
@@ -46,15 +53,21 @@ module _ {S : Type 0} (store : Ghosts S) (direction : Direction) (changes : List
   -- so many of the changes are made
   pub record Reached (count : ℕ) (now : S) : Type 0 where
     pub walk : StaysBeside store start now changes count
-    pub left : store.honest now → IsEntry changes → IsSynced store start → Leaves store now (IsMidway direction changes (tree_of (store.files start)) (undo_folder_of (store.files start)))
-    pub made : store.honest now → IsEntry changes → LeadsBy direction (take count changes) (tree_of (store.files start)) (tree_of (store.files now))
+    pub left : store.honest now → IsEntry changes → IsSynced store start → Leaves store now
+        (IsMidway direction changes (tree_of (store.files start)) (undo_folder_of (store.files start)))
+    pub made : store.honest now → IsEntry changes
+        → LeadsBy direction (take count changes) (tree_of (store.files start)) (tree_of (store.files now))
 
   -- a write has failed for this
   pub record Stopped (fault : StoreFault) (now : S) : Type 0 where
-    pub midway : store.honest now → IsEntry changes → (count : ℕ) × LeadsBy direction (take count changes) (tree_of (store.files start)) (tree_of (store.files now))
-    pub left : store.honest now → IsEntry changes → IsSynced store start → Leaves store now (IsMidway direction changes (tree_of (store.files start)) (undo_folder_of (store.files start)))
-    pub free : store.honest now → IsEntry changes → All (CanBeMade direction (tree_of (store.files start))) changes → fault ≢ Clash
-    pub folder : store.honest now → IsEntry changes → undo_folder_of (store.files now) ≡ undo_folder_of (store.files start)
+    pub midway : store.honest now → IsEntry changes
+        → (count : ℕ) × LeadsBy direction (take count changes) (tree_of (store.files start)) (tree_of (store.files now))
+    pub left : store.honest now → IsEntry changes → IsSynced store start → Leaves store now
+        (IsMidway direction changes (tree_of (store.files start)) (undo_folder_of (store.files start)))
+    pub free : store.honest now → IsEntry changes
+        → All (CanBeMade direction (tree_of (store.files start))) changes → fault ≢ Clash
+    pub folder : store.honest now → IsEntry changes
+        → undo_folder_of (store.files now) ≡ undo_folder_of (store.files start)
     pub device : fault ≡ Device → store.failures start < store.failures now
     pub written : IsEntry changes → store.written now ≡ store.written start
     pub mutations : store.mutations now ≤ store.mutations start + length changes
@@ -63,7 +76,8 @@ module _ {S : Type 0} (store : Ghosts S) (direction : Direction) (changes : List
   -- the write makes the change of what its path held at the start
   pub record MakesChange (is_honest : Type 0) (change : Change) (write : FileWrite) : Type 0 where
     pub path : write.path.now ≡ path_of change
-    pub applies : is_honest → IsEntry changes → AppliesBy direction change (get (tree_of (store.files start)) (path_of change)) (held_in write.file)
+    pub applies : is_honest → IsEntry changes
+        → AppliesBy direction change (get (tree_of (store.files start)) (path_of change)) (held_in write.file)
 
   pub reached_none : Reached 0 start
   reached_none = record {
@@ -78,75 +92,108 @@ module _ {S : Type 0} (store : Ghosts S) (direction : Direction) (changes : List
       mutations = omega (arith, reads.mutations, reached.walk.mutations);
       written = λ good. reads.written ∙ reached.walk.written good;
       later = later_more store start now next reached.walk.later (later_reads store now next reads);
-      folder = λ honest good. ap undo_folder_of (reads.files honest) ∙ reached.walk.folder (reads.was_honest honest) good;
+      folder =
+          λ honest good. ap undo_folder_of (reads.files honest) ∙ reached.walk.folder (reads.was_honest honest) good;
     };
     left = λ honest good synced left is. reached.left (reads.was_honest honest) good synced left (reads.may left is);
-    made = λ honest good. subst (λ files. LeadsBy direction (take count changes) (tree_of (store.files start)) (tree_of files)) (sym (reads.files honest)) (reached.made (reads.was_honest honest) good);
+    made = λ honest good. subst (λ files. LeadsBy direction (take count changes) (tree_of (store.files start))
+        (tree_of files)) (sym (reads.files honest)) (reached.made (reads.was_honest honest) good);
   }
 
-  module _ (are_files : (s : S) → store.honest s → AreFiles (store.files s)) (i : ℕ) (change : Change) (lt : i < length changes) (is : change ≡ get_or changes i change) (now next : S) (answer : Result (Unit {0}) StoreFault)
-      (file : Option (List ℕ)) (reached : Reached i now) (leaves : WriteLeaves store (path_of change) file now next answer)
-      (applies : store.honest now → IsEntry changes → AppliesBy direction change (get (tree_of (store.files start)) (path_of change)) file) where
+  module _ (are_files : (s : S) → store.honest s → AreFiles (store.files s)) (i : ℕ) (change : Change)
+      (lt : i < length changes) (is : change ≡ get_or changes i change) (now next : S)
+      (answer : Result (Unit {0}) StoreFault)
+      (file : Option (List ℕ)) (reached : Reached i now)
+      (leaves : WriteLeaves store (path_of change) file now next answer)
+      (applies : store.honest now → IsEntry changes
+      → AppliesBy direction change (get (tree_of (store.files start)) (path_of change)) file) where
     before : store.honest next → store.honest now
     before = leaves.later.was_honest
 
     -- the path holds what it held at the start
-    stands : store.honest now → (good : IsEntry changes) → get (store.files now) (path_of change) ≡ get (tree_of (store.files start)) (path_of change)
+    stands : store.honest now → (good : IsEntry changes)
+        → get (store.files now) (path_of change) ≡ get (tree_of (store.files start)) (path_of change)
     stands honest good =
         sym (tree_at (store.files now) (path_of change) (of_entry changes i lt change is good).of_tree)
-        ∙ still direction changes good i lt change is (tree_of (store.files start)) (tree_of (store.files now)) (reached.made honest good)
+        ∙ still direction changes good i lt change is (tree_of (store.files start)) (tree_of (store.files now))
+        (reached.made honest good)
 
-    applies_now : store.honest now → IsEntry changes → AppliesBy direction change (get (store.files now) (path_of change)) file
-    applies_now honest good = subst (λ f. AppliesBy direction change f file) (sym (stands honest good)) (applies honest good)
+    applies_now : store.honest now → IsEntry changes
+        → AppliesBy direction change (get (store.files now) (path_of change)) file
+    applies_now honest good =
+        subst (λ f. AppliesBy direction change f file) (sym (stands honest good)) (applies honest good)
 
     -- what a loss of power may leave then
-    left_then : store.honest next → IsEntry changes → IsSynced store start → Leaves store next (IsMidway direction changes (tree_of (store.files start)) (undo_folder_of (store.files start)))
+    left_then : store.honest next → IsEntry changes → IsSynced store start → Leaves store next
+        (IsMidway direction changes (tree_of (store.files start)) (undo_folder_of (store.files start)))
     left_then honest good synced left may =
         ⊎_elim (λ was. reached.left (before honest) good synced left was)
-        (λ (set : (kept : Files) × store.may_be now kept × (held : Option (List ℕ)) × (held ≡ file) × Sets (path_of change) held kept left).
-        midway_set direction changes good i lt change is (tree_of (store.files start)) (undo_folder_of (store.files start)) set.0 left set.2
+        (λ (set : (kept : Files) × store.may_be now kept × (held : Option (List ℕ)) × (held ≡ file)
+        × Sets (path_of change) held kept left).
+        midway_set direction changes good i lt change is (tree_of (store.files start))
+        (undo_folder_of (store.files start)) set.0 left set.2
         (reached.left (before honest) good synced set.0 set.1)
-        (inr (subst (λ f. AppliesBy direction change (get (tree_of (store.files start)) (path_of change)) f) (sym set.3) (applies (before honest) good))) set.4)
+        (inr (subst (λ f. AppliesBy direction change (get (tree_of (store.files start)) (path_of change)) f) (sym set.3)
+        (applies (before honest) good))) set.4)
         (leaves.left left may)
 
-    step : store.honest next → IsEntry changes → Sets (path_of change) file (store.files now) (store.files next) → LeadsByOneChange direction change (store.files now) (store.files next)
-    step honest good sets = step_by direction change (store.files now) (store.files next) file (applies_now (before honest) good) sets
+    step : store.honest next → IsEntry changes → Sets (path_of change) file (store.files now) (store.files next)
+        → LeadsByOneChange direction change (store.files now) (store.files next)
+    step honest good sets =
+        step_by direction change (store.files now) (store.files next) file (applies_now (before honest) good) sets
 
-    pub one_more : (store.honest next → Sets (path_of change) file (store.files now) (store.files next)) → Reached (i + 1) next
+    pub one_more : (store.honest next → Sets (path_of change) file (store.files now) (store.files next))
+        → Reached (i + 1) next
     one_more sets = record {
-      walk = stays_on reached.walk leaves.later (omega (arith, leaves.mutations)) (λ good. leaves.written (of_entry changes i lt change is good).of_tree)
-          (λ honest good. folder_stays direction change (store.files now) (store.files next) (of_entry changes i lt change is good).of_tree (step honest good (sets honest)));
+      walk = stays_on reached.walk leaves.later (omega (arith, leaves.mutations))
+          (λ good. leaves.written (of_entry changes i lt change is good).of_tree)
+          (λ honest good. folder_stays direction change (store.files now) (store.files next)
+          (of_entry changes i lt change is good).of_tree (step honest good (sets honest)));
       left = left_then;
       made = λ honest good. leads_more direction changes good i lt change is _ _ (reached.made (before honest) good) _
-          (step_of_tree direction change (store.files now) (store.files next) (of_entry changes i lt change is good).of_tree (step honest good (sets honest)));
+          (step_of_tree direction change (store.files now) (store.files next)
+          (of_entry changes i lt change is good).of_tree (step honest good (sets honest)));
     }
 
     pub stops : (fault : StoreFault) → answer ≡ Err fault → Stopped fault next
     stops fault failed = record {
-      midway = λ honest good. leads_at_stop direction changes good i lt change is (tree_of (store.files start)) (store.files now) (store.files next) (reached.made (before honest) good) (either honest good);
+      midway = λ honest good. leads_at_stop direction changes good i lt change is (tree_of (store.files start))
+          (store.files now) (store.files next) (reached.made (before honest) good) (either honest good);
       left = left_then;
       free = λ honest good all same.
           let clash = leaves.clash honest (failed ∙ ap Err same) in
-          free_now direction changes good i lt change is _ _ (reached.made (before honest) good) (at_change changes i lt change is (CanBeMade direction (tree_of (store.files start))) all)
-          (makes_where_clash (store.files now) (are_files now (before honest)) direction change file (applies_now (before honest) good) clash.1 clash.0)
+          free_now direction changes good i lt change is _ _ (reached.made (before honest) good)
+          (at_change changes i lt change is (CanBeMade direction (tree_of (store.files start))) all)
+          (makes_where_clash (store.files now) (are_files now (before honest)) direction change file
+          (applies_now (before honest) good) clash.1 clash.0)
           (clash_in_tree (store.files now) (path_of change) (of_entry changes i lt change is good).of_tree clash.0);
-      folder = λ honest good. folder_at_stop direction change (store.files now) (store.files next) (of_entry changes i lt change is good).of_tree (either honest good) ∙ reached.walk.folder (before honest) good;
-      device = λ same. let more = leaves.device (failed ∙ ap Err same) in omega (arith, more, reached.walk.later.failures);
+      folder = λ honest good. folder_at_stop direction change (store.files now) (store.files next)
+          (of_entry changes i lt change is good).of_tree (either honest good)
+          ∙ reached.walk.folder (before honest) good;
+      device = λ same. let more = leaves.device (failed ∙ ap Err same) in
+          omega (arith, more, reached.walk.later.failures);
       written = λ good. leaves.written (of_entry changes i lt change is good).of_tree ∙ reached.walk.written good;
       mutations = omega (arith, leaves.mutations, reached.walk.mutations, lt);
       later = later_more store start now next reached.walk.later leaves.later;
     }
       where
-        either : store.honest next → IsEntry changes → (store.files next ≡ store.files now) ⊎ LeadsByOneChange direction change (store.files now) (store.files next)
+        either : store.honest next → IsEntry changes → (store.files next ≡ store.files now)
+            ⊎ LeadsByOneChange direction change (store.files now) (store.files next)
         either honest good = ⊎_elim (λ same. inl same) (λ sets. inr (step honest good sets))
-            (subst (λ r. OnErr r ((store.files next ≡ store.files now) ⊎ Sets (path_of change) file (store.files now) (store.files next))) failed (leaves.err honest))
+            (subst (λ r. OnErr r ((store.files next ≡ store.files now)
+            ⊎ Sets (path_of change) file (store.files now) (store.files next))) failed (leaves.err honest))
 
   -- a batch of writes that make the changes from here on
-  pub batch_on : (are_files : (s : S) → store.honest s → AreFiles (store.files s)) (batch : List Change) (writes : List FileWrite) (i : ℕ) (others : List Change) (now next : S) (answer : Result (Unit {0}) StoreFault)
-      → drop i changes ≡ batch ++ others → AllZip (MakesChange (store.honest now)) batch writes → Reached i now → AreWrites store writes now next answer
+  pub batch_on : (are_files : (s : S) → store.honest s → AreFiles (store.files s)) (batch : List Change)
+      (writes : List FileWrite) (i : ℕ) (others : List Change) (now next : S) (answer : Result (Unit {0}) StoreFault)
+      → drop i changes ≡ batch ++ others → AllZip (MakesChange (store.honest now)) batch writes → Reached i now
+      → AreWrites store writes now next answer
       → OnOk answer (Reached (i + length batch) next) × ((fault : StoreFault) → answer ≡ Err fault → Stopped fault next)
-  batch_on are_files [] [] i others now next answer is makes reached done =
-      (subst (λ r. OnOk r (Reached (i + 0) next)) (sym done.1) (subst (λ k. Reached k next) (none_more i) (subst (Reached i) (sym done.0) reached)), λ fault failed. absurd (cc))
+  batch_on are_files [] [] i others now next answer is makes reached done = (
+    subst (λ r. OnOk r (Reached (i + 0) next)) (sym done.1)
+        (subst (λ k. Reached k next) (none_more i) (subst (Reached i) (sym done.0) reached)),
+    λ fault failed. absurd (cc),
+  )
     where
       none_more : (n : ℕ) → n ≡ n + 0
       none_more n = omega arith
@@ -154,26 +201,32 @@ module _ {S : Type 0} (store : Ghosts S) (direction : Direction) (changes : List
   batch_on are_files (change ∷ batch) [] i others now next answer is makes reached done = absurd makes
   batch_on are_files (change ∷ batch) (write ∷ writes) i others now next answer is makes reached (inl failed) =
       let here = at_drop changes i change (batch ++ others) is in
-      let leaves = write_leaves store (path_of change) now next answer write.file (subst (λ p. IsWrite store p write.file now next answer) makes.0.path failed.0) in (
+      let leaves = write_leaves store (path_of change) now next answer write.file
+      (subst (λ p. IsWrite store p write.file now next answer) makes.0.path failed.0) in (
         subst (λ r. OnOk r (Reached (i + length (change ∷ batch)) next)) (sym failed.2) tt,
         stops are_files i change here.0 here.1 now next answer (held_in write.file) reached leaves makes.0.applies,
       )
   batch_on are_files (change ∷ batch) (write ∷ writes) i others now next answer is makes reached (inr made) =
       let here = at_drop changes i change (batch ++ others) is in
       let mid = made.0 in
-      let leaves = write_leaves store (path_of change) now mid (Ok tt) write.file (subst (λ p. IsWrite store p write.file now mid (Ok tt)) makes.0.path made.1) in
-      let reached_mid = one_more are_files i change here.0 here.1 now mid (Ok tt) (held_in write.file) reached leaves makes.0.applies leaves.ok in
-      let rest = batch_on are_files batch writes (i + 1) others mid next answer here.2 (weaker batch writes makes.1 leaves.later.was_honest) reached_mid made.2 in
+      let leaves = write_leaves store (path_of change) now mid (Ok tt) write.file
+      (subst (λ p. IsWrite store p write.file now mid (Ok tt)) makes.0.path made.1) in
+      let reached_mid = one_more are_files i change here.0 here.1 now mid (Ok tt)
+      (held_in write.file) reached leaves makes.0.applies leaves.ok in
+      let rest = batch_on are_files batch writes (i + 1) others mid next answer here.2
+      (weaker batch writes makes.1 leaves.later.was_honest) reached_mid made.2 in
       (subst (λ k. OnOk answer (Reached k next)) (one_further i (length batch)) rest.0, rest.1)
     where
       one_further : (n m : ℕ) → n + 1 + m ≡ n + suc m
       one_further n m = omega arith
 
-      weaker : {A B : Type 0} (cs : List Change) (ws : List FileWrite) → AllZip (MakesChange A) cs ws → (B → A) → AllZip (MakesChange B) cs ws
+      weaker : {A B : Type 0} (cs : List Change) (ws : List FileWrite) → AllZip (MakesChange A) cs ws → (B → A)
+          → AllZip (MakesChange B) cs ws
       weaker [] [] all only = tt
       weaker [] (w ∷ ws) all only = all
       weaker (c ∷ cs) [] all only = all
-      weaker (c ∷ cs) (w ∷ ws) all only = (record { path = all.0.path; applies = λ b. all.0.applies (only b) }, weaker cs ws all.1 only)
+      weaker (c ∷ cs) (w ∷ ws) all only =
+          (record { path = all.0.path; applies = λ b. all.0.applies (only b) }, weaker cs ws all.1 only)
 
 -- a store's fault as a cause
 pub never_moved : (fault : StoreFault) → cause_of fault ≡ causes.Moved → ⊥
@@ -203,47 +256,64 @@ pub record IsDue (changes : List Change) (count : ℕ) (read : ReadChange) : Typ
   pub late : count ≤ index
   pub is : change_in read ≡ get_or changes index (change_in read)
 
-pub are_due : (changes : List Change) (count i : ℕ) (batch : List ReadChange) (others : List Change) → drop i changes ≡ map change_in batch ++ others → count ≤ i → All (IsDue changes count) batch
+pub are_due : (changes : List Change) (count i : ℕ) (batch : List ReadChange) (others : List Change)
+    → drop i changes ≡ map change_in batch ++ others → count ≤ i → All (IsDue changes count) batch
 are_due changes count i [] others is late = λ j d lt. absurd (omega (arith, lt))
 are_due changes count i (read ∷ batch) others is late =
     let here = at_drop changes i (change_in read) (map change_in batch ++ others) is in
-    All-cons (IsDue changes count) read batch (record { index = i; lt = here.0; late = late; is = here.1 }) (are_due changes count (i + 1) batch others here.2 (omega (arith, late)))
+    All-cons (IsDue changes count) read batch (record { index = i; lt = here.0; late = late; is = here.1 })
+    (are_due changes count (i + 1) batch others here.2 (omega (arith, late)))
 
 -- a batch and what is behind it
-pub left_is : (changes rest : List Change) (count : ℕ) (batch : List ReadChange) → rest ≡ drop count changes → IsFrontOf rest batch → drop count changes ≡ map change_in batch ++ drop (length batch) rest
-left_is changes rest count batch is front = sym is ∙ sym (take-append-drop (length batch) rest) ∙ ap (λ cs. cs ++ drop (length batch) rest) (sym front)
+pub left_is : (changes rest : List Change) (count : ℕ) (batch : List ReadChange) → rest ≡ drop count changes
+    → IsFrontOf rest batch → drop count changes ≡ map change_in batch ++ drop (length batch) rest
+left_is changes rest count batch is front =
+    sym is ∙ sym (take-append-drop (length batch) rest) ∙ ap (λ cs. cs ++ drop (length batch) rest) (sym front)
 
-pub batch_due : (changes rest : List Change) (count : ℕ) (batch : List ReadChange) → rest ≡ drop count changes → IsFrontOf rest batch → All (IsDue changes count) batch
-batch_due changes rest count batch is front = are_due changes count count batch (drop (length batch) rest) (left_is changes rest count batch is front) (omega arith)
+pub batch_due : (changes rest : List Change) (count : ℕ) (batch : List ReadChange) → rest ≡ drop count changes
+    → IsFrontOf rest batch → All (IsDue changes count) batch
+batch_due changes rest count batch is front = are_due changes count count batch (drop (length batch) rest)
+    (left_is changes rest count batch is front) (omega arith)
 
 -- what the changes behind a batch are
-pub behind : (changes rest : List Change) (count n : ℕ) → rest ≡ drop count changes → take (length rest - n) (drop n rest) ≡ drop (count + n) changes
-behind changes rest count n is = ap (λ k. take k (drop n rest)) (sym (length-drop n rest)) ∙ take-length (drop n rest) ∙ ap (drop n) is ∙ drop-drop n count changes
+pub behind : (changes rest : List Change) (count n : ℕ) → rest ≡ drop count changes
+    → take (length rest - n) (drop n rest) ≡ drop (count + n) changes
+behind changes rest count n is = ap (λ k. take k (drop n rest)) (sym (length-drop n rest)) ∙ take-length (drop n rest)
+    ∙ ap (drop n) is ∙ drop-drop n count changes
 
-module _ {S : Type 0} (store : Ghosts S) (direction : Direction) (changes : List Change) (start : S) (count : ℕ) (loop : S) (reached : Reached store direction changes start count loop)
+module _ {S : Type 0} (store : Ghosts S) (direction : Direction) (changes : List Change) (start : S) (count : ℕ)
+    (loop : S) (reached : Reached store direction changes start count loop)
     (can : store.honest start → CanGo direction (tree_of (store.files start)) changes) where
   -- its path holds what it held at the start
-  unmade : store.honest loop → (good : IsEntry changes) → (read : ReadChange) → IsDue changes count read → get (store.files loop) (path_of (change_in read)) ≡ get (tree_of (store.files start)) (path_of (change_in read))
+  unmade : store.honest loop → (good : IsEntry changes) → (read : ReadChange) → IsDue changes count read
+      → get (store.files loop) (path_of (change_in read)) ≡ get (tree_of (store.files start)) (path_of (change_in read))
   unmade honest good read due =
       let change = change_in read in
       let path = path_of change in
       sym (tree_at (store.files loop) path (of_entry changes due.index due.lt change due.is good).of_tree)
       ∙ (reached.made honest good).others path (untouched (touches (take count changes) path) refl)
     where
-      untouched : (b : Bool) → touches (take count changes) (path_of (change_in read)) ≡ b → touches (take count changes) (path_of (change_in read)) ≡ false
+      untouched : (b : Bool) → touches (take count changes) (path_of (change_in read)) ≡ b
+          → touches (take count changes) (path_of (change_in read)) ≡ false
       untouched false e = e
       untouched true e =
           let path = path_of (change_in read) in
-          let earlier : touches (take count (take due.index changes)) path ≡ true = subst (λ cs. touches cs path ≡ true) (sym (take-take count due.index changes due.late)) e in
-          absurd (false≢true (sym (ap (λ c. touches (take due.index changes) (path_of c)) due.is ∙ not_touched changes good due.index (change_in read) due.lt) ∙ front_touches (take due.index changes) count path earlier))
+          let earlier : touches (take count (take due.index changes)) path ≡ true =
+          subst (λ cs. touches cs path ≡ true) (sym (take-take count due.index changes due.late)) e in
+          absurd (false≢true (sym (ap (λ c. touches (take due.index changes) (path_of c)) due.is ∙ not_touched changes
+          good due.index (change_in read) due.lt) ∙ front_touches (take due.index changes) count path earlier))
 
-  pub ready_there : store.honest loop → IsEntry changes → (read : ReadChange) → IsDue changes count read → IsReady direction (change_in read) (get (store.files loop) (path_of (change_in read)))
+  pub ready_there : store.honest loop → IsEntry changes → (read : ReadChange) → IsDue changes count read
+      → IsReady direction (change_in read) (get (store.files loop) (path_of (change_in read)))
   ready_there honest good read due =
-      let can_be = at_change changes due.index due.lt (change_in read) due.is (CanBeMade direction (tree_of (store.files start))) (can (reached.walk.later.was_honest honest)).each in
+      let can_be = at_change changes due.index due.lt (change_in read) due.is
+      (CanBeMade direction (tree_of (store.files start))) (can (reached.walk.later.was_honest honest)).each in
       subst (IsReady direction (change_in read)) (sym (unmade honest good read due)) can_be.ready
 
   -- the writes of a batch make its changes
-  pub makes_changes : {A : Type 0} (batch : List ReadChange) (writes : List FileWrite) → (A → store.honest loop) → All (IsDue changes count) batch → AllZip (MakesRead direction) batch writes → (A → All (IsReadIn (store.files loop)) batch)
+  pub makes_changes : {A : Type 0} (batch : List ReadChange) (writes : List FileWrite) → (A → store.honest loop)
+      → All (IsDue changes count) batch → AllZip (MakesRead direction) batch writes
+      → (A → All (IsReadIn (store.files loop)) batch)
       → AllZip (MakesChange store direction changes start A) (map change_in batch) writes
   makes_changes [] [] was due makes readings = tt
   makes_changes [] (write ∷ writes) was due makes readings = makes
@@ -254,27 +324,41 @@ module _ {S : Type 0} (store : Ghosts S) (direction : Direction) (changes : List
       applies = λ honest good.
           let this = All-head (IsDue changes count) read batch due in
           subst (λ f. AppliesBy direction (change_in read) f (held_in write.file)) (unmade (was honest) good read this)
-          (makes.0.applies (get (store.files loop) (path_of (change_in read))) (All-head (IsReadIn (store.files loop)) read batch (readings honest)) (ready_there (was honest) good read this));
+          (makes.0.applies (get (store.files loop) (path_of (change_in read))) (All-head
+          (IsReadIn (store.files loop)) read batch (readings honest)) (ready_there (was honest) good read this));
     },
-    makes_changes batch writes was (All-tail (IsDue changes count) read batch due) makes.1 (λ honest. All-tail (IsReadIn (store.files loop)) read batch (readings honest)),
+    makes_changes batch writes was (All-tail (IsDue changes count) read batch due) makes.1
+        (λ honest. All-tail (IsReadIn (store.files loop)) read batch (readings honest)),
   )
 
   -- of each file that was read the change can be made
-  pub are_ready : store.honest loop → IsEntry changes → (batch : List ReadChange) → All (IsDue changes count) batch → All (IsReadIn (store.files loop)) batch → All (IsReadReady direction) batch
-  are_ready honest good batch due readings i read lt = (get (store.files loop) (path_of (change_in (get_or batch i read))), readings i read lt, ready_there honest good (get_or batch i read) (due i read lt))
+  pub are_ready : store.honest loop → IsEntry changes → (batch : List ReadChange) → All (IsDue changes count) batch
+      → All (IsReadIn (store.files loop)) batch → All (IsReadReady direction) batch
+  are_ready honest good batch due readings i read lt = (
+    get (store.files loop) (path_of (change_in (get_or batch i read))),
+    readings i read lt,
+    ready_there honest good (get_or batch i read) (due i read lt),
+  )
 
-  pub are_proper : IsEntry changes → (batch : List ReadChange) → All (IsDue changes count) batch → All (λ read. IsProper read.change.now) batch
-  are_proper good batch due i read lt = let d = due i read lt in (of_entry changes d.index d.lt (change_in (get_or batch i read)) d.is good).proper
+  pub are_proper : IsEntry changes → (batch : List ReadChange) → All (IsDue changes count) batch
+      → All (λ read. IsProper read.change.now) batch
+  are_proper good batch due i read lt = let d = due i read lt in
+      (of_entry changes d.index d.lt (change_in (get_or batch i read)) d.is good).proper
 
-  pub are_small : IsEntry changes → (batch : List ReadChange) → All (IsDue changes count) batch → All (λ read. IsSmall read.change.now) batch
-  are_small good batch due i read lt = let d = due i read lt in (of_entry changes d.index d.lt (change_in (get_or batch i read)) d.is good).small
+  pub are_small : IsEntry changes → (batch : List ReadChange) → All (IsDue changes count) batch
+      → All (λ read. IsSmall read.change.now) batch
+  are_small good batch due i read lt = let d = due i read lt in
+      (of_entry changes d.index d.lt (change_in (get_or batch i read)) d.is good).small
 
 -- a walk that has come to the end
-pub none_behind : (changes : List Change) (count : ℕ) → drop count changes ≡ [] → count ≤ length changes → count ≡ length changes
-none_behind changes count none le = let e : length (drop count changes) ≡ 0 = ap length none in omega (arith, e, length-drop count changes, le)
+pub none_behind : (changes : List Change) (count : ℕ) → drop count changes ≡ [] → count ≤ length changes
+    → count ≡ length changes
+none_behind changes count none le = let e : length (drop count changes) ≡ 0 = ap length none in
+    omega (arith, e, length-drop count changes, le)
 
 -- a batch is no longer than what is left
-pub within : (changes rest : List Change) (count : ℕ) (batch : List ReadChange) → rest ≡ drop count changes → count ≤ length changes → IsFrontOf rest batch → count + length batch ≤ length changes
+pub within : (changes rest : List Change) (count : ℕ) (batch : List ReadChange) → rest ≡ drop count changes
+    → count ≤ length changes → IsFrontOf rest batch → count + length batch ≤ length changes
 within changes rest count batch is le front =
     let n = length batch in
     let taken : n ≡ length (take n rest) = sym (length-map batch (λ read. read.change.now)) ∙ ap length front in

@@ -34,7 +34,9 @@ cause_of faults.Memory = causes.Memory
 
 -- the change was not made, or is taken back
 abbrev pub IsChangeRolledBack : Direction → Change → Files → Files → Type 0
-IsChangeRolledBack direction change before after = (IsReady direction change (get before (path_of change)) × (after ≡ before)) ⊎ LeadsByOneChange (opposite direction) change before after
+IsChangeRolledBack direction change before after =
+    (IsReady direction change (get before (path_of change)) × (after ≡ before))
+    ⊎ LeadsByOneChange (opposite direction) change before after
 
 -- a call notes that puts and removals have started exactly where it asks for one, if that wasn't noted before
 pub record NotesMutations {S : Type 0} (store : Ghosts S) (noted notes : Bool) (old new : S) : Type 0 where

@@ -11,7 +11,8 @@ use Rattle.reuse_store.specs.StoreLaws as laws
 
 -- nothing but listings, readings and barriers
 abbrev pub OnlyReads : {S : Type 0} → Ghosts S → S → S → Type 0
-OnlyReads store old new = laws.OnlyReads store.files store.may_be store.failures store.written store.mutations store.honest old new
+OnlyReads store old new =
+    laws.OnlyReads store.files store.may_be store.failures store.written store.mutations store.honest old new
 
 -- any calls
 abbrev pub IsLater : {S : Type 0} → Ghosts S → S → S → Type 0
@@ -23,19 +24,23 @@ FailsAsRead store old new answer = laws.FailsAsRead store.failures store.honest 
 
 -- one put
 abbrev pub IsPut : {S : Type 0} → Ghosts S → List ℕ → List ℕ → S → S → Result (Unit {0}) StoreFault → Type 0
-IsPut store path bytes old new answer = laws.IsPut store.files store.may_be store.failures store.written store.mutations store.honest path bytes old new answer
+IsPut store path bytes old new answer = laws.IsPut store.files store.may_be store.failures store.written store.mutations
+    store.honest path bytes old new answer
 
 -- one removal
 abbrev pub IsRemoval : {S : Type 0} → Ghosts S → List ℕ → S → S → Result (Unit {0}) StoreFault → Type 0
-IsRemoval store path old new answer = laws.IsRemoval store.files store.may_be store.failures store.written store.mutations store.honest path old new answer
+IsRemoval store path old new answer = laws.IsRemoval store.files store.may_be store.failures store.written
+    store.mutations store.honest path old new answer
 
 -- one write, which is a put or a removal
 abbrev pub IsWrite : {S : Type 0} → Ghosts S → List ℕ → Option Parts → S → S → Result (Unit {0}) StoreFault → Type 0
-IsWrite store path file old new answer = laws.IsWrite store.files store.may_be store.failures store.written store.mutations store.honest path file old new answer
+IsWrite store path file old new answer = laws.IsWrite store.files store.may_be store.failures store.written
+    store.mutations store.honest path file old new answer
 
 -- writes, one after the other
 abbrev pub AreWrites : {S : Type 0} → Ghosts S → List FileWrite → S → S → Result (Unit {0}) StoreFault → Type 0
-AreWrites store writes old new answer = laws.AreWrites store.files store.may_be store.failures store.written store.mutations store.honest writes old new answer
+AreWrites store writes old new answer = laws.AreWrites store.files store.may_be store.failures store.written
+    store.mutations store.honest writes old new answer
 
 -- one barrier
 abbrev pub IsBarrier : {S : Type 0} → Ghosts S → List Change → S → S → Result (Unit {0}) StoreFault → Type 0

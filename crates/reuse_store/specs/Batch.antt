@@ -22,9 +22,11 @@ IsReadIn files read = read.reading ≡ reading_of (get files (path_of read.chang
 
 -- a file was read of which the change can be made this way
 abbrev pub IsReadReady : Direction → ReadChange → Type 0
-IsReadReady direction read = (file : Option (List ℕ)) × (read.reading ≡ reading_of file LONGEST_FILE) × IsReady direction read.change.now file
+IsReadReady direction read =
+    (file : Option (List ℕ)) × (read.reading ≡ reading_of file LONGEST_FILE) × IsReady direction read.change.now file
 
 -- the write makes the change this way of each file that may have been read, where it can be made
 pub record MakesRead (direction : Direction) (read : ReadChange) (write : FileWrite) : Type 0 where
   pub path : write.path.now ≡ path_of read.change.now
-  pub applies : (file : Option (List ℕ)) → read.reading ≡ reading_of file LONGEST_FILE → IsReady direction read.change.now file → AppliesBy direction read.change.now file (held_in write.file)
+  pub applies : (file : Option (List ℕ)) → read.reading ≡ reading_of file LONGEST_FILE
+      → IsReady direction read.change.now file → AppliesBy direction read.change.now file (held_in write.file)

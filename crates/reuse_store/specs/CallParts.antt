@@ -9,7 +9,8 @@ use Rattle.reuse_store.specs.declared.record.BarrierKind.TheVariants.{Synced, Sy
 use Rattle.reuse_store.specs.declared.record.CallKind.{CallKind}
 use Rattle.reuse_store.specs.declared.record.ListingKind.{ListingKind}
 use Rattle.reuse_store.specs.declared.record.ListingKind.TheVariants.{Listed, ListFailed}
-use Rattle.reuse_store.specs.declared.record.CallKind.TheVariants.{ReadAbsent, ReadFound, ReadTooLong, ReadFailed, Put, PutFailed, Removed, RemoveFailed}
+use Rattle.reuse_store.specs.declared.record.CallKind.TheVariants.{ReadAbsent, ReadFound, ReadTooLong, ReadFailed, Put}
+use Rattle.reuse_store.specs.declared.record.CallKind.TheVariants.{PutFailed, Removed, RemoveFailed}
 
 -- a call by its kind and the parts that this kind has
 abbrev pub call_of : CallKind → List ℕ → List ℕ → ℕ → Bool → Call

@@ -7,7 +7,8 @@ use Rattle.reuse_store.specs.declared.fault.StoreFault.{StoreFault}
 use Rattle.reuse_store.specs.declared.fault.StoreFault.TheVariants.{Device, Clash, Memory}
 use Rattle.reuse_store.specs.declared.store.Reading.{Reading}
 
--- a call of a store and what it answered; `pruned` has the folders that a listing was to pass over, and `took` tells of a put or a
+-- a call of a store and what it answered; `pruned` has the folders that a listing was to pass over, and `took` tells of
+-- a put or a
 -- removal that failed whether it took effect
 pub data Call : Type 0 where
   ListCall : (folders pruned : List (List ℕ)) (answer : Result (List (List ℕ)) StoreFault) → Call
@@ -16,8 +17,10 @@ pub data Call : Type 0 where
   RemoveCall : (path : List ℕ) (answer : Result (Unit {0}) StoreFault) (took : Bool) → Call
   SyncCall : (changes : List Change) (answer : Result (Unit {0}) StoreFault) → Call
 
--- what nobody can know of a store at its start: its files; what else a loss of power might leave then, since it has lost nothing that
--- others wrote; and of each call that is to come whether it takes effect if it is a put or a removal that fails; a call behind the end
+-- what nobody can know of a store at its start: its files; what else a loss of power might leave then, since it has
+-- lost nothing that
+-- others wrote; and of each call that is to come whether it takes effect if it is a put or a removal that fails; a call
+-- behind the end
 -- of the list doesn't
 pub record Start : Type 0 where
   pub files : Files

@@ -21,7 +21,10 @@ nothing_there : (path : List ℕ) → IsSome (get (files_in None) path) → ⊥
 nothing_there path h = false≢true (ap is_some (sym (get-empty (slice_cmp nat_cmp) path)) ∙ h)
 
 pub none_are_files : AreFiles (files_in None)
-none_are_files = record { are_paths = λ path h. absurd (nothing_there path h); apart = λ path h c. nothing_there path h }
+none_are_files = record {
+  are_paths = λ path h. absurd (nothing_there path h);
+  apart = λ path h c. nothing_there path h;
+}
 
 -- they are good files
 pub files_in_are_files : (files : Option FileMap) → AreFiles (files_in files)

@@ -1,5 +1,6 @@
 //! Makes one change in a store: the only place where a file of the tree is written.
-ghost use Rattle.std.specs.Prelude.{◌≡◌, ◌≢◌, ◌↔◌, ◌+◌, ◌<◌, ◌≤◌, ◌⊎◌, true, IsTrue, IfOk, IfErr, OnOk, OnErr, IsErrOf, IsSome};
+ghost use Rattle.std.specs.Prelude.{◌≡◌, ◌≢◌, ◌↔◌, ◌+◌, ◌<◌, ◌≤◌, ◌⊎◌, true, IsTrue, IfOk, IfErr, OnOk, OnErr, IsErrOf};
+ghost use Rattle.std.specs.Prelude.{IsSome};
 ghost use Rattle.std.specs.Option.{option_copied};
 ghost use Rattle.std.specs.FinMap as map;
 ghost use Rattle.reuse_change.specs.Files.{Clashes};
@@ -40,7 +41,8 @@ fn is_ready(change: &Change, direction: Direction, file: Option<&[u8]>) -> bool
 // alone: it hashes nothing.
 fn is_ready_by_range(change: &Change, direction: Direction, file: Option<&[u8]>) -> bool
     ensures ready { IsTrue result → IsReadyByRange direction change.now (option_copied file.entry) }
-    ensures stuck { IsProper change.now → IsReadyByRange direction change.now (option_copied file.entry) → IsTrue result }
+    ensures stuck { IsProper change.now → IsReadyByRange direction change.now (option_copied file.entry)
+        → IsTrue result }
 {
     match direction {
         Direction::Forward => change.state_by_range(file) == ChangeState::Before,
@@ -56,7 +58,8 @@ pub fn can_apply<S: Store>(
     direction: Direction,
 ) -> Result<bool, StoreFault>
     ensures ok { S.honest store.new → IsProper change.now → IsSmall change.now
-        → IfOk result (λ yes. IsTrue yes ↔ IsReady direction change.now (map.get (S.files store.old) (path_of change.now))) }
+        → IfOk result
+        (λ yes. IsTrue yes ↔ IsReady direction change.now (map.get (S.files store.old) (path_of change.now))) }
     ensures fails { FailsAsRead S.Store store.old store.new result }
     ensures reads { OnlyReads S.Store store.old store.new }
 {
@@ -75,8 +78,10 @@ pub(crate) fn applied<'a>(
     direction: Direction,
     file: Option<&'a [u8]>,
 ) -> Result<Option<Parts<'a>>, Cause>
-    ensures applies { IsReady direction change.now (option_copied file.entry) → IfOk result (λ after. AppliesBy direction change.now (option_copied file.entry) (held_in after)) }
-    ensures moved { IsProper change.now → result ≡ Err Cause.Moved → ¬ (IsReady direction change.now (option_copied file.entry)) }
+    ensures applies { IsReady direction change.now (option_copied file.entry)
+        → IfOk result (λ after. AppliesBy direction change.now (option_copied file.entry) (held_in after)) }
+    ensures moved { IsProper change.now → result ≡ Err Cause.Moved
+        → ¬ (IsReady direction change.now (option_copied file.entry)) }
     ensures cause { IfErr result (λ cause. cause ≡ Cause.Moved) }
 {
     if !is_ready_by_range(change, direction, file) {
@@ -116,11 +121,13 @@ fn put_applied<S: Store>(
     change: &Change,
     after: Option<Parts>,
 ) -> Result<(), Cause>
-    ensures ok { S.honest store.new → OnOk result (Sets (path_of change.now) (held_in after.entry) (S.files store.old) (S.files store.new)) }
+    ensures ok { S.honest store.new
+        → OnOk result (Sets (path_of change.now) (held_in after.entry) (S.files store.old) (S.files store.new)) }
     ensures err { S.honest store.new → OnErr result ((S.files store.new ≡ S.files store.old)
         ⊎ Sets (path_of change.now) (held_in after.entry) (S.files store.old) (S.files store.new)) }
     ensures moved { result ≢ Err Cause.Moved }
-    ensures clash { S.honest store.new → result ≡ Err Cause.Clash → Clashes (S.files store.old) (path_of change.now) × IsSome (held_in after.entry) }
+    ensures clash { S.honest store.new → result ≡ Err Cause.Clash
+        → Clashes (S.files store.old) (path_of change.now) × IsSome (held_in after.entry) }
     ensures device { IsErrOf result Cause.Device → S.failures store.old < S.failures store.new }
     // After a loss of power the path holds what it might before, or this.
     ensures left { MaySet S.Store (path_of change.now) (λ file. file ≡ held_in after.entry) store.old store.new }
@@ -147,15 +154,19 @@ pub fn roll_back_change<S: Store>(
 ) -> Result<(), Cause>
     ensures ok { S.honest store.new → IsProper change.now → IsSmall change.now
         → OnOk result (IsChangeRolledBack direction change.now (S.files store.old) (S.files store.new)) }
-    ensures err { S.honest store.new → IsProper change.now → IsSmall change.now → OnErr result ((S.files store.new ≡ S.files store.old)
+    ensures err { S.honest store.new → IsProper change.now → IsSmall change.now
+        → OnErr result ((S.files store.new ≡ S.files store.old)
         ⊎ LeadsByOneChange (opposite direction) change.now (S.files store.old) (S.files store.new)) }
     ensures moved { S.honest store.new → IsProper change.now → IsSmall change.now → result ≡ Err Cause.Moved
-        → ¬ (IsReady (opposite direction) change.now (map.get (S.files store.old) (path_of change.now))) × ¬ (IsReady direction change.now (map.get (S.files store.old) (path_of change.now))) }
+        → ¬ (IsReady (opposite direction) change.now (map.get (S.files store.old) (path_of change.now)))
+        × ¬ (IsReady direction change.now (map.get (S.files store.old) (path_of change.now))) }
     ensures clash { S.honest store.new → IsProper change.now → IsSmall change.now → result ≡ Err Cause.Clash
-        → ¬ (IsReady direction change.now (map.get (S.files store.old) (path_of change.now))) × (makes (opposite direction) change.now ≡ true) × Clashes (S.files store.old) (path_of change.now) }
+        → ¬ (IsReady direction change.now (map.get (S.files store.old) (path_of change.now)))
+        × (makes (opposite direction) change.now ≡ true) × Clashes (S.files store.old) (path_of change.now) }
     // After a loss of power its path holds what it might before, or what it did before the change.
     ensures left { S.honest store.new → IsProper change.now → IsSmall change.now
-        → MaySet S.Store (path_of change.now) (AppliesBy (opposite direction) change.now (map.get (S.files store.old) (path_of change.now))) store.old store.new }
+        → MaySet S.Store (path_of change.now) (AppliesBy (opposite direction) change.now
+        (map.get (S.files store.old) (path_of change.now))) store.old store.new }
     ensures notes { NotesMutations S.Store started.old started.new store.old store.new }
     ensures device { IsErrOf result Cause.Device → S.failures store.old < S.failures store.new }
     ensures written { is_of_tree (path_of change.now) ≡ true → S.written store.new ≡ S.written store.old }
@@ -181,13 +192,18 @@ fn roll_back_change_from<S: Store>(
     ensures ok { S.honest store.new → map.get (S.files store.old) (path_of change.now) ≡ option_copied file.entry
         → OnOk result (IsChangeRolledBack direction change.now (S.files store.old) (S.files store.new)) }
     ensures err { S.honest store.new → map.get (S.files store.old) (path_of change.now) ≡ option_copied file.entry
-        → OnErr result ((S.files store.new ≡ S.files store.old) ⊎ LeadsByOneChange (opposite direction) change.now (S.files store.old) (S.files store.new)) }
+        → OnErr result ((S.files store.new ≡ S.files store.old)
+        ⊎ LeadsByOneChange (opposite direction) change.now (S.files store.old) (S.files store.new)) }
     ensures moved { IsProper change.now → result ≡ Err Cause.Moved
-        → ¬ (IsReady (opposite direction) change.now (option_copied file.entry)) × ¬ (IsReady direction change.now (option_copied file.entry)) }
-    ensures clash { S.honest store.new → IsProper change.now → map.get (S.files store.old) (path_of change.now) ≡ option_copied file.entry → result ≡ Err Cause.Clash
-        → ¬ (IsReady direction change.now (option_copied file.entry)) × (makes (opposite direction) change.now ≡ true) × Clashes (S.files store.old) (path_of change.now) }
+        → ¬ (IsReady (opposite direction) change.now (option_copied file.entry))
+        × ¬ (IsReady direction change.now (option_copied file.entry)) }
+    ensures clash { S.honest store.new → IsProper change.now
+        → map.get (S.files store.old) (path_of change.now) ≡ option_copied file.entry → result ≡ Err Cause.Clash
+        → ¬ (IsReady direction change.now (option_copied file.entry)) × (makes (opposite direction) change.now ≡ true)
+        × Clashes (S.files store.old) (path_of change.now) }
     ensures left { map.get (S.files store.old) (path_of change.now) ≡ option_copied file.entry
-        → MaySet S.Store (path_of change.now) (AppliesBy (opposite direction) change.now (map.get (S.files store.old) (path_of change.now))) store.old store.new }
+        → MaySet S.Store (path_of change.now) (AppliesBy (opposite direction) change.now
+        (map.get (S.files store.old) (path_of change.now))) store.old store.new }
     ensures notes { NotesMutations S.Store started.old started.new store.old store.new }
     ensures device { IsErrOf result Cause.Device → S.failures store.old < S.failures store.new }
     ensures written { is_of_tree (path_of change.now) ≡ true → S.written store.new ≡ S.written store.old }

@@ -1,5 +1,6 @@
 //! Makes the changes of an entry in a store, one after the other.
-ghost use Rattle.std.specs.Prelude.{◌≡◌, ◌≢◌, ◌↔◌, ◌⊎◌, ◌+◌, ◌<◌, ◌≤◌, ℕ, [], length, take, IsTrue, IfOk, IfErr, OnOk, IsErrOf, OnErr, true};
+ghost use Rattle.std.specs.Prelude.{◌≡◌, ◌≢◌, ◌↔◌, ◌⊎◌, ◌+◌, ◌<◌, ◌≤◌, ℕ, [], length, take, IsTrue, IfOk, IfErr, OnOk};
+ghost use Rattle.std.specs.Prelude.{IsErrOf, OnErr, true};
 ghost use Rattle.std.specs.List.{All, AllZip};
 ghost use Rattle.reuse_change.specs.Files.{tree_of};
 ghost use Rattle.reuse_store.specs.Batch.{IsFrontOf, IsReadIn, IsReadReady, MakesRead};
@@ -34,15 +35,20 @@ pub fn apply_changes<S: Store>(
         → OnOk result (LeadsBy direction changes.now (tree_of (S.files store.old)) (tree_of (S.files store.new))) }
     // Where the walk stops, the first so many changes are made and no other.
     ensures midway { S.honest store.new → IsEntry changes.now
-        → OnErr result ((count : ℕ) × LeadsBy direction (take count changes.now) (tree_of (S.files store.old)) (tree_of (S.files store.new))) }
+        → OnErr result ((count : ℕ)
+        × LeadsBy direction (take count changes.now) (tree_of (S.files store.old)) (tree_of (S.files store.new))) }
     // What a loss of power may leave is what was there with some of the changes made, if nothing
     // else might be left before.
-    ensures left { S.honest store.new → IsEntry changes.now → IsSynced S.Store store.old → Leaves S.Store store.new (IsMidway direction changes.now (tree_of (S.files store.old)) (undo_folder_of (S.files store.old))) }
-    ensures lasting { S.honest store.new → IsEntry changes.now → IsSynced S.Store store.old → OnOk result (IsSynced S.Store store.new) }
+    ensures left { S.honest store.new → IsEntry changes.now → IsSynced S.Store store.old → Leaves S.Store store.new
+        (IsMidway direction changes.now (tree_of (S.files store.old)) (undo_folder_of (S.files store.old))) }
+    ensures lasting { S.honest store.new → IsEntry changes.now → IsSynced S.Store store.old
+        → OnOk result (IsSynced S.Store store.new) }
     // Where each change can be made, nothing but the device and memory stops it.
-    ensures cause { S.honest store.new → IsEntry changes.now → All (CanBeMade direction (tree_of (S.files store.old))) changes.now
+    ensures cause { S.honest store.new → IsEntry changes.now
+        → All (CanBeMade direction (tree_of (S.files store.old))) changes.now
         → (result ≢ Err Cause.Moved) × (result ≢ Err Cause.Clash) }
-    ensures folder { S.honest store.new → IsEntry changes.now → undo_folder_of (S.files store.new) ≡ undo_folder_of (S.files store.old) }
+    ensures folder { S.honest store.new → IsEntry changes.now
+        → undo_folder_of (S.files store.new) ≡ undo_folder_of (S.files store.old) }
     ensures device { IsErrOf result Cause.Device → S.failures store.old < S.failures store.new }
     ensures written { IsEntry changes.now → S.written store.new ≡ S.written store.old }
     ensures mutations { S.mutations store.new ≤ S.mutations store.old + length changes.now }

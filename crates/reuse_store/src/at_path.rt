@@ -54,7 +54,8 @@ fn is_below_file_at<S: Store>(
     store: &mut S,
     path: &PathText,
 ) -> Result<bool, StoreFault>
-    ensures below { S.honest store.new → IfOk result (λ below. below ≡ list_any (λ other. lies_under path.now other) (map.keys (S.files store.old))) }
+    ensures below { S.honest store.new
+        → IfOk result (λ below. below ≡ list_any (λ other. lies_under path.now other) (map.keys (S.files store.old))) }
     ensures fails { FailsAsRead S.Store store.old store.new result }
     ensures reads { OnlyReads S.Store store.old store.new }
 {
@@ -69,7 +70,8 @@ fn is_below_file_at<S: Store>(
 
 // Whether the text is the path of a file.
 fn is_file_at<S: Store>(alloc: Global, store: &mut S, text: &str) -> Result<bool, StoreFault>
-    ensures file { S.honest store.new → IfOk result (λ found. found ≡ is_among (map.keys (S.files store.old)) text.now) }
+    ensures file { S.honest store.new
+        → IfOk result (λ found. found ≡ is_among (map.keys (S.files store.old)) text.now) }
     ensures fails { FailsAsRead S.Store store.old store.new result }
     ensures reads { OnlyReads S.Store store.old store.new }
 {

@@ -64,9 +64,11 @@ impl<S: Store + Drop, const STAYS: bool> FaultyStore<S, STAYS> {
     // listing that failed, since the store inside has counted the call and its bytes.
     fn fail_with_effect(&mut self) -> Result<(), StoreFault>
         ensures answer { result ≡ Err StoreFault.Device }
-        ensures kept { (self.new.inner ≡ self.old.inner) × (self.new.left ≡ self.old.left) × (self.new.takes_effect ≡ false) }
+        ensures kept { (self.new.inner ≡ self.old.inner) × (self.new.left ≡ self.old.left)
+            × (self.new.takes_effect ≡ false) }
         ensures failures { failures_of self.new.failed.calls ≡ failures_of self.old.failed.calls + 1 }
-        ensures counts { (written_of self.new.failed.calls ≡ written_of self.old.failed.calls) × (mutations_of self.new.failed.calls ≡ mutations_of self.old.failed.calls) }
+        ensures counts { (written_of self.new.failed.calls ≡ written_of self.old.failed.calls)
+            × (mutations_of self.new.failed.calls ≡ mutations_of self.old.failed.calls) }
     {
         self.takes_effect = false;
         self.failed.note_list(&[], &Err(StoreFault::Device));
@@ -121,8 +123,11 @@ impl<S: Store + Drop, const STAYS: bool> Store for FaultyStore<S, STAYS> {
         pruning: &P,
     ) -> Result<Vec<PathText>, StoreFault>
         ensures kept { S.honest self.old.inner
-            → MatchResult result (λ paths. paths.items ≡ listed_paths (S.files self.old.inner) folders.now (P.prunes pruning.now) → S.honest self.new.inner) (λ fault. fault ≢ StoreFault.Clash → S.honest self.new.inner) }
-        ensures paths { S.honest self.new.inner → IfOk result (λ paths. paths.items ≡ listed_paths (S.files self.old.inner) folders.now (P.prunes pruning.now)) }
+            → MatchResult result
+            (λ paths. paths.items ≡ listed_paths (S.files self.old.inner) folders.now (P.prunes pruning.now)
+            → S.honest self.new.inner) (λ fault. fault ≢ StoreFault.Clash → S.honest self.new.inner) }
+        ensures paths { S.honest self.new.inner → IfOk result
+            (λ paths. paths.items ≡ listed_paths (S.files self.old.inner) folders.now (P.prunes pruning.now)) }
         ensures fails { FailsAsRead (with_faults S.Store) self.old self.new result }
         ensures reads { OnlyReads (with_faults S.Store) self.old self.new }
         ensures asks { ReadsWithFaults STAYS self.old self.new result }
@@ -136,8 +141,11 @@ impl<S: Store + Drop, const STAYS: bool> Store for FaultyStore<S, STAYS> {
     }
 
     fn read(&mut self, alloc: Global, path: &PathText, limit: usize) -> Result<Reading, StoreFault>
-        ensures kept { S.honest self.old.inner → MatchResult result (λ reading. reading ≡ reading_of (map.get (S.files self.old.inner) path.now) limit → S.honest self.new.inner) (λ fault. fault ≢ StoreFault.Clash → S.honest self.new.inner) }
-        ensures reading { S.honest self.new.inner → IfOk result (λ reading. reading ≡ reading_of (map.get (S.files self.old.inner) path.now) limit) }
+        ensures kept { S.honest self.old.inner
+            → MatchResult result (λ reading. reading ≡ reading_of (map.get (S.files self.old.inner) path.now) limit
+            → S.honest self.new.inner) (λ fault. fault ≢ StoreFault.Clash → S.honest self.new.inner) }
+        ensures reading { S.honest self.new.inner
+            → IfOk result (λ reading. reading ≡ reading_of (map.get (S.files self.old.inner) path.now) limit) }
         ensures fails { FailsAsRead (with_faults S.Store) self.old self.new result }
         ensures reads { OnlyReads (with_faults S.Store) self.old self.new }
         ensures asks { ReadsWithFaults STAYS self.old self.new result }

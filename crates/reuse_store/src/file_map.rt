@@ -44,7 +44,8 @@ impl FileMap {
         folders: &[PathText],
         pruning: &P,
     ) -> Result<Vec<PathText>, AllocError>
-        ensures { IfOk result (λ paths. paths.items ≡ listed_paths (files_of self.now) folders.now (P.prunes pruning.now)) }
+        ensures { IfOk result
+            (λ paths. paths.items ≡ listed_paths (files_of self.now) folders.now (P.prunes pruning.now)) }
     {
         let mut paths = Vec::new(alloc);
         for path in self.contents.keys() {
@@ -84,7 +85,8 @@ impl FileMap {
         parts: Parts,
     ) -> Result<(), StoreFault>
         ensures ok { OnOk result (Puts path.now (joined parts.entry) (files_of self.old) (files_of self.new)) }
-        ensures err { IfErr result (λ fault. PutFails fault path.now (joined parts.entry) (files_of self.old) (files_of self.new)) }
+        ensures err { IfErr result
+            (λ fault. PutFails fault path.now (joined parts.entry) (files_of self.old) (files_of self.new)) }
         ensures no_device { result ≢ Err StoreFault.Device }
     {
         if self.clashes(path) {
@@ -105,7 +107,8 @@ impl FileMap {
 
     // Whether no file can be made at the path.
     fn clashes(&self, path: &PathText) -> bool
-        ensures nested { result ≡ list_any (λ other. lies_under other path.now || lies_under path.now other) (keys self.now.contents) }
+        ensures nested { result ≡ list_any (λ other. lies_under other path.now || lies_under path.now other)
+            (keys self.now.contents) }
         ensures ordered { IsOrdered (slice_cmp nat_cmp) self.now.contents }
     {
         self.contents

@@ -14,25 +14,32 @@ use crate::{MemoryStore, Store};
 
 /// A change and its inverse.
 pub fn inverse_leads_back()
-    ensures back { (change : Change) (before after : Files) → Leads change before after → Leads (inverse_of change) after before }
-    ensures before { (change : Change) (file : Option (List ℕ)) → IsBefore (inverse_of change) file ↔ IsAfter change file }
-    ensures after { (change : Change) (file : Option (List ℕ)) → IsAfter (inverse_of change) file ↔ IsBefore change file }
+    ensures back { (change : Change) (before after : Files) → Leads change before after
+        → Leads (inverse_of change) after before }
+    ensures before { (change : Change) (file : Option (List ℕ))
+        → IsBefore (inverse_of change) file ↔ IsAfter change file }
+    ensures after { (change : Change) (file : Option (List ℕ))
+        → IsAfter (inverse_of change) file ↔ IsBefore change file }
     ensures twice { (change : Change) → inverse_of (inverse_of change) ≡ change }
 {}
 
 /// No file is at both ends of a change, and a change leads from a file to one file.
 pub fn change_has_two_ends()
-    ensures apart { (change : Change) (file : Option (List ℕ)) → IsProper change → IsBefore change file → ¬ (IsAfter change file) }
-    ensures once { (change : Change) (before after other : Option (List ℕ)) → Applies change before after → Applies change before other → after ≡ other }
+    ensures apart { (change : Change) (file : Option (List ℕ)) → IsProper change → IsBefore change file
+        → ¬ (IsAfter change file) }
+    ensures once { (change : Change) (before after other : Option (List ℕ)) → Applies change before after
+        → Applies change before other → after ≡ other }
 {}
 
 /// What a seal says of files: one that is at an end of a sealed change has the digest of the file
 /// that was there. So it is that very file, unless another file has been found that has the same
 /// digest.
 pub fn seal_tells_files_apart()
-    ensures after { (change : Change) (before after file : Option (List ℕ)) → Applies change before after → IsTrue (is_sealed change)
+    ensures after { (change : Change) (before after file : Option (List ℕ)) → Applies change before after
+        → IsTrue (is_sealed change)
         → IsAfter change file → option_map sha256 file ≡ option_map sha256 after }
-    ensures before { (change : Change) (before after file : Option (List ℕ)) → Applies change before after → IsTrue (is_sealed change)
+    ensures before { (change : Change) (before after file : Option (List ℕ)) → Applies change before after
+        → IsTrue (is_sealed change)
         → IsBefore change file → option_map sha256 file ≡ option_map sha256 before }
     ensures inverse { (change : Change) → is_sealed (inverse_of change) ≡ is_sealed change }
 {}
@@ -40,7 +47,8 @@ pub fn seal_tells_files_apart()
 /// No files are good files, and a put at a good path and a removal keep them so.
 pub fn files_stay_good()
     ensures none { AreFiles map.empty }
-    ensures put { (path bytes : List ℕ) (before after : Files) → AreFiles before → IsTrue (is_path path) → Puts path bytes before after → AreFiles after }
+    ensures put { (path bytes : List ℕ) (before after : Files) → AreFiles before → IsTrue (is_path path)
+        → Puts path bytes before after → AreFiles after }
     ensures remove { (files : Files) (path : List ℕ) → AreFiles files → AreFiles (map.remove files path) }
 {}
 

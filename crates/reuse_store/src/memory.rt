@@ -37,8 +37,10 @@ impl MemoryStore {
 
     // Makes the path's file these parts joined. No call is noted.
     fn make(&mut self, alloc: Global, path: &PathText, parts: Parts) -> Result<(), StoreFault>
-        ensures ok { OnOk result (Puts path.now (joined parts.entry) (files_in self.old.files) (files_in self.new.files)) }
-        ensures err { IfErr result (λ fault. PutFails fault path.now (joined parts.entry) (files_in self.old.files) (files_in self.new.files)) }
+        ensures ok { OnOk result
+            (Puts path.now (joined parts.entry) (files_in self.old.files) (files_in self.new.files)) }
+        ensures err { IfErr result (λ fault. PutFails fault path.now (joined parts.entry) (files_in self.old.files)
+            (files_in self.new.files)) }
         ensures no_device { result ≢ Err StoreFault.Device }
         ensures calls { self.new.calls ≡ self.old.calls }
     {

@@ -62,7 +62,8 @@ impl CallRecord {
     /// A record of no calls, with any files at the start and any fates of the calls that will fail.
     pub fn new() -> CallRecord
         ghost start: { Start }
-        ensures { (result.start ≡ start.files) × (result.doubts ≡ start.doubts) × (result.fates ≡ start.fates) × (result.calls ≡ []) }
+        ensures { (result.start ≡ start.files) × (result.doubts ≡ start.doubts) × (result.fates ≡ start.fates)
+            × (result.calls ≡ []) }
     {
         CallRecord {
             marker: PhantomData,
@@ -74,7 +75,8 @@ impl CallRecord {
     pub fn note_list(&mut self, folders: &[PathText], answer: &Result<Vec<PathText>, StoreFault>)
         ghost pruned: { List (List ℕ) }
         ensures { self.new ≡ record self.old {
-          calls = ListCall folders.now pruned (result_map_both (λ paths. paths.items) (λ fault. fault) answer.now) ∷ self.old.calls;
+          calls = ListCall folders.now pruned
+              (result_map_both (λ paths. paths.items) (λ fault. fault) answer.now) ∷ self.old.calls;
         } }
     {
         match answer {
@@ -113,7 +115,10 @@ impl CallRecord {
     /// Notes that the path was to be made these parts joined, and the answer. Whether a put that
     /// failed took effect is its fate.
     pub fn note_put_parts(&mut self, path: &PathText, parts: Parts, answer: &Result<(), StoreFault>)
-        ensures { self.new ≡ record self.old { calls = PutCall path.now (joined parts.entry) answer.now (took_effect self.old.fates self.old.calls) ∷ self.old.calls } }
+        ensures { self.new ≡ record self.old {
+          calls = PutCall path.now (joined parts.entry) answer.now
+              (took_effect self.old.fates self.old.calls) ∷ self.old.calls;
+        } }
     {
         let path = path.as_bytes();
         let Parts {
@@ -132,7 +137,10 @@ impl CallRecord {
 
     /// Notes a call of `remove` and its answer. Whether one that failed took effect is its fate.
     pub fn note_remove(&mut self, path: &PathText, answer: &Result<(), StoreFault>)
-        ensures { self.new ≡ record self.old { calls = RemoveCall path.now answer.now (took_effect self.old.fates self.old.calls) ∷ self.old.calls } }
+        ensures { self.new ≡ record self.old {
+          calls = RemoveCall path.now answer.now
+              (took_effect self.old.fates self.old.calls) ∷ self.old.calls;
+        } }
     {
         let path = path.as_bytes();
         match answer {
@@ -154,7 +162,8 @@ impl CallRecord {
     // Notes a listing by its kind.
     fn note_listing(&mut self, _kind: &ListingKind, _folders: &[PathText], _paths: &[PathText])
         ghost pruned: { List (List ℕ) }
-        ensures { self.new ≡ record self.old { calls = listing_of _kind.now _folders.now pruned _paths.now ∷ self.old.calls } }
+        ensures { self.new
+            ≡ record self.old { calls = listing_of _kind.now _folders.now pruned _paths.now ∷ self.old.calls } }
     {}
 
     // Notes a barrier by its kind.
@@ -173,7 +182,8 @@ impl CallRecord {
         _limit: usize,
     )
         ensures { self.new ≡ record self.old {
-          calls = call_of _kind.now _path.now (_front.now ++ _middle.now ++ _back.now) _limit (took_effect self.old.fates self.old.calls) ∷ self.old.calls;
+          calls = call_of _kind.now _path.now (_front.now ++ _middle.now ++ _back.now) _limit
+              (took_effect self.old.fates self.old.calls) ∷ self.old.calls;
         } }
     {}
 }

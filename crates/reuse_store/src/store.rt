@@ -36,7 +36,8 @@ impl Reading {
     /// What the path holds, or none where that is a file longer than the limit.
     pub fn file(&self) -> Option<Option<&[u8]>>
         ensures { (file : Option (List ℕ)) → (limit : ℕ) → self.now ≡ reading_of file limit
-            → MatchOption result ((bytes : List ℕ) × (file ≡ Some bytes) × (limit < length bytes)) (λ held. option_copied held ≡ file) }
+            → MatchOption result ((bytes : List ℕ) × (file ≡ Some bytes) × (limit < length bytes))
+            (λ held. option_copied held ≡ file) }
     {
         match self {
             Reading::Absent => Some(None),
@@ -50,7 +51,8 @@ impl Reading {
 /// after the call; what is said of `may_be`, `failures`, `written` and `moves` holds always.
 pub trait Store {
     ghost use Rattle.reuse_store.specs.Store.{reading_of};
-    ghost use Rattle.reuse_store.specs.StoreLaws.{OnlyReads, IsLater, FailsAsRead, IsPut, IsRemoval, IsWrite, AreWrites, IsBarrier};
+    ghost use Rattle.reuse_store.specs.StoreLaws.{OnlyReads, IsLater, FailsAsRead, IsPut, IsRemoval, IsWrite};
+    ghost use Rattle.reuse_store.specs.StoreLaws.{AreWrites, IsBarrier};
 
     /// What each path holds.
     ghost files: { Self → Files };
@@ -81,26 +83,33 @@ pub trait Store {
         pruning: &P,
     ) -> Result<Vec<PathText>, StoreFault>
         ensures kept { honest self.old
-            → MatchResult result (λ paths. paths.items ≡ listed_paths (files self.old) folders.now (P.prunes pruning.now) → honest self.new) (λ fault. fault ≢ StoreFault.Clash → honest self.new) }
-        ensures paths { honest self.new → IfOk result (λ paths. paths.items ≡ listed_paths (files self.old) folders.now (P.prunes pruning.now)) }
+            → MatchResult result (λ paths. paths.items ≡ listed_paths (files self.old) folders.now
+            (P.prunes pruning.now) → honest self.new) (λ fault. fault ≢ StoreFault.Clash → honest self.new) }
+        ensures paths { honest self.new
+            → IfOk result (λ paths. paths.items ≡ listed_paths (files self.old) folders.now (P.prunes pruning.now)) }
         ensures fails { FailsAsRead failures honest self.old self.new result }
         ensures reads { OnlyReads files may_be failures written mutations honest self.old self.new };
 
     /// What the path holds, if it is no longer than the limit in bytes.
     fn read(&mut self, alloc: Global, path: &PathText, limit: usize) -> Result<Reading, StoreFault>
-        ensures kept { honest self.old → MatchResult result (λ reading. reading ≡ reading_of (map.get (files self.old) path.now) limit → honest self.new) (λ fault. fault ≢ StoreFault.Clash → honest self.new) }
-        ensures reading { honest self.new → IfOk result (λ reading. reading ≡ reading_of (map.get (files self.old) path.now) limit) }
+        ensures kept { honest self.old → MatchResult result
+            (λ reading. reading ≡ reading_of (map.get (files self.old) path.now) limit → honest self.new)
+            (λ fault. fault ≢ StoreFault.Clash → honest self.new) }
+        ensures reading { honest self.new
+            → IfOk result (λ reading. reading ≡ reading_of (map.get (files self.old) path.now) limit) }
         ensures fails { FailsAsRead failures honest self.old self.new result }
         ensures reads { OnlyReads files may_be failures written mutations honest self.old self.new };
 
     /// Makes the path's file these parts joined, and folders as needed.
     fn put_parts(&mut self, alloc: Global, path: &PathText, parts: Parts) -> Result<(), StoreFault>
-        ensures puts { IsPut files may_be failures written mutations honest path.now (joined parts.entry) self.old self.new result }
+        ensures puts { IsPut files may_be failures written mutations honest path.now
+            (joined parts.entry) self.old self.new result }
         ensures later { IsLater failures written mutations honest self.old self.new };
 
     /// Makes the path's file these bytes, and folders as needed.
     fn put(&mut self, alloc: Global, path: &PathText, bytes: &[u8]) -> Result<(), StoreFault>
-        ensures puts { IsPut files may_be failures written mutations honest path.now bytes.now self.old self.new result }
+        ensures puts { IsPut files may_be failures written mutations honest path.now bytes.now self.old
+            self.new result }
         ensures later { IsLater failures written mutations honest self.old self.new }
     {
         self.put_parts(alloc, path, Parts::whole(bytes))
@@ -113,7 +122,8 @@ pub trait Store {
 
     /// Makes the path hold what it is given, by one put or removal.
     fn write(&mut self, alloc: Global, write: &FileWrite) -> Result<(), StoreFault>
-        ensures { IsWrite files may_be failures written mutations honest write.now.path.now write.now.file self.old self.new result }
+        ensures { IsWrite files may_be failures written mutations honest write.now.path.now write.now.file self.old
+            self.new result }
     {
         match write.file {
             Some(parts) => self.put_parts(alloc, write.path, parts),

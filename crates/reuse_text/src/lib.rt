@@ -1,9 +1,11 @@
 //! Lines, byte order mark, line ending and kind of text files, and an edit of one range of bytes.
 #![tactic(auto)]
 
-ghost use Rattle.std.specs.Prelude.{◌≡◌, ◌+◌, ◌-◌, ◌^◌, ◌<◌, ◌≤◌, ◌↔◌, IsTrue, IfOk, All, List, ℕ, length, take, drop, ◌∷◌, ◌==◌};
+ghost use Rattle.std.specs.Prelude.{◌≡◌, ◌+◌, ◌-◌, ◌^◌, ◌<◌, ◌≤◌, ◌↔◌, IsTrue, IfOk, All, List, ℕ, length, take, drop};
+ghost use Rattle.std.specs.Prelude.{◌∷◌, ◌==◌};
 ghost use Rattle.std.specs.List.{after_last};
-ghost use Rattle.reuse_text.specs.Text.{IsText, TextLine, AreLines, text_of, lines_of, after_mark, mark_len_of, kind_of, ending_bytes, file_lines, StandsIn, spliced};
+ghost use Rattle.reuse_text.specs.Text.{IsText, TextLine, AreLines, text_of, lines_of, after_mark, mark_len_of};
+ghost use Rattle.reuse_text.specs.Text.{kind_of, ending_bytes, file_lines, StandsIn, spliced};
 
 mod bytes;
 
@@ -170,6 +172,7 @@ pub fn last_part(path: &[u8]) -> &[u8]
 pub fn lines_are_one()
     ensures joined { (text : List ℕ) → text_of (lines_of text) ≡ text }
     ensures well_formed { (text : List ℕ) → AreLines (lines_of text) }
-    ensures only { (text : List ℕ) (lines : List TextLine) → AreLines lines → text_of lines ≡ text → lines ≡ lines_of text }
+    ensures only { (text : List ℕ) (lines : List TextLine) → AreLines lines → text_of lines ≡ text
+        → lines ≡ lines_of text }
     ensures placed { (file : List ℕ) → All (StandsIn file) (file_lines file) }
 {}

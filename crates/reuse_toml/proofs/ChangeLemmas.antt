@@ -1,8 +1,10 @@
 -- The change between two texts makes the one the other.
-use Rattle.std.proofs.Common.{◌≡◌, ℕ, suc, ◌+◌, ◌-◌, ◌≤◌, Bool, true, false, List, [], ◌∷◌, ◌++◌, length, take, drop, reverse, refl, sym, ap, ◌∙◌, arith, cond, append_assoc}
+use Rattle.std.proofs.Common.{◌≡◌, ℕ, suc, ◌+◌, ◌-◌, ◌≤◌, Bool, true, false, List, [], ◌∷◌, ◌++◌, length, take, drop}
+use Rattle.std.proofs.Common.{reverse, refl, sym, ap, ◌∙◌, arith, cond, append_assoc}
 use Rattle.std.specs.Prelude.{nat_eq}
 use Rattle.std.specs.List.{common_prefix_len}
-use Rattle.std.proofs.lemmas.List.{take-append-drop, reverse-append, reverse-reverse, length-reverse, length-drop, drop-drop}
+use Rattle.std.proofs.lemmas.List.{take-append-drop, reverse-append, reverse-reverse, length-reverse, length-drop}
+use Rattle.std.proofs.lemmas.List.{drop-drop}
 use Rattle.std.proofs.Math.Seq.{drop-append_seam}
 use Rattle.std.proofs.lemmas.List.Sums.{common_prefix_len-le}
 use Rattle.std.proofs.lemmas.Bool.Decides.{Decides-eqb}
@@ -15,7 +17,9 @@ front-alike [] ys = refl
 front-alike (x ∷ xs) [] = refl
 front-alike (x ∷ xs) (y ∷ ys) = by (nat_eq x y) refl (front-alike xs ys)
   where
-    by : (b : Bool) → nat_eq x y ≡ b → take (common_prefix_len nat_eq xs ys) xs ≡ take (common_prefix_len nat_eq xs ys) ys → take (cond b (1 + common_prefix_len nat_eq xs ys) 0) (x ∷ xs) ≡ take (cond b (1 + common_prefix_len nat_eq xs ys) 0) (y ∷ ys)
+    by : (b : Bool) → nat_eq x y ≡ b → take (common_prefix_len nat_eq xs ys) xs ≡ take
+        (common_prefix_len nat_eq xs ys) ys → take (cond b (1 + common_prefix_len nat_eq xs ys) 0) (x ∷ xs) ≡ take
+        (cond b (1 + common_prefix_len nat_eq xs ys) 0) (y ∷ ys)
     by false e more = refl
     by true e more =
         let n = common_prefix_len nat_eq xs ys in
@@ -29,8 +33,10 @@ end-is xs e within =
     let front = reverse (drop e (reverse xs)) in
     let back = reverse (take e (reverse xs)) in
     let whole : xs ≡ front ++ back =
-    sym (reverse-reverse xs) ∙ ap reverse (sym (take-append-drop e (reverse xs))) ∙ reverse-append (take e (reverse xs)) (drop e (reverse xs)) in
-    let len : length front ≡ length xs - e = length-reverse (drop e (reverse xs)) ∙ length-drop e (reverse xs) ∙ ap (λ n. n - e) (length-reverse xs) in
+    sym (reverse-reverse xs) ∙ ap reverse (sym (take-append-drop e (reverse xs)))
+    ∙ reverse-append (take e (reverse xs)) (drop e (reverse xs)) in
+    let len : length front ≡ length xs - e =
+    length-reverse (drop e (reverse xs)) ∙ length-drop e (reverse xs) ∙ ap (λ n. n - e) (length-reverse xs) in
     ap (λ n. drop n xs) (sym len) ∙ ap (drop (length front)) whole ∙ drop-append_seam front back
 
 ends-alike : (xs ys : List ℕ) → drop (length xs - same_end xs ys) xs ≡ drop (length ys - same_end xs ys) ys
@@ -38,9 +44,11 @@ ends-alike xs ys =
     let within = common_prefix_len-le nat_eq (reverse xs) (reverse ys) in
     let low : same_end xs ys ≤ length xs = omega (arith, within.0, length-reverse xs) in
     let other : same_end xs ys ≤ length ys = omega (arith, within.1, length-reverse ys) in
-    end-is xs (same_end xs ys) low ∙ ap reverse (front-alike (reverse xs) (reverse ys)) ∙ sym (end-is ys (same_end xs ys) other)
+    end-is xs (same_end xs ys) low ∙ ap reverse (front-alike (reverse xs) (reverse ys))
+    ∙ sym (end-is ys (same_end xs ys) other)
 
-pub change-makes : (file text : List ℕ) → spliced file (change_between file text).at (change_between file text).old (change_between file text).new ≡ text
+pub change-makes : (file text : List ℕ)
+    → spliced file (change_between file text).at (change_between file text).old (change_between file text).new ≡ text
 change-makes file text =
     let at = same_front file text in
     let old = drop at file in

@@ -14,10 +14,12 @@ HasNoSlash (c ∷ run) = (c ≢ 47) × HasNoSlash run
 abbrev pub GlobMatches : List GlobPiece → List ℕ → Type 0
 GlobMatches [] path = path ≡ []
 GlobMatches (Literal c ∷ pieces) path = (rest : List ℕ) × (path ≡ c ∷ rest) × GlobMatches pieces rest
-GlobMatches (RunInPart ∷ pieces) path = (run rest : List ℕ) × (path ≡ run ++ rest) × HasNoSlash run × GlobMatches pieces rest
+GlobMatches (RunInPart ∷ pieces) path =
+    (run rest : List ℕ) × (path ≡ run ++ rest) × HasNoSlash run × GlobMatches pieces rest
 GlobMatches (AnyRun ∷ pieces) path = (run rest : List ℕ) × (path ≡ run ++ rest) × GlobMatches pieces rest
 
--- what can stand behind a run at the front of a path: the path and each of its tails; behind a run without `/` only as far as the
+-- what can stand behind a run at the front of a path: the path and each of its tails; behind a run without `/` only as
+-- far as the
 -- first `/`
 abbrev pub tails : List ℕ → List (List ℕ)
 tails [] = [] ∷ []

@@ -1,5 +1,6 @@
 -- How a glob is written in a `path`, and how a `path` is read (REUSE Specification 3.3, "REUSE.toml").
-use Rattle.std.specs.Prelude.{ℕ, Bool, true, false, ◌==◌, ◌&&◌, ◌||◌, ◌≡◌, List, [], ◌∷◌, Option, Some, None, flat_map, encode_utf8, if◌then◌else◌}
+use Rattle.std.specs.Prelude.{ℕ, Bool, true, false, ◌==◌, ◌&&◌, ◌||◌, ◌≡◌, List, [], ◌∷◌, Option, Some, None, flat_map}
+use Rattle.std.specs.Prelude.{encode_utf8, if◌then◌else◌}
 use Rattle.reuse_toml.specs.declared.glob.GlobPiece.{GlobPiece}
 use Rattle.reuse_toml.specs.declared.glob.GlobPiece.TheVariants.{Literal, RunInPart, AnyRun}
 

@@ -1,11 +1,13 @@
 -- A `REUSE.toml` amended (docs/RULES.md, "What amend writes"): which text it becomes, and whether that is read as the
 -- table with the same values amended.
-use Rattle.std.specs.Prelude.{ℕ, ◌-◌, nat_lt, nat_eq, Bool, true, false, not, ◌&&◌, codes, List, [], ◌∷◌, ◌++◌, length, take, drop, reverse, Option, None, Some, Result, Ok, Err, if◌then◌else◌}
+use Rattle.std.specs.Prelude.{ℕ, ◌-◌, nat_lt, nat_eq, Bool, true, false, not, ◌&&◌, codes, List, [], ◌∷◌, ◌++◌, length}
+use Rattle.std.specs.Prelude.{take, drop, reverse, Option, None, Some, Result, Ok, Err, if◌then◌else◌}
 use Rattle.std.specs.Option.{option_map_or}
 use Rattle.std.specs.Ordering.{int_eq}
 use Rattle.std.specs.List.{common_prefix_len}
 use Rattle.std.specs.Str.{bytes_eq}
-use Rattle.toml.specs.Data.{Data, string, integer, boolean, array, table, Items, no_items, item, Members, no_members, member}
+use Rattle.toml.specs.Data.{Data, string, integer, boolean, array, table, Items, no_items, item, Members, no_members}
+use Rattle.toml.specs.Data.{member}
 use Rattle.reuse_text.specs.declared.TheConstants.{LONGEST_FILE}
 use Rattle.reuse_notice.specs.declared.amendments.Amendments.{Amendments}
 use Rattle.reuse_toml.specs.declared.toml_places.TomlPlace.{TomlPlace}
@@ -15,7 +17,8 @@ use Rattle.reuse_toml.specs.declared.toml_values.AmendTomlRefusal.TheVariants.{C
 use Rattle.reuse_toml.specs.declared.toml_values.NewPiece.{NewPiece}
 use Rattle.reuse_toml.specs.declared.toml_values.NewPiece.TheVariants.{Same, Removed, Changed}
 use Rattle.reuse_toml.specs.declared.toml_judge.TomlLevel.{TomlLevel}
-use Rattle.reuse_toml.specs.declared.toml_judge.TomlLevel.TheVariants.{Document, Annotations, Annotation, ValuesOf, Plain}
+use Rattle.reuse_toml.specs.declared.toml_judge.TomlLevel.TheVariants.{Document, Annotations, Annotation, ValuesOf}
+use Rattle.reuse_toml.specs.declared.toml_judge.TomlLevel.TheVariants.{Plain}
 use Rattle.reuse_toml.specs.declared.toml_change.TomlSplice.{TomlSplice}
 use Rattle.reuse_toml.specs.TomlText.{read_toml}
 use Rattle.reuse_toml.specs.TomlPieces.{pieces_of, kind_of}
@@ -113,7 +116,8 @@ abbrev mutual
   are_amended a level no_items new = is_no_items new
   are_amended a level (item d ds) no_items = is_removed a level d && are_amended a level ds no_items
   are_amended a level (item d ds) (item e es) =
-      if is_removed a level d then are_amended a level ds (item e es) else is_amended a level d e && are_amended a level ds es
+      if is_removed a level d then are_amended a level ds (item e es)
+      else is_amended a level d e && are_amended a level ds es
 
   pub members_amended : Amendments → TomlLevel → Members → Members → Bool
   members_amended a level no_members no_members = true

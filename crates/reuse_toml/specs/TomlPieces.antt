@@ -1,10 +1,12 @@
 -- A TOML text cut into pieces: comments, strings, words and single bytes (TOML 1.0).
-use Rattle.std.specs.Prelude.{ℕ, zero, suc, ◌+◌, ◌-◌, ◌==◌, nat_le, nat_eq, Bool, false, not, ◌&&◌, ◌||◌, List, [], ◌∷◌, take, drop, slice_index, Option, None, Some, if◌then◌else◌}
+use Rattle.std.specs.Prelude.{ℕ, zero, suc, ◌+◌, ◌-◌, ◌==◌, nat_le, nat_eq, Bool, false, not, ◌&&◌, ◌||◌, List, [], ◌∷◌}
+use Rattle.std.specs.Prelude.{take, drop, slice_index, Option, None, Some, if◌then◌else◌}
 use Rattle.std.specs.Option.{option_map_or}
 use Rattle.std.specs.List.{prefix_len, starts_with}
 use Rattle.std.specs.Char.{is_ascii_alphanumeric}
 use Rattle.reuse_toml.specs.declared.toml_pieces.PieceKind.{PieceKind}
-use Rattle.reuse_toml.specs.declared.toml_pieces.PieceKind.TheVariants.{Gap, LineEnd, Open, Close, OpenBrace, CloseBrace, Comma, Equals, Text, Other}
+use Rattle.reuse_toml.specs.declared.toml_pieces.PieceKind.TheVariants.{Gap, LineEnd, Open, Close, OpenBrace}
+use Rattle.reuse_toml.specs.declared.toml_pieces.PieceKind.TheVariants.{CloseBrace, Comma, Equals, Text, Other}
 
 -- a byte of a word: a key without quotes, a number, a truth value
 abbrev pub is_word_byte : ℕ → Bool

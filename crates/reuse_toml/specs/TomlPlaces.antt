@@ -1,14 +1,17 @@
 -- Where a piece of a `REUSE.toml` stands: which strings are values of the two keys in `[[annotations]]` (REUSE
 -- Specification 3.3, "REUSE.toml").
-use Rattle.std.specs.Prelude.{ℕ, suc, ◌-◌, ◌==◌, nat_lt, Bool, true, false, ◌||◌, codes, List, ◌∷◌, [], ◌++◌, Option, None, Some, if◌then◌else◌}
+use Rattle.std.specs.Prelude.{ℕ, suc, ◌-◌, ◌==◌, nat_lt, Bool, true, false, ◌||◌, codes, List, ◌∷◌, [], ◌++◌, Option}
+use Rattle.std.specs.Prelude.{None, Some, if◌then◌else◌}
 use Rattle.std.specs.Option.{option_map_or}
 use Rattle.std.specs.Str.{bytes_eq}
 use Rattle.reuse_toml.specs.declared.toml_pieces.PieceKind.{PieceKind}
-use Rattle.reuse_toml.specs.declared.toml_pieces.PieceKind.TheVariants.{Gap, LineEnd, Open, Close, OpenBrace, CloseBrace, Comma, Equals, Text}
+use Rattle.reuse_toml.specs.declared.toml_pieces.PieceKind.TheVariants.{Gap, LineEnd, Open, Close, OpenBrace}
+use Rattle.reuse_toml.specs.declared.toml_pieces.PieceKind.TheVariants.{CloseBrace, Comma, Equals, Text}
 use Rattle.reuse_toml.specs.declared.toml_places.TomlKey.{TomlKey}
 use Rattle.reuse_toml.specs.declared.toml_places.TomlKey.TheVariants.{Licence, Notice}
 use Rattle.reuse_toml.specs.declared.toml_places.TomlPlace.{TomlPlace}
-use Rattle.reuse_toml.specs.declared.toml_places.TomlPlace.TheVariants.{Line, Header, ArrayHeader, Named, Key, Value, Values, Rest}
+use Rattle.reuse_toml.specs.declared.toml_places.TomlPlace.TheVariants.{Line, Header, ArrayHeader, Named, Key, Value}
+use Rattle.reuse_toml.specs.declared.toml_places.TomlPlace.TheVariants.{Values, Rest}
 
 -- the two keys
 abbrev pub key_named : List ℕ → Option TomlKey

@@ -1,10 +1,13 @@
 //! A `REUSE.toml` amended: strings in it are written anew, and all else stays byte for byte. The
 //! new text is read back, and must be the old table with these values amended.
-ghost use Rattle.std.specs.Prelude.{◌≡◌, ◌≤◌, ◌++◌, IfOk, OnOk, option_map, length, reverse, Some, ◌&&◌, nat_lt, nat_eq, slice_index};
+ghost use Rattle.std.specs.Prelude.{◌≡◌, ◌≤◌, ◌++◌, IfOk, OnOk, option_map, length, reverse, Some, ◌&&◌, nat_lt};
+ghost use Rattle.std.specs.Prelude.{nat_eq, slice_index};
 ghost use Rattle.toml.specs.View.{table_view};
 ghost use Rattle.reuse_toml.specs.TomlText.{read_toml};
 ghost use Rattle.reuse_toml.specs.TomlAnswers.{IsTomlAnswer};
-ghost use Rattle.reuse_toml.specs.TomlAmending.{is_removed_piece, new_bytes, text_amended, same_front, same_end, change_behind, change_between, change_judged, text_judged, table_amended, toml_amendment_of};
+ghost use Rattle.reuse_toml.specs.TomlAmending.{is_removed_piece, new_bytes, text_amended, same_front, same_end};
+ghost use Rattle.reuse_toml.specs.TomlAmending.{change_behind, change_between, change_judged, text_judged};
+ghost use Rattle.reuse_toml.specs.TomlAmending.{table_amended, toml_amendment_of};
 
 use crate::toml_judge::{TomlLevel, are_members_amended};
 use crate::toml_pieces::{piece_kind, split_piece};

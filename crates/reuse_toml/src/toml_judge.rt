@@ -2,7 +2,9 @@
 //! where its new text, read back, is judged so.
 ghost use Rattle.std.specs.Prelude.{◌≡◌, IfOk};
 ghost use Rattle.toml.specs.View.{view, items_view, members_view, table_view};
-ghost use Rattle.reuse_toml.specs.TomlAmending.{level_of_member, level_of_item, is_text_amended, is_removed_text, is_removed, is_no_items, is_emptied, is_amended, are_amended, members_amended};
+ghost use Rattle.reuse_toml.specs.TomlAmending.{level_of_member, level_of_item, is_text_amended, is_removed_text};
+ghost use Rattle.reuse_toml.specs.TomlAmending.{is_removed, is_no_items, is_emptied, is_amended, are_amended};
+ghost use Rattle.reuse_toml.specs.TomlAmending.{members_amended};
 
 use crate::toml_places::{TomlKey, key_named};
 use crate::toml_values::amend_value;

@@ -18,15 +18,18 @@ pub fn toml_texts_are_their_pieces()
 /// stands in the file, and the result is another file of at most 16 MiB. A file that stays is read as
 /// a table in which no value changes.
 pub fn amended_files_are_read_as_amended_tables()
-    ensures judged { (a : Amendments) (file : List ℕ) (change : TomlSplice) → toml_amendment_of a file ≡ Ok (Some change)
+    ensures judged { (a : Amendments) (file : List ℕ) (change : TomlSplice)
+        → toml_amendment_of a file ≡ Ok (Some change)
         → IsChangedText a file (spliced file change.at change.old change.new) }
     ensures kept { (a : Amendments) (file : List ℕ) (change : TomlSplice) → toml_amendment_of a file ≡ Ok (Some change)
         → DiffersInStrings file (spliced file change.at change.old change.new) }
-    ensures within { (a : Amendments) (file : List ℕ) (change : TomlSplice) → toml_amendment_of a file ≡ Ok (Some change)
+    ensures within { (a : Amendments) (file : List ℕ) (change : TomlSplice)
+        → toml_amendment_of a file ≡ Ok (Some change)
         → change.at + change.old ≤ length file }
     ensures fits { (a : Amendments) (file : List ℕ) (change : TomlSplice) → toml_amendment_of a file ≡ Ok (Some change)
         → length (spliced file change.at change.old change.new) ≤ LONGEST_FILE }
-    ensures another { (a : Amendments) (file : List ℕ) (change : TomlSplice) → toml_amendment_of a file ≡ Ok (Some change)
+    ensures another { (a : Amendments) (file : List ℕ) (change : TomlSplice)
+        → toml_amendment_of a file ≡ Ok (Some change)
         → spliced file change.at change.old change.new ≢ file }
     ensures unchanged { (a : Amendments) (file : List ℕ) → toml_amendment_of a file ≡ Ok None
         → IsAmendedText a file file }

@@ -2,7 +2,8 @@
 //! together they are the text, whether or not it is TOML.
 ghost use Rattle.std.specs.Prelude.{◌≡◌, ◌<◌, ◌≤◌, length, take, drop, false, ◌==◌, ◌||◌, nat_le};
 ghost use Rattle.std.specs.List.{prefix_len};
-ghost use Rattle.reuse_toml.specs.TomlPieces.{is_word_byte, is_quote, kind_of_byte, kind_of, string_step, string_len, is_multi_line, quoted_len, is_no_line_end, first_len, piece_len};
+ghost use Rattle.reuse_toml.specs.TomlPieces.{is_word_byte, is_quote, kind_of_byte, kind_of, string_step, string_len};
+ghost use Rattle.reuse_toml.specs.TomlPieces.{is_multi_line, quoted_len, is_no_line_end, first_len, piece_len};
 
 /// What a piece is.
 #[derive(Clone, Copy, Debug, PartialEq, Eq)]

@@ -3,7 +3,9 @@
 //! it misses is found when the result is read back.
 ghost use Rattle.std.specs.Prelude.{◌≡◌};
 ghost use Rattle.std.specs.Prelude.{codes};
-ghost use Rattle.reuse_toml.specs.TomlPlaces.{key_named, is_name, key_of_piece, behind_word, deeper, at_line, in_header, in_array_header, behind_name, behind_key, at_value, in_values, in_rest, place_behind};
+ghost use Rattle.reuse_toml.specs.TomlPlaces.{key_named, is_name, key_of_piece, behind_word, deeper, at_line};
+ghost use Rattle.reuse_toml.specs.TomlPlaces.{in_header, in_array_header, behind_name, behind_key, at_value, in_values};
+ghost use Rattle.reuse_toml.specs.TomlPlaces.{in_rest, place_behind};
 
 use crate::toml_pieces::PieceKind;
 

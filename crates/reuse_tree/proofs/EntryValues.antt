@@ -21,10 +21,13 @@ digest_members key (Some digest) = (key, hex_value digest) ∷ []
 
 -- the value that is written for a change, with small digits
 abbrev pub change_value : Change → Data
-change_value (Make path new after) = object_of (digest_members (codes "after") after ++ whole_members (codes "make") (codes "new") path (hex_value new))
-change_value (Drop path old before) = object_of (digest_members (codes "before") before ++ whole_members (codes "drop") (codes "old") path (hex_value old))
+change_value (Make path new after) =
+    object_of (digest_members (codes "after") after ++ whole_members (codes "make") (codes "new") path (hex_value new))
+change_value (Drop path old before) = object_of
+    (digest_members (codes "before") before ++ whole_members (codes "drop") (codes "old") path (hex_value old))
 change_value (Splice path at old new rest seal) = object_of (
-    digest_members (codes "after") (option_map (λ s. s.after) seal) ++ (codes "at", count at) ∷ digest_members (codes "before") (option_map (λ s. s.before) seal) ++ splice_members path (hex_value old) (hex_value new) rest)
+    digest_members (codes "after") (option_map (λ s. s.after) seal) ++ (codes "at", count at) ∷ digest_members
+    (codes "before") (option_map (λ s. s.before) seal) ++ splice_members path (hex_value old) (hex_value new) rest)
 
 -- the value that is written for an entry
 abbrev pub entry_value : Entry → Data

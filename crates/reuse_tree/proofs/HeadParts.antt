@@ -1,15 +1,18 @@
 -- What is read of a head's value is the head, and nothing else is.
-use Rattle.std.proofs.Common.{◌≡◌, ℕ, ◌^◌, ◌<◌, ◌≤◌, Bool, List, [], ◌∷◌, codes, Option, Some, None, option_map, refl, sym, ap, ◌∙◌, subst, arith, inl, inr, length, ◌-◌, ◌++◌}
+use Rattle.std.proofs.Common.{◌≡◌, ℕ, ◌^◌, ◌<◌, ◌≤◌, Bool, List, [], ◌∷◌, codes, Option, Some, None, option_map, refl}
+use Rattle.std.proofs.Common.{sym, ap, ◌∙◌, subst, arith, inl, inr, length, ◌-◌, ◌++◌}
 use Rattle.std.specs.Prelude.{⊤}
 use Rattle.std.specs.List.{AllByRecursion, All, slice_get}
-use Rattle.std.proofs.lemmas.List.Elements.{All-get_or, All-weaker, recursion_from_All, All-nil, All-cons, All-head, All-tail}
+use Rattle.std.proofs.lemmas.List.Elements.{All-get_or, All-weaker, recursion_from_All, All-nil, All-cons, All-head}
+use Rattle.std.proofs.lemmas.List.Elements.{All-tail}
 use Rattle.std.proofs.lemmas.Option.{none-some, same_Some, cond_some, slice_get_within, get_or_from_slice_get}
 use Rattle.std.specs.Str.{bytes_eq}
 use Rattle.reuse_json.specs.Format.{format_number}
 use Rattle.serde_json.specs.Data.{Data, null, string, object, member}
 use Rattle.serde_json.specs.Find.{as_object, as_str}
 use Rattle.reuse_json.specs.Json.{count, counts}
-use Rattle.reuse_tree.specs.Head.{direction_name, pending_value, head_value, FitsDirection, PendingFits, IsSoundHead, IsGoodHead}
+use Rattle.reuse_tree.specs.Head.{direction_name, pending_value, head_value, FitsDirection, PendingFits, IsSoundHead}
+use Rattle.reuse_tree.specs.Head.{IsGoodHead}
 use Rattle.reuse_json.specs.JsonReading.{field_in, if_none_left, small_in, smalls_in, format_in}
 use Rattle.reuse_tree.specs.HeadReading.{direction_from, direction_in, some_pending_in, pending_in, head_in}
 use Rattle.reuse_tree.specs.declared.journal.head.Head.{Head}
@@ -17,7 +20,9 @@ use Rattle.reuse_tree.specs.declared.journal.head.Pending.{Pending}
 use Rattle.reuse_tree.specs.declared.journal.head.PendingDirection.{PendingDirection}
 use Rattle.reuse_tree.specs.declared.journal.head.PendingDirection.TheVariants.{Do, Undo, Redo}
 use Rattle.reuse_tree.proofs.JoinedTexts.{AllByRecursion-weaker}
-use Rattle.reuse_json.proofs.JsonParts.{either, named, bind_some, field_is, none_left_found, object_found, string_found, small_found, small_again, smalls_found, smalls_again, format_found, format_again, same_json}
+use Rattle.reuse_json.proofs.JsonParts.{either, named, bind_some, field_is, none_left_found, object_found, string_found}
+use Rattle.reuse_json.proofs.JsonParts.{small_found, small_again, smalls_found, smalls_again, format_found}
+use Rattle.reuse_json.proofs.JsonParts.{format_again, same_json}
 
 direction_found : (name : List ℕ) (w : PendingDirection) → direction_from name ≡ Some w → name ≡ direction_name w
 direction_found name w e = elim (either (bytes_eq name (codes "do")) Do w _ e) [
@@ -34,7 +39,8 @@ direction_again Undo = refl
 direction_again Redo = refl
 
 direction_there : (d : Data) (w : PendingDirection) → direction_in d ≡ Some w → d ≡ string (direction_name w)
-direction_there d w e = let name = bind_some _ (as_str d) w e in string_found d name.0 name.1 ∙ ap string (direction_found name.0 w name.2)
+direction_there d w e = let name = bind_some _ (as_str d) w e in
+    string_found d name.0 name.1 ∙ ap string (direction_found name.0 w name.2)
 
 small_there : (d : Data) (n : ℕ) → small_in d ≡ Some n → d ≡ count n
 small_there d n e = (small_found d n e).0
@@ -46,15 +52,20 @@ some_pending_found d p e =
     let entry = bind_some _ (field_in small_in (codes "entry") fields.0) p fields.2 in
     let direction = bind_some _ (field_in direction_in (codes "way") entry.0.1) p entry.2 in
     let end = bind_some _ (if_none_left direction.0.1) p direction.2 in
-    let second = field_is direction_in (λ w. string (direction_name w)) direction_there (codes "way") entry.0.1 direction.0 direction.1 ∙ ap (member (codes "way") (string (direction_name direction.0.0))) (none_left_found direction.0.1 end.0 end.1) in
-    let first = field_is small_in count small_there (codes "entry") fields.0 entry.0 entry.1 ∙ ap (member (codes "entry") (count entry.0.0)) second in
-    object_found d fields.0 fields.1 ∙ ap object first ∙ ap (λ (q : Pending). pending_value (Some q)) (same_Some _ p end.2)
+    let second = field_is direction_in (λ w. string (direction_name w)) direction_there
+    (codes "way") entry.0.1 direction.0 direction.1
+    ∙ ap (member (codes "way") (string (direction_name direction.0.0))) (none_left_found direction.0.1 end.0 end.1) in
+    let first = field_is small_in count small_there (codes "entry") fields.0 entry.0 entry.1
+    ∙ ap (member (codes "entry") (count entry.0.0)) second in
+    object_found d fields.0 fields.1 ∙ ap object first
+    ∙ ap (λ (q : Pending). pending_value (Some q)) (same_Some _ p end.2)
 
 some_pending_again : (p : Pending) → p.entry < 2 ^ 32 → some_pending_in (pending_value (Some p)) ≡ Some p
 unfolding some_pending_in
 some_pending_again p h = rw (small_again p.entry h, direction_again p.direction) refl
 
-mapped_found : {A B : Type 0} (f : A → B) (o : Option A) (y : B) → option_map f o ≡ Some y → (x : A) × (o ≡ Some x) × (f x ≡ y)
+mapped_found : {A B : Type 0} (f : A → B) (o : Option A) (y : B) → option_map f o ≡ Some y
+    → (x : A) × (o ≡ Some x) × (f x ≡ y)
 mapped_found f None y e = absurd (none-some y e)
 mapped_found f (Some x) y e = (x, refl, same_Some (f x) y e)
 
@@ -92,11 +103,17 @@ head_found d h e =
     let pending = bind_some _ (field_in pending_in (codes "pending") next.0.1) h next.2 in
     let undone = bind_some _ (field_in smalls_in (codes "undone") pending.0.1) h pending.2 in
     let end = bind_some _ (if_none_left undone.0.1) h undone.2 in
-    let fifth = field_is smalls_in counts smalls_found (codes "undone") pending.0.1 undone.0 undone.1 ∙ ap (member (codes "undone") (counts undone.0.0)) (none_left_found undone.0.1 end.0 end.1) in
-    let fourth = field_is pending_in pending_value pending_found (codes "pending") next.0.1 pending.0 pending.1 ∙ ap (member (codes "pending") (pending_value pending.0.0)) fifth in
-    let third = field_is small_in count small_there (codes "next") format.0.1 next.0 next.1 ∙ ap (member (codes "next") (count next.0.0)) fourth in
-    let second = field_is format_in (λ b. count (format_number b)) format_found (codes "format") done.0.1 format.0 format.1 ∙ ap (member (codes "format") (count (format_number format.0.0))) third in
-    let first = field_is smalls_in counts smalls_found (codes "done") fields.0 done.0 done.1 ∙ ap (member (codes "done") (counts done.0.0)) second in
+    let fifth = field_is smalls_in counts smalls_found (codes "undone") pending.0.1 undone.0 undone.1
+    ∙ ap (member (codes "undone") (counts undone.0.0)) (none_left_found undone.0.1 end.0 end.1) in
+    let fourth = field_is pending_in pending_value pending_found (codes "pending") next.0.1 pending.0 pending.1
+    ∙ ap (member (codes "pending") (pending_value pending.0.0)) fifth in
+    let third = field_is small_in count small_there (codes "next") format.0.1 next.0 next.1
+    ∙ ap (member (codes "next") (count next.0.0)) fourth in
+    let second =
+    field_is format_in (λ b. count (format_number b)) format_found (codes "format") done.0.1 format.0 format.1
+    ∙ ap (member (codes "format") (count (format_number format.0.0))) third in
+    let first = field_is smalls_in counts smalls_found (codes "done") fields.0 done.0 done.1
+    ∙ ap (member (codes "done") (counts done.0.0)) second in
     (format.0.0, object_found d fields.0 fields.1 ∙ ap object first ∙ ap (head_value format.0.0) (same_Some _ h end.2))
 
 All-front : (P : ℕ → Type 0) (xs ys : List ℕ) → All P (xs ++ ys) → All P xs
@@ -117,19 +134,30 @@ pub record IsSmallHead (h : Head) : Type 0 where
 -- a head's value is read as the head
 pub head_again : (second : Bool) (h : Head) → IsSmallHead h → head_in (head_value second h) ≡ Some h
 unfolding head_in
-head_again second h small = rw (smalls_again h.done small.done, format_again second, small_again h.next small.next, pending_again h.pending small.pending, smalls_again h.undone small.undone) refl
+head_again second h small = rw (
+  smalls_again h.done small.done,
+  format_again second,
+  small_again h.next small.next,
+  pending_again h.pending small.pending,
+  smalls_again h.undone small.undone,
+) refl
 
-last_is : (ns : List ℕ) (n next : ℕ) → All (λ m. (1 ≤ m) × (m < next)) ns → slice_get ns (length ns - 1) ≡ Some n → n < next
+last_is : (ns : List ℕ) (n next : ℕ) → All (λ m. (1 ≤ m) × (m < next)) ns
+    → slice_get ns (length ns - 1) ≡ Some n → n < next
 last_is ns n next h e =
     let within = slice_get_within ns _ n e in
     subst (λ m. m < next) (get_or_from_slice_get ns _ n 0 e) (All-get_or (λ m. (1 ≤ m) × (m < next)) ns _ 0 within h).1
 
-pending_six : (entry next : ℕ) (w : PendingDirection) (done undone : List ℕ) → next ≤ 1000000 → All (λ m. (1 ≤ m) × (m < next)) done → All (λ m. (1 ≤ m) × (m < next)) undone → FitsDirection entry w next done undone → entry < 1000000
+pending_six : (entry next : ℕ) (w : PendingDirection) (done undone : List ℕ) → next ≤ 1000000
+    → All (λ m. (1 ≤ m) × (m < next)) done → All (λ m. (1 ≤ m) × (m < next)) undone
+    → FitsDirection entry w next done undone → entry < 1000000
 pending_six entry next Do done undone h a b fits = omega arith
 pending_six entry next Undo done undone h a b fits = let below = last_is done entry next a fits in omega arith
 pending_six entry next Redo done undone h a b fits = let below = last_is undone entry next b fits in omega arith
 
-fits_six : (o : Option Pending) (next : ℕ) (done undone : List ℕ) → next ≤ 1000000 → All (λ m. (1 ≤ m) × (m < next)) done → All (λ m. (1 ≤ m) × (m < next)) undone → PendingFits o next done undone → FitsSix o
+fits_six : (o : Option Pending) (next : ℕ) (done undone : List ℕ) → next ≤ 1000000
+    → All (λ m. (1 ≤ m) × (m < next)) done → All (λ m. (1 ≤ m) × (m < next)) undone
+    → PendingFits o next done undone → FitsSix o
 fits_six None next done undone h a b fits = tt
 fits_six (Some p) next done undone h a b fits = pending_six p.entry next p.direction done undone h a b fits
 
@@ -171,4 +199,5 @@ small_from_sound h sound =
 pub one_head : (text : List ℕ) (a b : Head) → IsGoodHead text a → IsGoodHead text b → a ≡ b
 one_head text a b is_a is_b =
     let same = same_json text (head_value is_a.value.0 a) (head_value is_b.value.0 b) is_a.value.1 is_b.value.1 in
-    same_Some a b (sym (head_again is_a.value.0 a (small_from_sound a is_a.sound)) ∙ ap head_in same ∙ head_again is_b.value.0 b (small_from_sound b is_b.sound))
+    same_Some a b (sym (head_again is_a.value.0 a (small_from_sound a is_a.sound)) ∙ ap head_in same
+    ∙ head_again is_b.value.0 b (small_from_sound b is_b.sound))

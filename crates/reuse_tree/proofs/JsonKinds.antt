@@ -1,5 +1,6 @@
 -- A value that doesn't begin with a bracket is no array, and one that doesn't begin with a brace is no object.
-use Rattle.std.proofs.Common.{◌≡◌, ℕ, ◌-◌, ◌<◌, length, List, [], ◌∷◌, Option, Some, None, option_map, refl, sym, ap, ◌∙◌, arith}
+use Rattle.std.proofs.Common.{◌≡◌, ℕ, ◌-◌, ◌<◌, length, List, [], ◌∷◌, Option, Some, None, option_map, refl, sym, ap}
+use Rattle.std.proofs.Common.{◌∙◌, arith}
 use Rattle.std.specs.Prelude.{MatchOption, is_some, true}
 use Rattle.std.proofs.lemmas.Bool.{false≢true}
 use Rattle.std.proofs.lemmas.Option.{none-some, same_Some}
@@ -8,83 +9,116 @@ use Rattle.json.specs.Json.{parse_map, items, members, value}
 use Rattle.json.specs.Lex.{tokens}
 use Rattle.json.specs.Reads.{token_of}
 use Rattle.json.specs.declared.token.Token.{Token as Read}
-use Rattle.json.specs.declared.token.Token.TheVariants.{BeginObject, EndObject, BeginArray, EndArray, Key, String, Number, Bool, Null, Bad}
+use Rattle.json.specs.declared.token.Token.TheVariants.{BeginObject, EndObject, BeginArray, EndArray, Key, String}
+use Rattle.json.specs.declared.token.Token.TheVariants.{Number, Bool, Null, Bad}
 use Rattle.json.proofs.Grammar.{value_is, value-begin_array, value-begin_object}
 use Rattle.serde_json.specs.Data.{Num, Data, null, boolean, number, string, array, object, Items, Members, no_members}
 use Rattle.serde_json.specs.Find.{as_array, as_object}
 use Rattle.serde_json.specs.Read.{of_json, of_members, converted, number_of, read}
-use Rattle.reuse_json.proofs.JsonTurns.{array_converted, object_converted, whole_and_more, whole_read, whole_refused, whole_was}
+use Rattle.reuse_json.proofs.JsonTurns.{array_converted, object_converted, whole_and_more, whole_read, whole_refused}
+use Rattle.reuse_json.proofs.JsonTurns.{whole_was}
 
 -- the first value of a pair that was read
 first_is : (x d : Data) (s r : List Token) → ◌≡◌ {A = Option (Data × List Token)} (Some (x, s)) (Some (d, r)) → x ≡ d
 first_is x d s r e = ap (λ (q : Data × List Token). q.0) (same_Some (x, s) (d, r) e)
 
-number_is : (o : Option Num) (d : Data) (s r : List Token) → option_map {U = Data × List Token} (λ x. (x, s)) (option_map number o) ≡ Some (d, r) → (n : Num) × (number n ≡ d)
+number_is : (o : Option Num) (d : Data) (s r : List Token)
+    → option_map {U = Data × List Token} (λ x. (x, s)) (option_map number o) ≡ Some (d, r) → (n : Num) × (number n ≡ d)
 number_is None d s r e = absurd (none-some (d, r) e)
 number_is (Some n) d s r e = (n, first_is (number n) d s r e)
 
-array_is : (o : Option (Items × List Token)) (d : Data) (r : List Token) → parse_map array o ≡ Some (d, r) → (ds : Items) × (array ds ≡ d)
+array_is : (o : Option (Items × List Token)) (d : Data) (r : List Token) → parse_map array o ≡ Some (d, r)
+    → (ds : Items) × (array ds ≡ d)
 array_is None d r e = absurd (none-some (d, r) e)
 array_is (Some p) d r e = (p.0, first_is (array p.0) d p.1 r e)
 
-object_is : (o : Option (Members × List Token)) (d : Data) (r : List Token) → parse_map object o ≡ Some (d, r) → (ms : Members) × (object ms ≡ d)
+object_is : (o : Option (Members × List Token)) (d : Data) (r : List Token) → parse_map object o ≡ Some (d, r)
+    → (ms : Members) × (object ms ≡ d)
 object_is None d r e = absurd (none-some (d, r) e)
 object_is (Some p) d r e = (p.0, first_is (object p.0) d p.1 r e)
 
 module _ (depth : ℕ) (deep : 0 < depth) (s r : List Token) (d : Data) where
-  pub no_array : (t : Read) → (t ≡ BeginArray → ⊥) → converted of_json (value depth (token_of t ∷ s)) ≡ Some (d, r) → as_array d ≡ None
+  pub no_array : (t : Read) → (t ≡ BeginArray → ⊥) → converted of_json (value depth (token_of t ∷ s)) ≡ Some (d, r)
+      → as_array d ≡ None
   no_array BeginObject other e =
       let rest = members (value (depth - 1)) (length s) s in
-      let o = object_is _ d r (sym (object_converted rest) ∙ sym (ap (converted of_json) (value-begin_object depth s deep)) ∙ e) in sym (ap as_array o.1)
-  no_array EndObject other e = absurd (none-some (d, r) (sym (ap (converted of_json) (value_is depth (Token.end_object ∷ s))) ∙ e))
+      let o = object_is _ d r
+      (sym (object_converted rest) ∙ sym (ap (converted of_json) (value-begin_object depth s deep)) ∙ e) in
+      sym (ap as_array o.1)
+  no_array EndObject other e =
+      absurd (none-some (d, r) (sym (ap (converted of_json) (value_is depth (Token.end_object ∷ s))) ∙ e))
   no_array BeginArray other e = absurd (other refl)
-  no_array EndArray other e = absurd (none-some (d, r) (sym (ap (converted of_json) (value_is depth (Token.end_array ∷ s))) ∙ e))
-  no_array (Key k) other e = absurd (none-some (d, r) (sym (ap (converted of_json) (value_is depth (Token.key k.now ∷ s))) ∙ e))
-  no_array (String text) other e = sym (ap as_array (first_is (string text.now) d s r (sym (ap (converted of_json) (value_is depth (Token.string text.now ∷ s))) ∙ e)))
-  no_array (Number text) other e = let n = number_is (number_of text.now) d s r (sym (ap (converted of_json) (value_is depth (Token.number text.now ∷ s))) ∙ e) in sym (ap as_array n.1)
-  no_array (Bool b) other e = sym (ap as_array (first_is (boolean b) d s r (sym (ap (converted of_json) (value_is depth (Token.boolean b ∷ s))) ∙ e)))
-  no_array Null other e = sym (ap as_array (first_is (null) d s r (sym (ap (converted of_json) (value_is depth (Token.null ∷ s))) ∙ e)))
+  no_array EndArray other e =
+      absurd (none-some (d, r) (sym (ap (converted of_json) (value_is depth (Token.end_array ∷ s))) ∙ e))
+  no_array (Key k) other e =
+      absurd (none-some (d, r) (sym (ap (converted of_json) (value_is depth (Token.key k.now ∷ s))) ∙ e))
+  no_array (String text) other e = sym (ap as_array (first_is (string text.now) d s r
+      (sym (ap (converted of_json) (value_is depth (Token.string text.now ∷ s))) ∙ e)))
+  no_array (Number text) other e = let n = number_is (number_of text.now) d s r
+      (sym (ap (converted of_json) (value_is depth (Token.number text.now ∷ s))) ∙ e) in sym (ap as_array n.1)
+  no_array (Bool b) other e = sym (ap as_array
+      (first_is (boolean b) d s r (sym (ap (converted of_json) (value_is depth (Token.boolean b ∷ s))) ∙ e)))
+  no_array Null other e =
+      sym (ap as_array (first_is (null) d s r (sym (ap (converted of_json) (value_is depth (Token.null ∷ s))) ∙ e)))
   no_array Bad other e = absurd (none-some (d, r) (sym (ap (converted of_json) (value_is depth (Token.bad ∷ s))) ∙ e))
 
-  pub no_object : (t : Read) → (t ≡ BeginObject → ⊥) → converted of_json (value depth (token_of t ∷ s)) ≡ Some (d, r) → as_object d ≡ None
+  pub no_object : (t : Read) → (t ≡ BeginObject → ⊥) → converted of_json (value depth (token_of t ∷ s)) ≡ Some (d, r)
+      → as_object d ≡ None
   no_object BeginObject other e = absurd (other refl)
-  no_object EndObject other e = absurd (none-some (d, r) (sym (ap (converted of_json) (value_is depth (Token.end_object ∷ s))) ∙ e))
+  no_object EndObject other e =
+      absurd (none-some (d, r) (sym (ap (converted of_json) (value_is depth (Token.end_object ∷ s))) ∙ e))
   no_object BeginArray other e =
       let rest = items (value (depth - 1)) (length s) s in
-      let o = array_is _ d r (sym (array_converted rest) ∙ sym (ap (converted of_json) (value-begin_array depth s deep)) ∙ e) in sym (ap as_object o.1)
-  no_object EndArray other e = absurd (none-some (d, r) (sym (ap (converted of_json) (value_is depth (Token.end_array ∷ s))) ∙ e))
-  no_object (Key k) other e = absurd (none-some (d, r) (sym (ap (converted of_json) (value_is depth (Token.key k.now ∷ s))) ∙ e))
-  no_object (String text) other e = sym (ap as_object (first_is (string text.now) d s r (sym (ap (converted of_json) (value_is depth (Token.string text.now ∷ s))) ∙ e)))
-  no_object (Number text) other e = let n = number_is (number_of text.now) d s r (sym (ap (converted of_json) (value_is depth (Token.number text.now ∷ s))) ∙ e) in sym (ap as_object n.1)
-  no_object (Bool b) other e = sym (ap as_object (first_is (boolean b) d s r (sym (ap (converted of_json) (value_is depth (Token.boolean b ∷ s))) ∙ e)))
-  no_object Null other e = sym (ap as_object (first_is (null) d s r (sym (ap (converted of_json) (value_is depth (Token.null ∷ s))) ∙ e)))
+      let o =
+      array_is _ d r (sym (array_converted rest) ∙ sym (ap (converted of_json) (value-begin_array depth s deep)) ∙ e) in
+      sym (ap as_object o.1)
+  no_object EndArray other e =
+      absurd (none-some (d, r) (sym (ap (converted of_json) (value_is depth (Token.end_array ∷ s))) ∙ e))
+  no_object (Key k) other e =
+      absurd (none-some (d, r) (sym (ap (converted of_json) (value_is depth (Token.key k.now ∷ s))) ∙ e))
+  no_object (String text) other e = sym (ap as_object (first_is (string text.now) d s r
+      (sym (ap (converted of_json) (value_is depth (Token.string text.now ∷ s))) ∙ e)))
+  no_object (Number text) other e = let n = number_is (number_of text.now) d s r
+      (sym (ap (converted of_json) (value_is depth (Token.number text.now ∷ s))) ∙ e) in sym (ap as_object n.1)
+  no_object (Bool b) other e = sym (ap as_object
+      (first_is (boolean b) d s r (sym (ap (converted of_json) (value_is depth (Token.boolean b ∷ s))) ∙ e)))
+  no_object Null other e =
+      sym (ap as_object (first_is (null) d s r (sym (ap (converted of_json) (value_is depth (Token.null ∷ s))) ∙ e)))
   no_object Bad other e = absurd (none-some (d, r) (sym (ap (converted of_json) (value_is depth (Token.bad ∷ s))) ∙ e))
 
 -- ---- a text that is an object, or none
 
 module _ (text : List ℕ) (s : List Token) where
-  object_text : tokens text ≡ Token.begin_object ∷ s → converted of_json (value 127 (tokens text)) ≡ parse_map object (converted (λ js. of_members js no_members) (members (value 126) (length s) s))
+  object_text : tokens text ≡ Token.begin_object ∷ s → converted of_json (value 127 (tokens text)) ≡ parse_map object
+      (converted (λ js. of_members js no_members) (members (value 126) (length s) s))
   object_text first =
-      ap (λ ts. converted of_json (value 127 ts)) first ∙ ap (converted of_json) (value-begin_object 127 s (omega arith)) ∙ object_converted (members (value 126) (length s) s)
+      ap (λ ts. converted of_json (value 127 ts)) first ∙ ap (converted of_json)
+      (value-begin_object 127 s (omega arith)) ∙ object_converted (members (value 126) (length s) s)
 
-  pub object_read : (ms : Members) → tokens text ≡ Token.begin_object ∷ s → converted (λ js. of_members js no_members) (members (value 126) (length s) s) ≡ Some (ms, []) → read text ≡ Some (object ms)
+  pub object_read : (ms : Members) → tokens text ≡ Token.begin_object ∷ s → converted (λ js. of_members js no_members)
+      (members (value 126) (length s) s) ≡ Some (ms, []) → read text ≡ Some (object ms)
   object_read ms first e = whole_read text (object ms) (object_text first ∙ ap (parse_map object) e)
 
-  pub object_and_more : (ms : Members) (t : Token) (r : List Token) → tokens text ≡ Token.begin_object ∷ s → converted (λ js. of_members js no_members) (members (value 126) (length s) s) ≡ Some (ms, t ∷ r) → read text ≡ None
+  pub object_and_more : (ms : Members) (t : Token) (r : List Token) → tokens text ≡ Token.begin_object ∷ s → converted
+      (λ js. of_members js no_members) (members (value 126) (length s) s) ≡ Some (ms, t ∷ r) → read text ≡ None
   object_and_more ms t r first e = whole_and_more text (object ms) t r (object_text first ∙ ap (parse_map object) e)
 
-  pub object_refused : tokens text ≡ Token.begin_object ∷ s → converted (λ js. of_members js no_members) (members (value 126) (length s) s) ≡ None → read text ≡ None
+  pub object_refused : tokens text ≡ Token.begin_object ∷ s
+      → converted (λ js. of_members js no_members) (members (value 126) (length s) s) ≡ None → read text ≡ None
   object_refused first e = whole_refused text (object_text first ∙ ap (parse_map object) e)
 
-  pub other_text : (t : Read) (ms : Members) → tokens text ≡ token_of t ∷ s → (t ≡ BeginObject → ⊥) → read text ≡ Some (object ms) → ⊥
+  pub other_text : (t : Read) (ms : Members) → tokens text ≡ token_of t ∷ s → (t ≡ BeginObject → ⊥)
+      → read text ≡ Some (object ms) → ⊥
   other_text t ms first other e =
-      let was : converted of_json (value 127 (token_of t ∷ s)) ≡ Some (object ms, []) = sym (ap (λ ts. converted of_json (value 127 ts)) first) ∙ whole_was text (object ms) e in
+      let was : converted of_json (value 127 (token_of t ∷ s)) ≡ Some (object ms, []) =
+      sym (ap (λ ts. converted of_json (value 127 ts)) first) ∙ whole_was text (object ms) e in
       none-some ms (sym (no_object 127 (omega arith) s [] (object ms) t other was))
 
 pub empty_text : (text : List ℕ) → tokens text ≡ [] → read text ≡ None
 empty_text text e = whole_refused text (ap (converted of_json) (ap (value 127) e ∙ value_is 127 []))
 
 -- a token is left
-pub more_left : (o : Option Read) (old new : List Token) → MatchOption o ((old ≡ []) × (new ≡ [])) (λ t. old ≡ token_of t ∷ new) → is_some o ≡ true → (t : Token) × (old ≡ t ∷ new)
+pub more_left : (o : Option Read) (old new : List Token) → MatchOption o ((old ≡ []) × (new ≡ []))
+    (λ t. old ≡ token_of t ∷ new) → is_some o ≡ true → (t : Token) × (old ≡ t ∷ new)
 more_left None old new is some = absurd (false≢true some)
 more_left (Some t) old new is some = (token_of t, is)

@@ -6,11 +6,13 @@ use Rattle.reuse_json.specs.declared.fault.DecodeFault.{DecodeFault}
 use Rattle.reuse_json.specs.declared.fault.DecodeFault.TheVariants.{NotGood, Memory}
 
 -- the fault of the step is handed on
-pub stopped : {A : Type 0} (answer : Result A DecodeFault) (fault : DecodeFault) (read : Option A) → IsErrAnd answer (λ told. told ≡ fault) → Fails fault read → Gives answer read
+pub stopped : {A : Type 0} (answer : Result A DecodeFault) (fault : DecodeFault) (read : Option A)
+    → IsErrAnd answer (λ told. told ≡ fault) → Fails fault read → Gives answer read
 stopped (Ok found) fault read is fails = absurd is
 stopped (Err told) fault read is fails = subst (λ (e : DecodeFault). Fails e read) (sym is) fails
 
 -- the step itself
-pub here : {A B : Type 0} (fault : DecodeFault) (o : Option A) (f : A → Option B) → Fails fault o → Fails fault (o >>= f)
+pub here : {A B : Type 0} (fault : DecodeFault) (o : Option A) (f : A → Option B) → Fails fault o
+    → Fails fault (o >>= f)
 here NotGood o f none = rw none refl
 here Memory o f none = tt

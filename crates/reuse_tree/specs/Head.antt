@@ -1,7 +1,9 @@
 -- The head of the journal: which entries are done, which are undone, and which is under way.
-use Rattle.std.specs.Prelude.{◌≡◌, ◌≢◌, ℕ, ◌<◌, ◌≤◌, ◌-◌, Bool, List, [], ◌∷◌, ◌++◌, length, map, All, AllPairs, slice_get, codes, decimal, Option, Some, None, ⊤}
+use Rattle.std.specs.Prelude.{◌≡◌, ◌≢◌, ℕ, ◌<◌, ◌≤◌, ◌-◌, Bool, List, [], ◌∷◌, ◌++◌, length, map, All, AllPairs}
+use Rattle.std.specs.Prelude.{slice_get, codes, decimal, Option, Some, None, ⊤}
 use Rattle.std.specs.List.{join_with_byte}
 use Rattle.serde_json.specs.Data.{Data, string, null}
+use Rattle.reuse_change.specs.declared.layout.TheConstants.{LAST_NUMBER, MOST_LISTED}
 use Rattle.reuse_text.specs.declared.TheConstants.{LONGEST_FILE}
 use Rattle.reuse_json.specs.Json.{IsJson, count, counts, object_of}
 use Rattle.reuse_json.specs.Format.{format_number}
@@ -38,18 +40,21 @@ direction_name Redo = codes "redo"
 -- what is under way, or null
 abbrev pub pending_text : Option Pending → List ℕ
 pending_text None = codes "null"
-pending_text (Some p) = codes "{\"entry\":" ++ decimal p.entry ++ codes ",\"way\":\"" ++ direction_name p.direction ++ codes "\"}"
+pending_text (Some p) =
+    codes "{\"entry\":" ++ decimal p.entry ++ codes ",\"way\":\"" ++ direction_name p.direction ++ codes "\"}"
 
 -- a head, with the members in the order of their keys, without space
 abbrev pub head_text : Head → List ℕ
-head_text h = codes "{\"done\":" ++ numbers_text h.done ++ codes ",\"format\":2,\"next\":" ++ decimal h.next ++ codes ",\"pending\":" ++ pending_text h.pending ++ codes ",\"undone\":" ++ numbers_text h.undone ++ codes "}"
+head_text h = codes "{\"done\":" ++ numbers_text h.done ++ codes ",\"format\":2,\"next\":" ++ decimal h.next ++ codes
+    ",\"pending\":" ++ pending_text h.pending ++ codes ",\"undone\":" ++ numbers_text h.undone ++ codes "}"
 
 -- ---- the value that is read
 
 -- what is under way: null, or an object with just these keys and values
 abbrev pub pending_value : Option Pending → Data
 pending_value None = null
-pending_value (Some p) = object_of ((codes "entry", count p.entry) ∷ (codes "way", string (direction_name p.direction)) ∷ [])
+pending_value (Some p) =
+    object_of ((codes "entry", count p.entry) ∷ (codes "way", string (direction_name p.direction)) ∷ [])
 
 -- a head in the first format or the second: an object with just these keys and values
 abbrev pub head_value : Bool → Head → Data
@@ -74,9 +79,10 @@ listed h = h.done ++ h.undone
 abbrev pub last_of : List ℕ → Option ℕ
 last_of ns = slice_get ns (length ns - 1)
 
--- The entry that is under way fits the lists: a new one has the next number, one that is being undone is the last of done, one that is being redone is the last of undone.
+-- The entry that is under way fits the lists: a new one has the next number, one that is being undone is the last of
+-- done, one that is being redone is the last of undone.
 abbrev pub FitsDirection : ℕ → PendingDirection → ℕ → List ℕ → List ℕ → Type 0
-FitsDirection entry Do next done undone = (entry ≡ next) × (entry ≤ 999999)
+FitsDirection entry Do next done undone = (entry ≡ next) × (entry ≤ LAST_NUMBER)
 FitsDirection entry Undo next done undone = last_of done ≡ Some entry
 FitsDirection entry Redo next done undone = last_of undone ≡ Some entry
 
@@ -88,7 +94,7 @@ PendingFits (Some p) next done undone = FitsDirection p.entry p.direction next d
 -- a head that may be written, whatever its text
 pub record IsSoundHead (h : Head) : Type 0 where
   pub next : (1 ≤ h.next) × (h.next ≤ 1000000)
-  pub few : length (listed h) ≤ 4096
+  pub few : length (listed h) ≤ MOST_LISTED
   pub given_out : All (λ n. (1 ≤ n) × (n < h.next)) (listed h)
   pub distinct : AllPairs (λ m n. m ≢ n) (listed h)
   pub pending : PendingFits h.pending h.next h.done h.undone

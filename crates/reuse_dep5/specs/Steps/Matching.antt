@@ -24,4 +24,5 @@ IsFit pieces path (Run left rest) = IsWalk pieces path (AnyRun ∷ left.now) (ch
 abbrev pub IsFitAfterRun : List PatternPiece → List ℕ → Fit → Type 0
 IsFitAfterRun pieces path Whole = Matches (AnyRun ∷ pieces) path
 IsFitAfterRun pieces path Mismatch = ¬ Matches (AnyRun ∷ pieces) path
-IsFitAfterRun pieces path (Run left rest) = (Matches (AnyRun ∷ pieces) path ↔ Matches (AnyRun ∷ left.now) (chars rest.now)) × (length left.now < length pieces)
+IsFitAfterRun pieces path (Run left rest) =
+    (Matches (AnyRun ∷ pieces) path ↔ Matches (AnyRun ∷ left.now) (chars rest.now)) × (length left.now < length pieces)

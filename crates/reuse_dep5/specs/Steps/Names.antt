@@ -11,4 +11,5 @@ use Rattle.reuse_dep5.specs.Fields.{has_name}
 -- the set has the names of the fields that stand in the lines, in lower case, and no other
 abbrev pub HoldsNames : BTreeSet (List ℕ) → List NumberedLine → Type 0
 HoldsNames names lines =
-    (name : List ℕ) → contains (slice_cmp nat_cmp) names (str_to_ascii_lowercase name) ≡ list_any (λ (l : NumberedLine). has_name name l.content) lines
+    (name : List ℕ) → contains (slice_cmp nat_cmp) names (str_to_ascii_lowercase name) ≡ list_any
+    (λ (l : NumberedLine). has_name name l.content) lines

@@ -9,7 +9,8 @@ use Rattle.reuse_dep5.specs.SourceText.{NumberedLine}
 use Rattle.reuse_dep5.specs.PatternText.{patterns_of}
 
 -- patterns in front of others
-abbrev pub with_patterns : List PatternValue → Result (List PatternValue) Dep5Refusal → Result (List PatternValue) Dep5Refusal
+abbrev pub with_patterns : List PatternValue → Result (List PatternValue) Dep5Refusal
+    → Result (List PatternValue) Dep5Refusal
 with_patterns front (Ok patterns) = Ok (front ++ patterns)
 with_patterns front (Err e) = Err e
 
@@ -20,5 +21,7 @@ AreSpelled (Some pieces) spelled = spelled ≡ Some pieces.items
 
 -- The patterns of the words stand behind the old ones, whatever words follow; or the refusal is theirs.
 abbrev pub IsPushed : List NumberedLine → List PatternValue → List PatternValue → Result (Unit {0}) Dep5Refusal → Type 0
-IsPushed words old new (Ok done) = (later : List NumberedLine) → with_patterns old (patterns_of (words ++ later)) ≡ with_patterns new (patterns_of later)
-IsPushed words old new (Err e) = (later : List NumberedLine) → IsRefusalOf e (with_patterns old (patterns_of (words ++ later)))
+IsPushed words old new (Ok done) = (later : List NumberedLine)
+    → with_patterns old (patterns_of (words ++ later)) ≡ with_patterns new (patterns_of later)
+IsPushed words old new (Err e) =
+    (later : List NumberedLine) → IsRefusalOf e (with_patterns old (patterns_of (words ++ later)))

@@ -12,6 +12,8 @@ returns-in-Some-clause-locked g c =
     let root = c.args.root.now in
     let told = option_map path_buf_bytes c.absolute_path.result in
     let after = calls_of c.lock_above.new.held in
-    on_ok c.lock_above.result (told_above root (path_buf_bytes c.in-Some.path) told (calls_of c.args.held.now) c.absolute_path.new.noted.calls after c.absolute_path.ensures
+    on_ok c.lock_above.result (told_above root (path_buf_bytes c.in-Some.path) told
+    (calls_of c.args.held.now) c.absolute_path.new.noted.calls after c.absolute_path.ensures
     (ap (option_map path_buf_bytes) c.in-Some.is) c.lock_above.ensures.kept)
-    (subst (λ path. OnOk c.lock_above.result ((folder : List ℕ) → IsAbove path folder → IsGranted folder Shared after)) c.as_str.ensures c.lock_above.ensures.locked)
+    (subst (λ path. OnOk c.lock_above.result ((folder : List ℕ) → IsAbove path folder → IsGranted folder Shared after))
+    c.as_str.ensures c.lock_above.ensures.locked)

@@ -6,9 +6,14 @@ use Rattle.reuse_lock.proofs.lock_root.Goals as goal
 pub invariant_of-result : goal.invariant_of-result
 invariant_of-result g c =
     let after = calls_of c.lock_folder.new.held in
-    let locked = all_locked c.args.root.now (calls_of c.lock_above_root.new.held) after c.in_ok-lock_above_root.ensures.locked c.lock_folder.ensures.kept c.in_ok-lock_folder.ensures.granted in
-    record { locked = ∣ subst (λ root. IsLocked root after) (sym c.in_ok-from_str.ensures.ok) locked ∣₁; «open» = c.in_ok-lock_folder.ensures.«open» (c.in_ok-lock_above_root.ensures.«open» c.new-held.ensures.«open») }
+    let locked = all_locked c.args.root.now (calls_of c.lock_above_root.new.held) after
+    c.in_ok-lock_above_root.ensures.locked c.lock_folder.ensures.kept c.in_ok-lock_folder.ensures.granted in
+    record {
+      locked = ∣ subst (λ root. IsLocked root after) (sym c.in_ok-from_str.ensures.ok) locked ∣₁;
+      «open» = c.in_ok-lock_folder.ensures.«open» (c.in_ok-lock_above_root.ensures.«open» c.new-held.ensures.«open»);
+    }
 
 pub returns-clause-locked : goal.returns-clause-locked
 returns-clause-locked g c =
-    all_locked c.args.root.now (calls_of c.lock_above_root.new.held) (calls_of c.lock_folder.new.held) c.in_ok-lock_above_root.ensures.locked c.lock_folder.ensures.kept c.in_ok-lock_folder.ensures.granted
+    all_locked c.args.root.now (calls_of c.lock_above_root.new.held) (calls_of c.lock_folder.new.held)
+    c.in_ok-lock_above_root.ensures.locked c.lock_folder.ensures.kept c.in_ok-lock_folder.ensures.granted

@@ -26,7 +26,8 @@ abbrev pub IsGlobFitAfterRun : List GlobPiece → List ℕ → GlobFit → Type 
 IsGlobFitAfterRun pieces path Whole = GlobMatches (AnyRun ∷ pieces) path
 IsGlobFitAfterRun pieces path Mismatch = ¬ GlobMatches (AnyRun ∷ pieces) path
 IsGlobFitAfterRun pieces path (PartRun left rest) = ⊥
-IsGlobFitAfterRun pieces path (Run left rest) = GlobMatches (AnyRun ∷ pieces) path ↔ GlobMatches (AnyRun ∷ left.now) (chars rest.now)
+IsGlobFitAfterRun pieces path (Run left rest) =
+    GlobMatches (AnyRun ∷ pieces) path ↔ GlobMatches (AnyRun ∷ left.now) (chars rest.now)
 
 -- no `*` is left before the next `**`
 abbrev pub IsPastPart : GlobFit → Type 0

@@ -5,7 +5,8 @@ ghost use Rattle.std.specs.Option.{option_map};
 ghost use Rattle.hex.specs.Hex.{IsBytes};
 ghost use Rattle.reuse_change.specs.Entry.{entry_size, IsEntry};
 ghost use Rattle.reuse_change.specs.declared.change.Change.TheVariants.{Splice};
-ghost use Rattle.reuse_json.specs.EntryText.{command_name, change_text, entry_text, comma_before, is_any_sealed, whole_text, AreDigestBytes, IsChangeInMemory, IsGoodEntry};
+ghost use Rattle.reuse_json.specs.EntryText.{command_name, change_text, entry_text, comma_before, is_any_sealed};
+ghost use Rattle.reuse_json.specs.EntryText.{whole_text, AreDigestBytes, IsChangeInMemory, IsGoodEntry};
 ghost use Rattle.reuse_json.specs.Format.{format_number, knows};
 
 use reuse_change::{Change, CommandName, Digest, PathText, Seal};
@@ -16,7 +17,8 @@ use std::alloc::{AllocError, Global};
 /// The compact JSON text of an entry.
 pub fn encode_entry(alloc: Global, entry: &Entry) -> Result<Vec<u8>, AllocError>
     ensures text { IfOk result (λ text. text.items ≡ entry_text entry.now) }
-    ensures good { IsEntry entry.now.changes → knows (is_any_sealed entry.now.changes) entry.now.command ≡ true → IfOk result (λ text. IsGoodEntry text.items entry.now) }
+    ensures good { IsEntry entry.now.changes → knows (is_any_sealed entry.now.changes) entry.now.command ≡ true
+        → IfOk result (λ text. IsGoodEntry text.items entry.now) }
     ensures bound { IsEntry entry.now.changes
         → IfOk result (λ text. length text.items ≤ entry_size entry.now.changes) }
 {
@@ -199,7 +201,8 @@ fn append_whole(
     bytes: &[u8],
     path: &PathText,
 ) -> Result<(), AllocError>
-    ensures { OnOk result (text.new.items ≡ text.old.items ++ whole_text digest_key.now digest kind.now bytes.now path.now) }
+    ensures { OnOk result
+        (text.new.items ≡ text.old.items ++ whole_text digest_key.now digest kind.now bytes.now path.now) }
 {
     text.extend_from_slice(b"{")?;
     append_digest(text, digest_key, digest)?;
@@ -220,7 +223,8 @@ fn append_splice(
     rest: usize,
     seal: &Option<Seal>,
 ) -> Result<(), AllocError>
-    ensures { OnOk result (text.new.items ≡ text.old.items ++ change_text (Splice path.now at old.now new.now rest seal.now)) }
+    ensures { OnOk result
+        (text.new.items ≡ text.old.items ++ change_text (Splice path.now at old.now new.now rest seal.now)) }
 {
     text.extend_from_slice(b"{")?;
     append_digest(text, b"after", after(*seal))?;

@@ -2,20 +2,20 @@
 ghost use Rattle.std.specs.Prelude.{◌≡◌, ◌≢◌, ◌≤◌, ◌+◌, ◌*◌, ◌↔◌, true, AllPairs, IfOk, IsTrue, length};
 ghost use Rattle.serde_json.specs.View.{view};
 ghost use Rattle.reuse_json.specs.Decoded.{Gives, IsAnswer};
-ghost use Rattle.reuse_tree.specs.Head.{head_text, listed, head_value, pending_value as value_of_pending, IsGoodHead, IsJsonHead, IsSoundHead, PendingFits};
+ghost use Rattle.reuse_tree.specs.Head.{head_text, listed, head_value, pending_value as value_of_pending, IsGoodHead};
+ghost use Rattle.reuse_tree.specs.Head.{IsJsonHead, IsSoundHead, PendingFits};
 ghost use Rattle.reuse_tree.specs.HeadReading.{head_in, pending_in, some_pending_in, direction_from};
 ghost use Rattle.reuse_json.specs.Json.{counts};
 ghost use Rattle.reuse_tree.specs.declared.journal.head.Head.{Head};
 
 use crate::journal::head::{Head, Pending, PendingDirection};
+use reuse_change::layout::{LATEST_FORMAT, MOST_LISTED};
 use reuse_json::fields::{field, fields, finish, next_format, next_numbers, next_small, text_of};
 use reuse_json::trimmed::parse_trimmed;
 use reuse_json::{DecodeFault, Room};
 use reuse_text::LONGEST_FILE;
 use serde_json::{Value, json};
 use std::alloc::{AllocError, Global};
-
-const MOST_LISTED: usize = 4_096;
 
 // One more than the greatest number of an entry.
 const LARGEST_NEXT: u32 = 1_000_000;
@@ -36,7 +36,7 @@ fn head_json(alloc: Global, head: &Head) -> Result<Value, AllocError>
 {
     json!(in alloc; {
         "done": numbers_value(alloc, head.done.as_slice())?,
-        "format": 2u32,
+        "format": LATEST_FORMAT,
         "next": head.next,
         "pending": pending_value(alloc, head.pending)?,
         "undone": numbers_value(alloc, head.undone.as_slice())?

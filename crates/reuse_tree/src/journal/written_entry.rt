@@ -1,11 +1,13 @@
 //! An entry's text as this program writes it, read in one pass and without a tree of values.
-ghost use Rattle.std.specs.Prelude.{◌≡◌, ◌++◌, ◌≤◌, ◌<◌, ◌↔◌, IfOk, OnOk, IsTrue, Some, true, codes, decimal, length, map};
+ghost use Rattle.std.specs.Prelude.{◌≡◌, ◌++◌, ◌≤◌, ◌<◌, ◌↔◌, IfOk, OnOk, IsTrue, Some, true, codes, decimal, length};
+ghost use Rattle.std.specs.Prelude.{map};
 ghost use Rattle.std.specs.List.{All, join_with_byte};
 ghost use Rattle.std.specs.Option.{option_map};
 ghost use Rattle.reuse_change.specs.declared.digest.Seal.{Seal};
 ghost use Rattle.reuse_change.specs.Entry.{AreAllSealed};
 ghost use Rattle.reuse_tree.specs.EntryTests.{Passes};
-ghost use Rattle.reuse_json.specs.EntryText.{change_text, command_name, digest_text, AreDigestBytes, IsChangeInMemory, IsGoodEntry};
+ghost use Rattle.reuse_json.specs.EntryText.{change_text, command_name, digest_text, AreDigestBytes, IsChangeInMemory};
+ghost use Rattle.reuse_json.specs.EntryText.{IsGoodEntry};
 ghost use Rattle.reuse_json.specs.Format.{format_number, knows};
 
 use crate::journal::entry_checks::are_sound;
@@ -147,7 +149,8 @@ fn read_make(
     after: Option<Digest>,
 ) -> Result<Change, DecodeFault>
     requires { AreDigestBytes after }
-    ensures text { IfOk result (λ change. codes "{" ++ digest_text (codes "after") after ++ codes "\"kind\":\"make\",\"new\":" ++ text.old ≡ change_text change ++ text.new) }
+    ensures text { IfOk result (λ change. codes "{" ++ digest_text
+        (codes "after") after ++ codes "\"kind\":\"make\",\"new\":" ++ text.old ≡ change_text change ++ text.new) }
     ensures change { IfOk result IsChangeInMemory }
 {
     let new = text.bytes(alloc)?;
@@ -178,7 +181,8 @@ fn read_splice(
     after: Option<Digest>,
 ) -> Result<Change, DecodeFault>
     requires { AreDigestBytes after }
-    ensures text { IfOk result (λ change. codes "{" ++ digest_text (codes "after") after ++ codes "\"at\":" ++ text.old ≡ change_text change ++ text.new) }
+    ensures text { IfOk result (λ change. codes "{" ++ digest_text
+        (codes "after") after ++ codes "\"at\":" ++ text.old ≡ change_text change ++ text.new) }
     ensures change { IfOk result IsChangeInMemory }
 {
     let at = text.number()? as usize;

@@ -9,7 +9,8 @@ returns c =
     let file = c.args.file.now in
     let part = c.args.part.now in
     let decides = slice_eq-Decides Decides-eqb _ _ _ c.eq.ensures in
-    let total : length file ≡ c.args.at + length part + c.args.rest = omega (arith, c.if-file-at.false, c.if-file-at-2.false, c.if-file-at-3.false) in (
+    let total : length file ≡ c.args.at + length part + c.args.rest =
+    omega (arith, c.if-file-at.false, c.if-file-at-2.false, c.if-file-at-3.false) in (
       λ yes. holds_part file part c.args.at c.args.rest total (decides.0 yes),
       λ h. decides.1 (cuts file h.0 part h.1 c.args.at c.args.rest h.2).between,
     )

@@ -23,6 +23,9 @@ returns-in-Some c = λ path rest h.
     let yes = IsTrue c.is_seal_of.result in
     let here : option_copied c.args.file ≡ Some file = ap option_copied c.in-Some.is in
     let held = subst (λ f. HoldsPart f old at rest) here h in
-    let by_length = subst (λ len. yes ↔ IsSealOf seal file (spliced file at len c.as_slice.result.now)) c.len.ensures c.is_seal_of.ensures in
-    let by_part = subst (λ part. yes ↔ IsSealOf seal file (spliced file at (length old) part)) c.as_slice.ensures by_length in
-    subst (λ f. yes ↔ IsBefore (Splice path at old new rest seal) f) (sym here) (splice_sealed_before path at old new rest seal file yes held by_part)
+    let by_length = subst
+    (λ len. yes ↔ IsSealOf seal file (spliced file at len c.as_slice.result.now)) c.len.ensures c.is_seal_of.ensures in
+    let by_part =
+    subst (λ part. yes ↔ IsSealOf seal file (spliced file at (length old) part)) c.as_slice.ensures by_length in
+    subst (λ f. yes ↔ IsBefore (Splice path at old new rest seal) f) (sym here)
+    (splice_sealed_before path at old new rest seal file yes held by_part)

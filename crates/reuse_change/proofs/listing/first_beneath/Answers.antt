@@ -7,4 +7,5 @@ use Rattle.reuse_change.proofs.listing.first_beneath.Goals as goal
 pub returns-clause-bound : goal.returns-clause-bound
 returns-clause-bound c sorted =
     let first : c.as_slice.result.now ≡ c.args.folder.now ++ 47 ∷ [] = search rules in
-    subst (λ t. IsPartitionPoint (λ k. is_lt (slice_cmp nat_cmp k t) ≡ true) (λ k. is_lt (slice_cmp nat_cmp k t) ≡ false) c.args.paths.now c.lower_bound.result) first (c.lower_bound.ensures.bound sorted)
+    subst (λ t. IsPartitionPoint (λ k. is_lt (slice_cmp nat_cmp k t) ≡ true) (λ k. is_lt
+    (slice_cmp nat_cmp k t) ≡ false) c.args.paths.now c.lower_bound.result) first (c.lower_bound.ensures.bound sorted)

@@ -7,5 +7,6 @@ use Rattle.reuse_change.proofs.listing.lower_bound.Goals as goal
 
 pub returns-clause-bound : goal.returns-clause-bound
 returns-clause-bound c sorted =
-    IsPartitionPoint-from_clause (λ k. is_lt (slice_cmp nat_cmp k c.args.target.now)) _ _ c.partition_point.ensures.partitioned
+    IsPartitionPoint-from_clause
+    (λ k. is_lt (slice_cmp nat_cmp k c.args.target.now)) _ _ c.partition_point.ensures.partitioned
     (below_first c.args.target.now c.args.paths.now sorted) (λ a r q k. search rules)

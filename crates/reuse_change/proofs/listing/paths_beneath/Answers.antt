@@ -9,5 +9,6 @@ pub returns : goal.returns
 returns c sorted =
     let rest = take_rest c.args.paths.now c.in_ok-at.at in
     ap (take c.count_beneath-count.result) rest
-    ∙ ap (λ n. take n (drop c.in_ok-at.at c.args.paths.now)) (c.count_beneath-count.ensures ∙ ap (prefix_len (λ path. lies_under path c.args.folder.now)) rest)
+    ∙ ap (λ n. take n (drop c.in_ok-at.at c.args.paths.now))
+    (c.count_beneath-count.ensures ∙ ap (prefix_len (λ path. lies_under path c.args.folder.now)) rest)
     ∙ sym (beneath_at c.args.paths.now c.args.folder.now c.in_ok-at.at sorted (c.in_ok-at.ensures.bound sorted))

@@ -8,5 +8,6 @@ use Rattle.reuse_change.proofs.path.has_good_parts.Goals as goal
 pub returns : goal.returns
 returns c =
     all_from_yields_List is_part _ _ _ c.all.ensures.ran
-    (YieldsList-from_slice_split _ (λ byte. nat_eq byte 47) c.args.text.now c.split.ensures.rest c.split.ensures.done c.split.ensures.closure (λ x b q k. search (rules, tests)))
+    (YieldsList-from_slice_split _ (λ byte. nat_eq byte 47) c.args.text.now c.split.ensures.rest c.split.ensures.done
+    c.split.ensures.closure (λ x b q k. search (rules, tests)))
     (λ x b q k. search (rules, tests))

@@ -12,6 +12,8 @@ use Rattle.reuse_dep5.proofs.faults.add_name.Goals as goal
 pub returns-clause-holds : goal.returns-clause-holds
 returns-clause-holds c =
     let e : c.from_vec.result ≡ str_to_ascii_lowercase (field_name c.args.line.now.content) =
-    c.from_vec.ensures ∙ c.in_ok-name.ensures.ok ∙ ap (map to_ascii_lowercase) (c.leading_name.ensures ∙ ap (λ (l : NumberedLine). field_name l.content) c.line.view_is) in
+    c.from_vec.ensures ∙ c.in_ok-name.ensures.ok ∙ ap (map to_ascii_lowercase)
+    (c.leading_name.ensures ∙ ap (λ (l : NumberedLine). field_name l.content) c.line.view_is) in
     names_more c.args.names.now c.insert.new.self c.args.before.now c.args.line.now c.requires.field
-    (subst (λ (key : List ℕ). Updates (slice_cmp nat_cmp) c.args.names.now c.insert.new.self key true) e c.in_ok-added.ensures.updates) c.requires.holds
+    (subst (λ (key : List ℕ). Updates (slice_cmp nat_cmp) c.args.names.now c.insert.new.self key true) e
+    c.in_ok-added.ensures.updates) c.requires.holds

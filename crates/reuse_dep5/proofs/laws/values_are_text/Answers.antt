@@ -11,10 +11,13 @@ pub returns-clause-lines : goal.returns-clause-lines
 returns-clause-lines c = λ bytes utf8.
     each_weaker (EachPasses HasText) (λ (p : List NumberedLine). (name : List ℕ) → EachPasses HasText (value_of name p))
     (λ p each name. value_text name p each) (paragraphs (dep5_lines bytes))
-    (dep5_text bytes (c.lines_are_one.ensures.joined (after_mark bytes)) (c.lines_are_one.ensures.well_formed (after_mark bytes)) utf8)
+    (dep5_text bytes (c.lines_are_one.ensures.joined (after_mark bytes))
+    (c.lines_are_one.ensures.well_formed (after_mark bytes)) utf8)
 
 pub returns-clause-words : goal.returns-clause-words
 returns-clause-words c = λ bytes utf8.
-    each_weaker (EachPasses HasText) (λ (p : List NumberedLine). (name : List ℕ) → EachPasses HasText (words_of (value_of name p)))
+    each_weaker (EachPasses HasText)
+    (λ (p : List NumberedLine). (name : List ℕ) → EachPasses HasText (words_of (value_of name p)))
     (λ p each name. words_text (value_of name p) (value_text name p each)) (paragraphs (dep5_lines bytes))
-    (dep5_text bytes (c.lines_are_one.ensures.joined (after_mark bytes)) (c.lines_are_one.ensures.well_formed (after_mark bytes)) utf8)
+    (dep5_text bytes (c.lines_are_one.ensures.joined (after_mark bytes))
+    (c.lines_are_one.ensures.well_formed (after_mark bytes)) utf8)

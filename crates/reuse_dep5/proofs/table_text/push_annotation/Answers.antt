@@ -12,11 +12,14 @@ pub returns : goal.returns
 returns c =
     let v = c.paragraph.view_is in
     annotation_pushed c.args.paragraph.now c.args.out.now.items _ _ _ _ _ _
-    (map (λ (t : Vec ℕ Global). t.items) c.deref-2.result.now) (map (λ (t : Vec ℕ Global). t.items) c.deref-3.result.now) c.deref-4.result.now c.deref-5.result.now
+    (map (λ (t : Vec ℕ Global). t.items) c.deref-2.result.now)
+    (map (λ (t : Vec ℕ Global). t.items) c.deref-3.result.now) c.deref-4.result.now c.deref-5.result.now
     (ap (map (λ (t : Vec ℕ Global). t.items)) c.deref-2.ensures.value ∙ c.in_ok-paths.ensures
-    ∙ ap (λ ps. map glob_text (map (λ (p : PatternValue). translated p.pieces) ps)) (c.deref.ensures.value ∙ ap (λ (f : FilesValue). f.patterns) v))
+    ∙ ap (λ ps. map glob_text (map (λ (p : PatternValue). translated p.pieces) ps))
+    (c.deref.ensures.value ∙ ap (λ (f : FilesValue). f.patterns) v))
     (ap (map (λ (t : Vec ℕ Global). t.items)) c.deref-3.ensures.value ∙ ap (λ (f : FilesValue). f.notices) v)
     (c.deref-4.ensures.value ∙ ap (λ (f : FilesValue). f.license) v)
     (c.deref-5.ensures.value ∙ ap (λ (f : FilesValue). f.comment) v)
-    c.in_ok-extend_from_slice.ensures.items c.in_ok-push_list_line.ensures c.in_ok-push_quoted_line.ensures c.in_ok-push_list_line-2.ensures
+    c.in_ok-extend_from_slice.ensures.items c.in_ok-push_list_line.ensures c.in_ok-push_quoted_line.ensures
+    c.in_ok-push_list_line-2.ensures
     c.in_ok-push_quoted_line-2.ensures c.in_ok-push_text_line.ensures

@@ -10,4 +10,5 @@ returns c =
     (c.deref-2.ensures.value ∙ ap (λ (h : HeaderValue). h.contact) c.header.view_is)
     (c.deref-3.ensures.value ∙ ap (λ (h : HeaderValue). h.source) c.header.view_is)
     (c.deref-4.ensures.value ∙ ap (λ (h : HeaderValue). h.comment) c.header.view_is)
-    c.in_ok-push_text_line.ensures c.in_ok-push_text_line-2.ensures c.in_ok-push_text_line-3.ensures c.in_ok-push_text_line-4.ensures
+    c.in_ok-push_text_line.ensures c.in_ok-push_text_line-2.ensures c.in_ok-push_text_line-3.ensures
+    c.in_ok-push_text_line-4.ensures

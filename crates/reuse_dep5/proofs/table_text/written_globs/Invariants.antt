@@ -8,4 +8,5 @@ use Rattle.reuse_dep5.proofs.table_text.written_globs.Given as goal
 
 abbrev pub invariant-loop-pattern : goal.invariant-loop-pattern
 invariant-loop-pattern l =
-    map (λ (t : Vec ℕ Global). t.items) l.texts.items ≡ map glob_text (map (λ (p : PatternValue). translated p.pieces) (take l.pattern-index l.patterns))
+    map (λ (t : Vec ℕ Global). t.items) l.texts.items ≡ map glob_text
+    (map (λ (p : PatternValue). translated p.pieces) (take l.pattern-index l.patterns))

@@ -6,4 +6,5 @@ use Rattle.reuse_json.proofs.fields.numbers_in.Given as goal
 -- the numbers so far, and those of what is left, are those of all
 abbrev pub invariant-loop-value : goal.invariant-loop-value
 invariant-loop-value l =
-    with_front l.numbers.items (read_items small_in (items_view (drop l.value-index l.values))) ≡ read_items small_in (items_view l.values)
+    with_front l.numbers.items (read_items small_in (items_view (drop l.value-index l.values))) ≡ read_items small_in
+    (items_view l.values)

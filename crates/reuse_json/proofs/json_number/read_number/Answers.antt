@@ -8,7 +8,8 @@ unfolding number_of
 returns-then-has_minus c =
     let bytes = c.as_bytes-bytes.result.now in
     let signed : (get_or bytes 0 0 == 45) ≡ true = sym c.if-has_minus.ensures.value in
-    let parts : c.scan.result ≡ scan (drop 1 bytes) = c.scan.ensures.parts ∙ ap scan (take_all _ (drop 1 bytes) (omega (arith, length-drop 1 bytes))) in
+    let parts : c.scan.result ≡ scan (drop 1 bytes) =
+    c.scan.ensures.parts ∙ ap scan (take_all _ (drop 1 bytes) (omega (arith, length-drop 1 bytes))) in
     let same : number_from true (scan (drop 1 bytes)) ≡ number_of bytes = rw signed in
     c.read_negative.ensures ∙ ap (number_from true) parts ∙ same ∙ ap number_of c.as_bytes-bytes.ensures.value
 
@@ -18,4 +19,5 @@ returns-else-has_minus c =
     let bytes = c.as_bytes-bytes.result.now in
     let unsigned : (get_or bytes 0 0 == 45) ≡ false = sym c.if-has_minus.ensures.value in
     let same : number_from false (scan bytes) ≡ number_of bytes = rw unsigned in
-    c.read_unsigned.ensures ∙ ap (number_from false) c.scan-else-has_minus.ensures.parts ∙ same ∙ ap number_of c.as_bytes-bytes.ensures.value
+    c.read_unsigned.ensures ∙ ap (number_from false) c.scan-else-has_minus.ensures.parts ∙ same
+    ∙ ap number_of c.as_bytes-bytes.ensures.value

@@ -13,5 +13,7 @@ loop-done-preserved c =
     let done = c.loop-done.done in
     let count = c.min-count.result in
     let size : done + count - done ≡ count = omega arith in
-    digits_more c.args.text.now.items bytes c.loop-done.text.items c.extend_from_slice.new.self.items c.encode_to_slice.new.output (take (done + count - done) (drop done bytes)) done count
-    c.loop-done.invariant c.in_ok-extend_from_slice.ensures.items c.in-Ok.ensures.written (ap (λ n. take n (drop done bytes)) size)
+    digits_more c.args.text.now.items bytes c.loop-done.text.items c.extend_from_slice.new.self.items
+    c.encode_to_slice.new.output (take (done + count - done) (drop done bytes)) done count
+    c.loop-done.invariant c.in_ok-extend_from_slice.ensures.items c.in-Ok.ensures.written
+    (ap (λ n. take n (drop done bytes)) size)

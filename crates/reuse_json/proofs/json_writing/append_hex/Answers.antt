@@ -13,5 +13,6 @@ returns c =
     let second = c.append_digits.new.text.items in
     let digits = encode_lower bytes in
     let plain = escape_plain digits (plain_digits bytes (λ i. omega (arith, c.type_inv.bytes i))) in
-    at_last c.extend_from_slice-2.result second c.extend_from_slice-2.new.self.items (codes "\"") (text ++ hex_text bytes) c.extend_from_slice-2.ensures.items
+    at_last c.extend_from_slice-2.result second c.extend_from_slice-2.new.self.items (codes "\"")
+    (text ++ hex_text bytes) c.extend_from_slice-2.ensures.items
     (quoted_plain text first second digits plain c.in_ok-extend_from_slice.ensures.items c.in_ok-append_digits.ensures)

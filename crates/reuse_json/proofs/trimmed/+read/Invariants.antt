@@ -21,7 +21,8 @@ decreases-read_members l = 3 * l.depth + 2
 abbrev pub invariant-read_items-items : goal.invariant-read_items-items
 invariant-read_items-items l =
     (n : ℕ) × (length l.reader ≤ n) × (ds : List Data)
-    × (converted of_items (items (value l.depth) (length l.initial.reader) l.initial.reader) ≡ parse_map (before ds) (converted of_items (items (value l.depth) n l.reader)))
+    × (converted of_items (items (value l.depth) (length l.initial.reader) l.initial.reader) ≡ parse_map (before ds)
+    (converted of_items (items (value l.depth) n l.reader)))
     × Kept l.room ds l.found.items
     × (length l.reader ≤ length l.initial.reader)
 
@@ -32,7 +33,8 @@ decreases-read_items-items l = length l.reader
 abbrev pub invariant-read_members-members : goal.invariant-read_members-members
 invariant-read_members-members l =
     (n : ℕ) × (length l.reader ≤ n) × (ms : Members)
-    × (converted (λ js. of_members js no_members) (members (value l.depth) (length l.initial.reader) l.initial.reader) ≡ converted (λ js. of_members js ms) (members (value l.depth) n l.reader))
+    × (converted (λ js. of_members js no_members) (members (value l.depth) (length l.initial.reader) l.initial.reader)
+    ≡ converted (λ js. of_members js ms) (members (value l.depth) n l.reader))
     × KeptMembers l.room ms l.found.entries
     × (length l.reader ≤ length l.initial.reader)
 

@@ -10,5 +10,6 @@ invariant-loop-at g l =
     let store = g.S.Store in
     record {
       reads : OnlyReads store l.fn.store l.store;
-      none : store.honest l.store → (k : ℕ) → k < l.at → get_or l.fn.path k 0 ≡ 47 → is_among (keys (store.files l.fn.store)) (take k l.fn.path) ≡ false;
+      none : store.honest l.store → (k : ℕ) → k < l.at → get_or l.fn.path k 0 ≡ 47
+          → is_among (keys (store.files l.fn.store)) (take k l.fn.path) ≡ false;
     }

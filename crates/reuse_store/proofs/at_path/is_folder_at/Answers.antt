@@ -8,5 +8,6 @@ returns-clause-folder g c honest =
     let files = g.S.Store.files c.args.store.now in
     let path = c.args.path.now in
     c.has_one_under.ensures
-    ∙ ap (λ paths. is_folder_of paths path) (c.deref.ensures.value ∙ c.in_ok-paths.ensures.paths honest ∙ ap (λ folders. listed_paths files folders (λ folder. false)) c.from_ref.ensures.value)
+    ∙ ap (λ paths. is_folder_of paths path) (c.deref.ensures.value ∙ c.in_ok-paths.ensures.paths honest
+    ∙ ap (λ folders. listed_paths files folders (λ folder. false)) c.from_ref.ensures.value)
     ∙ folder_listed files path

@@ -7,5 +7,6 @@ loop-piece-preserved c = (
   c.in-Some-split_first_char.ensures.utf8,
   omega (arith, c.in-Some.ensures.cases.1),
   IsGlobWalk-step _ _ c.in-Some.piece.now c.in-Some.others.now c.loop-piece.left.now c.in-Literal.wanted _ _ _
-      c.in-Some.ensures.cases.0 c.in-Literal.is c.if-wanted-first.false c.in-Some-split_first_char.ensures.characters c.loop-piece.invariant.2,
+      c.in-Some.ensures.cases.0 c.in-Literal.is c.if-wanted-first.false c.in-Some-split_first_char.ensures.characters
+      c.loop-piece.invariant.2,
 )

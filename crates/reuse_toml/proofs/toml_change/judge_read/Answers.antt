@@ -7,7 +7,8 @@ use Rattle.reuse_toml.proofs.toml_change.judge_read.Goals as goal
 
 pub returns-in-None : goal.returns-in-None
 returns-in-None c =
-    ap (change_judged c.args.amendments.now c.args.file.now c.args.text.now (table_view c.args.old.now)) (c.in_ok-read_table.ensures ∙ ap (option_map table_view) c.in-None.is)
+    ap (change_judged c.args.amendments.now c.args.file.now c.args.text.now (table_view c.args.old.now))
+    (c.in_ok-read_table.ensures ∙ ap (option_map table_view) c.in-None.is)
 
 pub returns-in-Some : goal.returns-in-Some
 returns-in-Some c =

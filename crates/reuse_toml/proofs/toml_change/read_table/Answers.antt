@@ -7,4 +7,5 @@ pub returns-in-Ok : goal.returns-in-Ok
 returns-in-Ok c = read_if_utf8 parse_document c.args.bytes.now _ c.in-Ok.ensures.ok.0 c.in-Ok.ensures.ok.1
 
 pub returns-else-is_memory : goal.returns-else-is_memory
-returns-else-is_memory c = none_if_utf8 parse_document c.args.bytes.now (c.in-Err.ensures.refused (λ m. false≢true (c.if-is_memory.ensures.1 m)))
+returns-else-is_memory c = none_if_utf8 parse_document c.args.bytes.now
+    (c.in-Err.ensures.refused (λ m. false≢true (c.if-is_memory.ensures.1 m)))

@@ -11,5 +11,6 @@ returns-in-Splice c =
     let file = option_copied c.args.file in
     let yes = IsTrue c.has_seal.result in
     let range = (subst (λ change. IsAfterByRange change file) s.is c.requires).1 in
-    let back = subst (λ seal. yes ↔ IsBefore (Splice s.path s.at s.new s.old s.rest seal) file) c.swapped.ensures (c.has_seal.ensures s.path s.rest (range.0, range.1, range.3)) in
+    let back = subst (λ seal. yes ↔ IsBefore (Splice s.path s.at s.new s.old s.rest seal) file) c.swapped.ensures
+    (c.has_seal.ensures s.path s.rest (range.0, range.1, range.3)) in
     rw s.is (sealed_after (Splice s.path s.at s.old s.new s.rest s.seal) file yes back)

@@ -6,4 +6,6 @@ use Rattle.reuse_store.specs.FileMap.{none_are_files}
 use Rattle.reuse_store.proofs.file_map.FileMap.new.Goals as goal
 
 pub invariant_of-result : goal.invariant_of-result
-invariant_of-result c = record { are_files = subst (λ es. AreFiles (from_entries {R = slice_cmp nat_cmp} es)) (sym c.new.ensures.empty) none_are_files }
+invariant_of-result c = record {
+  are_files = subst (λ es. AreFiles (from_entries {R = slice_cmp nat_cmp} es)) (sym c.new.ensures.empty) none_are_files;
+}

@@ -9,7 +9,8 @@ returns-clause-puts c = record {
   kept = search rules;
   ok = search rules;
   err = search rules;
-  may = λ left is. left_by_put c.make-answer.result (files_in c.args.self.now.files) _ left c.args.path.now (joined c.args.parts) c.make-answer.ensures.ok c.make-answer.ensures.err is;
+  may = λ left is. left_by_put c.make-answer.result (files_in c.args.self.now.files) _ left c.args.path.now
+      (joined c.args.parts) c.make-answer.ensures.ok c.make-answer.ensures.err is;
   device = search rules;
   written = search rules;
   mutations = search rules;

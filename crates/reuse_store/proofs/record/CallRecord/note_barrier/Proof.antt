@@ -5,7 +5,8 @@ use mir.Syntax.{named}
 use mir.Val.{Val, vunit, vptr}
 use base.Logic.{id⊢}
 use base.Fml.{ftrue, flft}
-use types.Kit.{Item, ‵, ◌⊛◌, ◌$◌, ◌∵◌, !, qed, move, keep, drop, use1, split, join, fsplit, fsplit3, fjoin, fjoin3, feq_i, suffices, frame, done}
+use types.Kit.{Item, ‵, ◌⊛◌, ◌$◌, ◌∵◌, !, qed, move, keep, drop, use1, split, join, fsplit, fsplit3, fjoin, fjoin3}
+use types.Kit.{feq_i, suffices, frame, done}
 use types.Run.{enter, unit_lit, of_opd, returns}
 use types.ByLocal.{alloc_all, pass_all, free_all, look_at, sets}
 use denote.RattleType.{owns}
@@ -14,7 +15,8 @@ use denote.Ref.{mut_vals, mut_Tells, shr_vals, shr_Tells}
 use denote.Signature.{plain, types_at}
 use denote.Slice.{shr_slice_vals, shr_slice_Tells}
 use denote.Steps.{opens, closes}
-use denote.Triple.Walked.{says, Stays, stay_ref, stay_none_ref, stay_none_slice, Goes-ref, Goes-none_ref, Goes-none_slice, walk_of, ends_at}
+use denote.Triple.Walked.{says, Stays, stay_ref, stay_none_ref, stay_none_slice, Goes-ref, Goes-none_ref}
+use denote.Triple.Walked.{Goes-none_slice, walk_of, ends_at}
 use Rattle.reuse_store.specs.CallParts.{barrier_of}
 use Rattle.reuse_store.specs.declared.record.CallRecord.{CallRecord}
 use Rattle.reuse_store.specs.contracts.record.CallRecord.{the_row as R}
@@ -39,8 +41,10 @@ stayed = (
 pub note_barrier_spec : {M : Type 1} → statement M
 note_barrier_spec 𝓤 𝓛 𝓜 𝓡 wired =
     let c = f.clauses 𝓛 𝓜.mem 𝓡.returns in let W = walk_of 𝓛 f.ended stayed c in
-    proved 𝓛 f.ended stayed c 𝓜 𝓡
-    (Goes-ref 𝓛 3 0 tt (plain (λ _. R)), (Goes-none_ref 𝓛 3 (1 ∷ []) tt (plain (λ _. K)) yes, (Goes-none_slice 𝓛 3 (2 ∷ []) tt (plain (λ _. C)) yes, tt)))
+    proved 𝓛 f.ended stayed c 𝓜 𝓡 (
+      Goes-ref 𝓛 3 0 tt (plain (λ _. R)),
+      (Goes-none_ref 𝓛 3 (1 ∷ []) tt (plain (λ _. K)) yes, (Goes-none_slice 𝓛 3 (2 ∷ []) tt (plain (λ _. C)) yes, tt)),
+    )
     f.Key.name code.function (code.unfolded 𝓤 𝓛.H 𝓜 𝓡 wired)
     (λ κs. (mut_vals, (shr_vals, (shr_slice_vals, tt))))
     (λ κs. (mut_Tells (named 0) κs.0 R, (shr_Tells (named 1) κs.1.0 K, (shr_slice_Tells (named 2) κs.1.1.0 C, tt))))
@@ -60,5 +64,6 @@ note_barrier_spec 𝓤 𝓛 𝓜 𝓡 wired =
     returns ! (look_at ! 0 refl) $ free_all ! refl $ keep ! (0 ∷ 1 ∷ 2 ∷ 3 ∷ 4 ∷ []) $
     suffices ! _ (ends_at 𝓛 f.ended stayed c y vunit tt (noted, (tt, (tt, tt))) (tt, (tt, (tt, tt)))) $
     says ! refl $
-    move ! (2 ∷ 4 ∷ []) $ join ! $ frame ! $ feq_i ! (List Val) (vptr b o ∷ []) (vptr b o ∷ []) refl $ fjoin3 ! $ fjoin ! $
+    move ! (2 ∷ 4 ∷ []) $ join ! $ frame ! $ feq_i ! (List Val) (vptr b o ∷ [])
+    (vptr b o ∷ []) refl $ fjoin3 ! $ fjoin ! $
     feq_i ! (List Val) (vunit ∷ []) (vunit ∷ []) refl $ move ! (1 ∷ 0 ∷ []) $ done !)))

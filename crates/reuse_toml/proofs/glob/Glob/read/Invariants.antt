@@ -7,7 +7,8 @@ use Rattle.reuse_toml.proofs.ReadGlobLemmas.{behind}
 use Rattle.reuse_toml.proofs.glob.Glob.read.Given as goal
 
 abbrev pub invariant-loop-first : goal.invariant-loop-first
-invariant-loop-first l = shadow (Utf8 l.rest) × (read_glob (chars l.fn.text) ≡ behind l.pieces.items (read_glob (chars l.rest)))
+invariant-loop-first l =
+    shadow (Utf8 l.rest) × (read_glob (chars l.fn.text) ≡ behind l.pieces.items (read_glob (chars l.rest)))
 
 abbrev pub decreases-loop-first : goal.decreases-loop-first
 decreases-loop-first l = length (chars l.rest)

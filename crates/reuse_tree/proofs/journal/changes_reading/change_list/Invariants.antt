@@ -12,7 +12,8 @@ use Rattle.reuse_tree.proofs.journal.changes_reading.change_list.Given as goal
 abbrev pub invariant-items : goal.invariant-items
 invariant-items l =
     (n : ℕ) × (length l.reader ≤ n) × (ds : List Data)
-    × (converted of_items (items (value 125) (length l.fn.reader) l.fn.reader) ≡ parse_map (before ds) (converted of_items (items (value 125) n l.reader)))
+    × (converted of_items (items (value 125) (length l.fn.reader) l.fn.reader) ≡ parse_map (before ds)
+    (converted of_items (items (value 125) n l.reader)))
     × (option_map (λ v. v.items) l.found ≡ if_few_changes (read_items (change_in l.sealed) (items_of ds)))
     × (length l.reader ≤ length l.fn.reader)
 

@@ -20,7 +20,8 @@ returns-in_err-found-clause-refused c refused =
     let l = c.members in
     let named : read_key l.reader ≡ Some (Some c.in-Some.name.now, c.next_key.new.self) = grind arith in
     let fault = same_fault _ c.in_err-found.field-0.0 c.from_residual-in_err-found.ensures.1 refused in
-    l.invariant.3 ∙ member_refused (value 126) l.invariant.2 l.invariant.0 c.in-Some.name.now l.reader c.next_key.new.self named (c.in_err-found.ensures.refused (ap Err fault))
+    l.invariant.3 ∙ member_refused (value 126) l.invariant.2 l.invariant.0 c.in-Some.name.now l.reader
+    c.next_key.new.self named (c.in_err-found.ensures.refused (ap Err fault))
 
 pub members-preserved : goal.members-preserved
 members-preserved c =
@@ -38,11 +39,16 @@ members-preserved c =
       n - 1,
       omega (arith, l.invariant.1, less, lesser),
       put k d ms,
-      l.invariant.3 ∙ member_read (value 126) ms n k l.reader s r d (omega (arith, l.invariant.1, less)) named done.ok.1,
+      l.invariant.3
+          ∙ member_read (value 126) ms n k l.reader s r d (omega (arith, l.invariant.1, less)) named done.ok.1,
       listed_more c.args.sealed k d ms _ _ done.ok.2 l.invariant.4,
     )
 
 pub returns-clause-ok : goal.returns-clause-ok
 returns-clause-ok c =
-    let l = c.members in
-    (l.invariant.2, l.invariant.3 ∙ members_over (value 126) l.invariant.2 l.invariant.0 l.reader c.next_key.new.self l.invariant.1 (grind arith), l.invariant.4)
+    let l = c.members in (
+      l.invariant.2,
+      l.invariant.3 ∙ members_over
+          (value 126) l.invariant.2 l.invariant.0 l.reader c.next_key.new.self l.invariant.1 (grind arith),
+      l.invariant.4,
+    )

@@ -9,7 +9,8 @@ use Rattle.reuse_tree.proofs.journal.changes_reading.list_in_object.Given as goa
 abbrev pub invariant-members : goal.invariant-members
 invariant-members l =
     (n : ℕ) × (length l.reader ≤ n) × (ms : Members)
-    × (converted (λ js. of_members js no_members) (members (value 126) (length l.fn.reader) l.fn.reader) ≡ converted (λ js. of_members js ms) (members (value 126) n l.reader))
+    × (converted (λ js. of_members js no_members) (members (value 126) (length l.fn.reader) l.fn.reader) ≡ converted
+    (λ js. of_members js ms) (members (value 126) n l.reader))
     × (option_map (λ v. v.items) l.found ≡ listed_in l.sealed ms)
 
 abbrev pub decreases-members : goal.decreases-members

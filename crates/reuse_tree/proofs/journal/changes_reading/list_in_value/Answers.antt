@@ -19,14 +19,17 @@ pub returns-in-BeginArray-clause-ok : goal.returns-in-BeginArray-clause-ok
 returns-in-BeginArray-clause-ok c =
     let s = c.next.new.self in
     let first : c.args.reader.now ≡ token_of c.in_ok-token.token ∷ s = grind arith in
-    let opened = ap (converted of_json) (ap (value 126) (first ∙ ap (λ k. token_of k ∷ s) c.in-BeginArray.is) ∙ value-begin_array 126 s (omega arith)) ∙ array_converted (items (value 125) (length s) s) in
-    IfOk-weaker c.change_list.result _ _ (λ found h. (array h.0, opened ∙ ap (parse_map array) h.1, h.2 ∙ of_list c.args.sealed h.0)) c.change_list.ensures.ok
+    let opened = ap (converted of_json) (ap (value 126) (first ∙ ap (λ k. token_of k ∷ s) c.in-BeginArray.is)
+    ∙ value-begin_array 126 s (omega arith)) ∙ array_converted (items (value 125) (length s) s) in
+    IfOk-weaker c.change_list.result _ _ (λ found h.
+    (array h.0, opened ∙ ap (parse_map array) h.1, h.2 ∙ of_list c.args.sealed h.0)) c.change_list.ensures.ok
 
 pub returns-in-BeginArray-clause-refused : goal.returns-in-BeginArray-clause-refused
 returns-in-BeginArray-clause-refused c refused =
     let s = c.next.new.self in
     let first : c.args.reader.now ≡ token_of c.in_ok-token.token ∷ s = grind arith in
-    let opened = ap (converted of_json) (ap (value 126) (first ∙ ap (λ k. token_of k ∷ s) c.in-BeginArray.is) ∙ value-begin_array 126 s (omega arith)) ∙ array_converted (items (value 125) (length s) s) in
+    let opened = ap (converted of_json) (ap (value 126) (first ∙ ap (λ k. token_of k ∷ s) c.in-BeginArray.is)
+    ∙ value-begin_array 126 s (omega arith)) ∙ array_converted (items (value 125) (length s) s) in
     opened ∙ ap (parse_map array) (c.change_list.ensures.refused refused)
 
 pub returns : goal.returns
@@ -35,7 +38,8 @@ returns c =
     let first : c.args.reader.now ≡ token_of c.in_ok-token.token ∷ s = grind arith in
     let done = c.in_ok-read_from.ensures in
     let d = done.ok.0 in
-    let none = no_array 126 (omega arith) s c.read_from.new.reader d c.in_ok-token.token c.in_default.not-BeginArray done.ok.1 in record {
+    let none = no_array 126
+    (omega arith) s c.read_from.new.reader d c.in_ok-token.token c.in_default.not-BeginArray done.ok.1 in record {
       ok = (d, ap (λ ts. converted of_json (value 126 ts)) first ∙ done.ok.1, no_list c.args.sealed d none);
       shorter = omega (arith, done.shorter, ap length first);
       refused = λ never. absurd (cc);

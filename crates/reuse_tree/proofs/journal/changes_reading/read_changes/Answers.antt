@@ -20,7 +20,8 @@ returns-in_err-found-clause-refused c refused ms is =
     let first : tokens c.args.text.now ≡ token_of c.in_ok-token.token ∷ s = grind arith in
     let opened = first ∙ ap (λ k. token_of k ∷ s) c.in-BeginObject.is in
     let fault = same_fault _ c.in_err-found.field-0.0 c.from_residual-in_err-found.ensures.1 refused in
-    no_object_read c.args.text.now ms (object_refused c.args.text.now s opened (c.in_err-found.ensures.refused (ap Err fault))) is
+    no_object_read c.args.text.now ms
+    (object_refused c.args.text.now s opened (c.in_err-found.ensures.refused (ap Err fault))) is
 
 pub returns-then-is_some-clause-refused : goal.returns-then-is_some-clause-refused
 returns-then-is_some-clause-refused c refused ms is =
@@ -30,7 +31,8 @@ returns-then-is_some-clause-refused c refused ms is =
     let done = c.in_ok-found.ensures.ok in
     let some : is_some c.next-2.result ≡ true = grind arith in
     let left = more_left c.next-2.result c.list_in_object.new.reader c.next-2.new.self c.next-2.ensures.value some in
-    no_object_read c.args.text.now ms (object_and_more c.args.text.now s done.0 left.0 c.next-2.new.self opened (done.1 ∙ ap (λ r. Some (done.0, r)) left.1)) is
+    no_object_read c.args.text.now ms (object_and_more c.args.text.now s done.0 left.0 c.next-2.new.self opened
+    (done.1 ∙ ap (λ r. Some (done.0, r)) left.1)) is
 
 pub returns-in-Some-clause-ok : goal.returns-in-Some-clause-ok
 returns-in-Some-clause-ok c =
@@ -52,12 +54,14 @@ returns-clause-refused c refused ms is =
     let end : c.list_in_object.new.reader ≡ [] = grind arith in
     let reads = object_read c.args.text.now s done.0 opened (done.1 ∙ ap (λ r. Some (done.0, r)) end) in
     let also : IsJson c.args.text.now (object done.0) = record { utf8 = is.utf8; reads = reads } in
-    ap (listed_in c.args.sealed) (same_members c.args.text.now ms done.0 is also) ∙ sym done.2 ∙ ap (option_map (λ v. v.items)) c.in-None.is
+    ap (listed_in c.args.sealed) (same_members c.args.text.now ms done.0 is also) ∙ sym done.2
+    ∙ ap (option_map (λ v. v.items)) c.in-None.is
 
 pub returns-in_default-token : goal.returns-in_default-token
 returns-in_default-token c =
     let s = c.next.new.self in
     let first : tokens c.args.text.now ≡ token_of c.in_ok-token.token ∷ s = grind arith in record {
       ok = tt;
-      refused = λ never ms is. absurd (other_text c.args.text.now s c.in_ok-token.token ms first c.in_default-token.not-BeginObject is.reads);
+      refused = λ never ms is. absurd
+          (other_text c.args.text.now s c.in_ok-token.token ms first c.in_default-token.not-BeginObject is.reads);
     }

@@ -16,11 +16,14 @@ loop-i-preserved c =
     let between = c.extend_from_slice.new.self.items in
     let text = join_with_byte 44 (map change_text (take i changes)) in
     let comma = c.as_bytes.ensures.value ∙ c.comma_before.ensures in
-    joined c.args.text.now.items text c.loop-i.text.items between c.append_change.new.text.items (comma_before i) (change_text next) (join_with_byte 44 (map change_text (take (i + 1) changes)))
+    joined c.args.text.now.items text c.loop-i.text.items between c.append_change.new.text.items (comma_before i)
+    (change_text next) (join_with_byte 44 (map change_text (take (i + 1) changes)))
     c.loop-i.invariant
     (c.in_ok-extend_from_slice.ensures.items ∙ ap (λ (l : List ℕ). c.loop-i.text.items ++ l) comma)
     c.in_ok-append_change.ensures
-    (join-map-more change_text changes i next c.loop-i-test.true ∙ ap (λ v. text ++ (comma_before i ++ change_text v)) (sym c.index-changes-i.is))
+    (join-map-more change_text changes i next c.loop-i-test.true
+    ∙ ap (λ v. text ++ (comma_before i ++ change_text v)) (sym c.index-changes-i.is))
 
 pub returns : goal.returns
-returns c = c.loop-i.invariant ∙ ap (λ l. c.args.text.now.items ++ join_with_byte 44 (map change_text l)) (take_all c.loop-i.i c.args.changes.now c.loop-i-test.false)
+returns c = c.loop-i.invariant ∙ ap (λ l. c.args.text.now.items ++ join_with_byte 44 (map change_text l))
+    (take_all c.loop-i.i c.args.changes.now c.loop-i-test.false)

@@ -8,10 +8,14 @@ use Rattle.reuse_tree.proofs.journal.entry_writing.append_entry.Goals as goal
 pub returns : goal.returns
 returns c =
     let e = c.args.entry.now in
-    let changes_put = c.in_ok-append_changes.ensures ∙ ap (λ l. c.extend_from_slice.new.self.items ++ join_with_byte 44 (map change_text l)) c.as_slice.ensures in
-    let name_put = c.in_ok-extend_from_slice-3.ensures.items ∙ ap (λ (l : List ℕ). c.extend_from_slice-2.new.self.items ++ l) (c.as_bytes.ensures.value ∙ c.name_of.ensures) in
-    let format_put = c.in_ok-append_number.ensures ∙ ap (λ (n : ℕ). c.extend_from_slice-4.new.self.items ++ decimal n) (c.format_of.ensures ∙ ap (λ l. format_number (is_any_sealed l)) c.as_slice-2.ensures) in
-    let when_put = c.in_ok-append_number-2.ensures ∙ ap (λ (n : ℕ). c.extend_from_slice-5.new.self.items ++ decimal n) c.seconds.ensures.seconds in
+    let changes_put = c.in_ok-append_changes.ensures
+    ∙ ap (λ l. c.extend_from_slice.new.self.items ++ join_with_byte 44 (map change_text l)) c.as_slice.ensures in
+    let name_put = c.in_ok-extend_from_slice-3.ensures.items
+    ∙ ap (λ (l : List ℕ). c.extend_from_slice-2.new.self.items ++ l) (c.as_bytes.ensures.value ∙ c.name_of.ensures) in
+    let format_put = c.in_ok-append_number.ensures ∙ ap (λ (n : ℕ). c.extend_from_slice-4.new.self.items ++ decimal n)
+    (c.format_of.ensures ∙ ap (λ l. format_number (is_any_sealed l)) c.as_slice-2.ensures) in
+    let when_put = c.in_ok-append_number-2.ensures
+    ∙ ap (λ (n : ℕ). c.extend_from_slice-5.new.self.items ++ decimal n) c.seconds.ensures.seconds in
     let a = first c.args.text.now.items (codes "{\"changes\":[") c.in_ok-extend_from_slice.ensures.items in
     let b = then (join_with_byte 44 (map change_text e.changes)) a changes_put in
     let d = then (codes "],\"command\":\"") b c.in_ok-extend_from_slice-2.ensures.items in

@@ -10,9 +10,12 @@ pub returns : goal.returns
 returns c =
     let after = option_map (λ (s : Seal). s.after) c.args.seal.now in
     let before = option_map (λ (s : Seal). s.before) c.args.seal.now in
-    let after_put = c.in_ok-append_digest.ensures ∙ ap (λ (d : Option (List ℕ)). c.extend_from_slice.new.self.items ++ digest_text (codes "after") d) c.after.ensures in
-    let before_put = c.in_ok-append_digest-2.ensures ∙ ap (λ (d : Option (List ℕ)). c.extend_from_slice-3.new.self.items ++ digest_text (codes "before") d) c.before-2.ensures in
-    let path_put = c.in_ok-append_string.ensures ∙ ap (λ (p : List ℕ). c.extend_from_slice-6.new.self.items ++ quoted p) c.text.ensures.text in
+    let after_put = c.in_ok-append_digest.ensures ∙ ap
+    (λ (d : Option (List ℕ)). c.extend_from_slice.new.self.items ++ digest_text (codes "after") d) c.after.ensures in
+    let before_put = c.in_ok-append_digest-2.ensures ∙ ap (λ (d : Option (List ℕ)).
+    c.extend_from_slice-3.new.self.items ++ digest_text (codes "before") d) c.before-2.ensures in
+    let path_put = c.in_ok-append_string.ensures
+    ∙ ap (λ (p : List ℕ). c.extend_from_slice-6.new.self.items ++ quoted p) c.text.ensures.text in
     let a = first c.args.text.now.items (codes "{") c.in_ok-extend_from_slice.ensures.items in
     let b = then (digest_text (codes "after") after) a after_put in
     let d = then (codes "\"at\":") b c.in_ok-extend_from_slice-2.ensures.items in

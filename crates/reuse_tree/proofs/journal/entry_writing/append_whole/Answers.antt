@@ -6,7 +6,8 @@ use Rattle.reuse_tree.proofs.journal.entry_writing.append_whole.Goals as goal
 
 pub returns : goal.returns
 returns c =
-    let path_put = c.in_ok-append_string.ensures ∙ ap (λ (p : List ℕ). c.extend_from_slice-3.new.self.items ++ quoted p) c.text.ensures.text in
+    let path_put = c.in_ok-append_string.ensures
+    ∙ ap (λ (p : List ℕ). c.extend_from_slice-3.new.self.items ++ quoted p) c.text.ensures.text in
     let a = first c.args.text.now.items (codes "{") c.in_ok-extend_from_slice.ensures.items in
     let b = then (digest_text c.args.digest_key.now c.args.digest) a c.in_ok-append_digest.ensures in
     let d = then c.args.kind.now b c.in_ok-extend_from_slice-2.ensures.items in

@@ -16,4 +16,5 @@ loop-number-preserved c =
 pub returns : goal.returns
 returns c =
     view-Array c.loop-number.values
-    ∙ ap (λ (l : List Data). array (items_of l)) (c.loop-number.invariant ∙ ap (map count) (take_all c.loop-number.number-index c.args.numbers.now c.loop-number-test.false))
+    ∙ ap (λ (l : List Data). array (items_of l)) (c.loop-number.invariant
+    ∙ ap (map count) (take_all c.loop-number.number-index c.args.numbers.now c.loop-number-test.false))

@@ -9,8 +9,10 @@ returns-clause-text c =
     let before = digest_text (codes "before") c.in_ok-before.before in
     let kind = codes "\"kind\":\"drop\",\"old\":" in
     let bytes = codes "{" ++ before ++ kind ++ hex_text c.in_ok-old.old ++ codes ",\"path\":" in
-    four_steps (codes "{") before kind (hex_text c.in_ok-old.old) (codes ",\"path\":") c.args.text.now c.digest.new.self c.expect.new.self c.bytes.new.self c.expect-2.new.self
-    (c.in_ok-before.ensures.text (codes "before") refl) c.in_ok-expect.ensures c.in_ok-old.ensures.text c.in_ok-expect-2.ensures
+    four_steps (codes "{") before kind (hex_text c.in_ok-old.old)
+    (codes ",\"path\":") c.args.text.now c.digest.new.self c.expect.new.self c.bytes.new.self c.expect-2.new.self
+    (c.in_ok-before.ensures.text (codes "before") refl) c.in_ok-expect.ensures c.in_ok-old.ensures.text
+    c.in_ok-expect-2.ensures
     ∙ step bytes c.expect-2.new.self (quoted c.in_ok-path.path) c.path.new.self c.in_ok-path.ensures.text
     ∙ step (bytes ++ quoted c.in_ok-path.path) c.path.new.self (codes "}") c.expect-3.new.self c.in_ok-expect-3.ensures
 

@@ -22,12 +22,18 @@ returns c =
     let read : c.args.text.now ≡ whole =
     sym c.new-rest.ensures
     ∙ c.in_ok-expect.ensures
-    ∙ four_steps opening listed (codes "],\"command\":\"") name (codes "\",\"format\":") c.expect.new.self c.read_changes.new.text c.expect-2.new.self c.read_command.new.text c.expect-3.new.self
+    ∙ four_steps opening listed (codes "],\"command\":\"") name (codes "\",\"format\":") c.expect.new.self
+    c.read_changes.new.text c.expect-2.new.self c.read_command.new.text c.expect-3.new.self
     c.in_ok-changes.ensures.text c.in_ok-expect-2.ensures c.in_ok-command.ensures c.in_ok-expect-3.ensures
-    ∙ four_steps front format (codes ",\"when\":") (decimal c.in_ok-when.when) (codes "}") c.expect-3.new.self c.is_second_format.new.text c.expect-4.new.self c.read_moment.new.text c.expect-5.new.self
+    ∙ four_steps front format (codes ",\"when\":") (decimal c.in_ok-when.when) (codes "}") c.expect-3.new.self
+    c.is_second_format.new.text c.expect-4.new.self c.read_moment.new.text c.expect-5.new.self
     c.in_ok-sealed.ensures c.in_ok-expect-4.ensures c.in_ok-when.ensures.text c.in_ok-expect-5.ensures
     ∙ ap (λ (l : List ℕ). whole ++ l) c.in_ok-finish.ensures
     ∙ append-nil whole in
     let tests : Passes changes = subst Passes c.as_slice.ensures.value c.in_ok-expect_good.ensures.tests in
-    subst (λ (l : List Change). IsGoodEntry c.args.text.now (record { changes = l; command = c.in_ok-command.command; when = c.in_ok-when.when })) (sym c.new.ensures)
-    (written_good c.args.text.now changes c.in_ok-command.command c.in_ok-sealed.sealed c.in_ok-when.when read c.in_ok-changes.ensures.some c.in_ok-changes.ensures.changes tests (subst (AreAllSealed c.in_ok-sealed.sealed) c.as_slice.ensures.value c.in_ok-expect_good.ensures.alike) c.in_ok-expect_good.ensures.known c.in_ok-when.ensures.when)
+    subst (λ (l : List Change). IsGoodEntry c.args.text.now
+    (record { changes = l; command = c.in_ok-command.command; when = c.in_ok-when.when })) (sym c.new.ensures)
+    (written_good c.args.text.now changes c.in_ok-command.command c.in_ok-sealed.sealed c.in_ok-when.when read
+    c.in_ok-changes.ensures.some c.in_ok-changes.ensures.changes tests
+    (subst (AreAllSealed c.in_ok-sealed.sealed) c.as_slice.ensures.value c.in_ok-expect_good.ensures.alike)
+    c.in_ok-expect_good.ensures.known c.in_ok-when.ensures.when)
