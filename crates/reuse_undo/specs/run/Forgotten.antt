@@ -3,7 +3,8 @@ use Rattle.std.specs.Prelude.{◌≡◌, ◌⊎◌, ℕ, List, [], ◌∷◌, �
 use Rattle.std.specs.Fmt.{decimal}
 use Rattle.std.specs.List.{flat_map}
 use Rattle.reuse_change.specs.Files.{Files}
-use Rattle.reuse_session.specs.session.Forgetting.{first_absent, numbers_in, state_besides, Forgets}
+use Rattle.reuse_session.specs.session.Forgetting.{first_absent, numbers_in, Forgets}
+use Rattle.reuse_journal.specs.Numbered.{state_besides}
 use Rattle.reuse_journal.specs.Journal.{Journal, State}
 use Rattle.reuse_journal.specs.Opening.{OpensOn}
 use Rattle.reuse_journal.specs.Standing.{IsStanding}

@@ -5,8 +5,8 @@ use Rattle.std.proofs.lemmas.List.{append-nil, length-append, map-append, revers
 use Rattle.std.proofs.lemmas.List.Elements.{Contains-append_left, Contains-append_right, filter-append}
 use Rattle.std.proofs.Math.ListN.{get_or-append}
 use Rattle.reuse_tree.specs.Head.{IsSoundHead}
-use Rattle.reuse_session.specs.session.Forgetting.{IsWithoutOldest, steps_besides, state_besides, alone}
-use Rattle.reuse_journal.specs.Numbered.{is_one_of, all_numbers}
+use Rattle.reuse_session.specs.session.Forgetting.{IsWithoutOldest, alone}
+use Rattle.reuse_journal.specs.Numbered.{is_one_of, all_numbers, steps_besides, state_besides}
 use Rattle.reuse_journal.specs.History.{Memory}
 use Rattle.reuse_journal.specs.Journal.{Recorded, State}
 use Rattle.reuse_journal.specs.JournalFiles.{number_of, head_of}

@@ -3,7 +3,8 @@ use Rattle.std.proofs.Common.{◌≡◌, ◌⊎◌, inr, ℕ, List, Result, Ok, 
 use Rattle.std.specs.Prelude.{IfOk}
 use Rattle.reuse_change.specs.Files.{Files}
 use Rattle.reuse_command.specs.Answer.{IsEarly, IsStop, TellsNoFault}
-use Rattle.reuse_session.specs.session.Forgetting.{Forgets, IsForgetRefusal, state_besides}
+use Rattle.reuse_session.specs.session.Forgetting.{Forgets, IsForgetRefusal}
+use Rattle.reuse_journal.specs.Numbered.{state_besides}
 use Rattle.reuse_journal.specs.Journal.{State}
 use Rattle.reuse_journal.specs.Opening.{OpensOn}
 use Rattle.reuse_session.specs.session.Session.{store_of, StandsOn}

@@ -2,7 +2,8 @@ use Rattle.std.proofs.Common.{◌⊎◌, Ok, IfErr, sym, subst, ◌∙◌}
 use Rattle.std.specs.Prelude.{IfOk}
 use Rattle.std.proofs.lemmas.Bool.{false≢true}
 use Rattle.reuse_command.specs.Answer.{IsStop}
-use Rattle.reuse_session.specs.session.Forgetting.{Forgets, numbers_in, state_besides}
+use Rattle.reuse_session.specs.session.Forgetting.{Forgets, numbers_in}
+use Rattle.reuse_journal.specs.Numbered.{state_besides}
 use Rattle.reuse_journal.specs.Journal.{State}
 use Rattle.reuse_session.specs.session.Session.{store_of, memory_of, StandsOn}
 use Rattle.reuse_journal.specs.Standing.{IsStanding}
