@@ -15,8 +15,8 @@ use Rattle.reuse_print.specs.Outputs.{Adds, AddsFront}
 use Rattle.reuse_undo.specs.run.RunLine.{IsUnopened}
 use Rattle.reuse_print.specs.declared.fault.Fault.{Fault}
 use Rattle.reuse_print.specs.declared.fault.Fault.TheVariants as faults
-use Rattle.reuse_arguments.specs.declared.line.Steps.{Steps}
-use Rattle.reuse_arguments.specs.declared.line.Steps.TheVariants.{All, Numbers}
+use Rattle.reuse_command.specs.declared.request.Steps.{Steps}
+use Rattle.reuse_command.specs.declared.request.Steps.TheVariants.{All, Numbers}
 
 -- the numbers that are asked for, of a journal
 abbrev pub asked_numbers : Steps → Journal → List ℕ

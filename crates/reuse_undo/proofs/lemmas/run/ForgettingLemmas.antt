@@ -14,7 +14,7 @@ use Rattle.reuse_command.specs.declared.failure.Failure.TheVariants.{Memory, Int
 use Rattle.reuse_command.specs.declared.reply.Refusal.TheVariants.{Broken, NoSuchStep, Failed}
 use Rattle.reuse_session.specs.declared.session.Session.{Session}
 use Rattle.reuse_undo.specs.run.Forgotten.{asked_numbers, HasForgotten, RefusesFrom, RefusesToForget}
-use Rattle.reuse_arguments.specs.declared.line.Steps.{Steps}
+use Rattle.reuse_command.specs.declared.request.Steps.{Steps}
 
 -- what is answered exactly
 pub forgets_exactly : {S : Type 0} (files : S → Files) (new : Session S) (numbers : List ℕ) (held : State) (result : Result (List ℕ) Refusal)
