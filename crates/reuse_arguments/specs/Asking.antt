@@ -6,7 +6,7 @@ use Rattle.reuse_arguments.specs.declared.line.Asked.TheVariants as asked
 use Rattle.reuse_arguments.specs.declared.line.ChangeStatus.{ChangeStatus}
 use Rattle.reuse_arguments.specs.declared.line.Line.{Line}
 use Rattle.reuse_arguments.specs.declared.line.OutputFormat.{OutputFormat}
-use Rattle.reuse_arguments.specs.declared.line.Steps.{Steps}
+use Rattle.reuse_command.specs.declared.request.Steps.{Steps}
 
 -- a line that a session answers
 pub record Call : Type 0 where

@@ -8,8 +8,8 @@ use Rattle.reuse_arguments.specs.Found.{Rows, flag, number, number_of, value, va
 use Rattle.reuse_arguments.specs.Globs.{globs_of_word}
 use Rattle.reuse_arguments.specs.LineFaults.{Mistake, bad_glob, bad_path, all_read, each_read, or_mistake, then_read, unread}
 use Rattle.reuse_arguments.specs.Places.{place_of_word}
-use Rattle.reuse_arguments.specs.declared.line.Steps.{Steps}
-use Rattle.reuse_arguments.specs.declared.line.Steps.TheVariants as steps
+use Rattle.reuse_command.specs.declared.request.Steps.{Steps}
+use Rattle.reuse_command.specs.declared.request.Steps.TheVariants as steps
 
 -- the folder of the tree: the working folder where none is named
 abbrev pub root_of : Rows → List ℕ

@@ -4,8 +4,7 @@ ghost use Rattle.reuse_arguments.specs.ChangeStatuses.{change_status_of};
 ghost use Rattle.reuse_arguments.specs.RefusalTexts.{line_fault_text};
 ghost use Rattle.reuse_arguments.specs.declared.line.ChangeStatus.TheVariants as statuses;
 
-use reuse_change::EntryNumbers;
-use reuse_command::request::Request;
+use reuse_command::request::{Request, Steps};
 use reuse_notice::NoticeRefusal;
 use reuse_shown::shown_name::Names;
 use std::alloc::{AllocError, AllocFailed};
@@ -105,15 +104,6 @@ pub struct Forgetting {
     /// The folder of the tree, relative to the working folder.
     pub root: String,
     pub steps: Steps,
-}
-
-/// Steps of the history.
-#[derive(Drop)]
-pub enum Steps {
-    /// All.
-    All,
-    /// Those of these numbers.
-    Numbers(EntryNumbers),
 }
 
 /// Why words are no line.

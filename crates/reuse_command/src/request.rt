@@ -1,7 +1,7 @@
 //! What a session is asked for.
 
 use crate::command::Command;
-use reuse_change::Moment;
+use reuse_change::{EntryNumbers, Moment};
 
 /// A call that changes the tree, and that can be looked at before it is made.
 #[derive(Debug, Drop)]
@@ -18,6 +18,15 @@ pub enum Call {
         /// A change that can't be taken back is left out, and not refused.
         skip_moved: bool,
     },
+}
+
+/// Steps of the history.
+#[derive(Debug, Drop)]
+pub enum Steps {
+    /// All.
+    All,
+    /// Those of these numbers.
+    Numbers(EntryNumbers),
 }
 
 /// What a session is asked for.

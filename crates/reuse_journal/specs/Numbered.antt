@@ -1,8 +1,10 @@
--- Entries by their numbers, in what is remembered of a journal.
+-- Entries by their numbers, in what is remembered of a journal, and steps by theirs.
 use Rattle.std.specs.Prelude.{ℕ, Bool, ◌==◌, List, ◌||◌, not, ◌++◌, map, filter, find, Option, true, false, Some, None}
 use Rattle.std.specs.List.{list_any}
 use Rattle.reuse_journal.specs.declared.history.ListedEntry.{ListedEntry}
 use Rattle.reuse_journal.specs.History.{Memory, row_listing}
+use Rattle.reuse_journal.specs.Journal.{Journal, Recorded, State}
+use Rattle.reuse_journal.specs.JournalFiles.{number_of}
 use Rattle.reuse_command.specs.declared.reply.Row.{Row}
 
 -- one of the entries has the number
@@ -27,6 +29,18 @@ entries_besides numbers entries = filter (λ (entry : ListedEntry). not (is_one_
 
 abbrev pub memory_besides : List ℕ → Memory → Memory
 memory_besides numbers memory = record { done = entries_besides numbers memory.done; undone = entries_besides numbers memory.undone; used = memory.used }
+
+-- the steps whose number is none of these
+abbrev pub steps_besides : List ℕ → List Recorded → List Recorded
+steps_besides numbers steps = filter (λ (step : Recorded). not (is_one_of numbers (number_of step))) steps
+
+-- the journal without the steps of these numbers, of which none is given out again
+abbrev pub journal_besides : List ℕ → Journal → Journal
+journal_besides numbers journal = record { done = steps_besides numbers journal.done; undone = steps_besides numbers journal.undone; used = journal.used }
+
+-- the same tree, beside that journal
+abbrev pub state_besides : List ℕ → State → State
+state_besides numbers state = record { tree = state.tree; journal = journal_besides numbers state.journal }
 
 -- the numbers of all entries
 abbrev pub all_numbers : Memory → List ℕ

@@ -30,8 +30,8 @@ ghost use Rattle.reuse_plan.specs.PathOutcomes.{first_refusal, path_outcomes_of,
 ghost use Rattle.reuse_journal.specs.InTurn.{LeadsInTurn};
 ghost use Rattle.reuse_journal.specs.Journal.{Recorded, State, Replays};
 ghost use Rattle.reuse_journal.specs.JournalFiles.{IsFree};
-ghost use Rattle.reuse_session.specs.session.Machine.{Snapshots};
-ghost use Rattle.reuse_session.specs.session.Model.{Gives, IsByTrees};
+ghost use Rattle.reuse_session.specs.session.Machine.{IsUnbroken, Snapshots, redone, undone};
+ghost use Rattle.reuse_session.specs.session.Model.{AreOf, Gives, IsByTrees};
 ghost use Rattle.reuse_journal.specs.Opening.{IsFirstBad, IsStuckAt, CanOpenOn};
 ghost use Rattle.reuse_plan.specs.Outcome.{edits_of, outcome_of};
 ghost use Rattle.reuse_session.specs.session.Previews.{PreviewsReplay};
@@ -57,7 +57,9 @@ ghost use Rattle.reuse_command.specs.declared.licence.LicenceText.{LicenceText};
 ghost use Rattle.reuse_command.specs.declared.reply.Refusal.{Refusal};
 ghost use Rattle.reuse_command.specs.declared.reply.Refusal.TheVariants.{Moved};
 ghost use Rattle.reuse_command.specs.declared.reply.Response.{Response};
+ghost use Rattle.reuse_command.specs.declared.request.Call.TheVariants as calls;
 ghost use Rattle.reuse_command.specs.declared.request.Request.{Request};
+ghost use Rattle.reuse_command.specs.declared.request.Request.TheVariants as requests;
 
 use reuse_header::{
     amending_keeps_other_bytes, annotated_texts_are_texts, annotating_keeps_other_bytes,
@@ -180,9 +182,11 @@ pub fn edits_tell_what_they_take_and_write()
 
 /// A tree with nothing under `.reuse/undo/` holds the state of the machine without earlier and
 /// later trees, of which no number is used; and no path of a file of the journal is a folder there.
-/// So what is proved of a driven session from such a state holds from such a tree.
+/// So what is proved of a driven session from such a state holds from such a tree. No step is
+/// missing from its history.
 pub fn trees_without_a_journal_hold_no_steps()
     ensures holds { (files : Files) → IsFresh files → HoldState files (first_state files) }
+    ensures unbroken { (tree : Files) → IsUnbroken (first_state tree) }
     ensures free { (files : Files) → IsFresh files → IsFree (undo_folder_of files) }
 {}
 
@@ -317,9 +321,16 @@ pub fn steps_follow_path_outcomes()
         ↔ (first_refusal path_outcomes ≡ Some refusal) }
 {}
 
-/// To a request that names no step by its number the model gives one answer, and is in one state
-/// then.
+/// Where no step is missing from its history, the model gives one answer to a request that names no
+/// step by its number, and is in one state then: an undo goes back to the tree before the last step,
+/// and a redo on to that after the next. No step is missing then either.
 pub fn model_gives_one_answer()
-    ensures one { (state : Snapshots) (request : Request) (first second : Result Response Refusal) (next other : Snapshots) → IsByTrees request
+    ensures one { (state : Snapshots) (request : Request) (first second : Result Response Refusal) (next other : Snapshots) → IsUnbroken state → IsByTrees request
         → Gives state request first next → Gives state request second other → (first ≡ second) × (next ≡ other) }
+    ensures undone { (state next : Snapshots) (when : ℕ) (answer : Result Response Refusal) → IsUnbroken state
+        → Gives state (requests.Make calls.Undo when) answer next → AreOf (undone state state.past) answer next }
+    ensures redone { (state next : Snapshots) (when : ℕ) (answer : Result Response Refusal) → IsUnbroken state
+        → Gives state (requests.Make calls.Redo when) answer next → AreOf (redone state state.future) answer next }
+    ensures unbroken { (state next : Snapshots) (request : Request) (answer : Result Response Refusal)
+        → IsUnbroken state → Gives state request answer next → IsUnbroken next }
 {}

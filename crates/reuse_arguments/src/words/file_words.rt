@@ -7,7 +7,7 @@ ghost use Rattle.reuse_arguments.specs.Found.{found_in};
 ghost use Rattle.reuse_arguments.specs.LineFaults.{IsDue, IsDueAs, all_read, each_read};
 
 use crate::glob_word::globs_of_word;
-use crate::line::{LineFault, Steps};
+use crate::line::LineFault;
 use crate::place_word::place_of_word;
 use crate::words::found::{flag, number, number_of, subcommand, value, values};
 use crate::words::unread_words::{or_unread, unread};
@@ -16,6 +16,7 @@ use reuse_change::EntryNumbers;
 use reuse_command::choice::Globs;
 use reuse_command::command::{Place, Places};
 use reuse_command::licence::Ids;
+use reuse_command::request::Steps;
 use reuse_header::Style;
 use reuse_text::Bytes;
 use reuse_toml::Glob;

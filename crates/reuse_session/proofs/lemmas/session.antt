@@ -15,6 +15,7 @@ pub mod LeftByRuns
 pub mod Modelling
 pub mod Peeking
 pub mod Previewing
+pub mod ReachedFiles
 pub mod Recording
 pub mod ReplayAnswers
 pub mod Replaying
@@ -28,3 +29,4 @@ pub mod SafeDriving
 pub mod StepPathOutcomes
 pub mod StepsByNumber
 pub mod CountedCalls
+pub mod Unbroken

@@ -5,11 +5,10 @@ use Rattle.reuse_change.specs.Files.{Files, Clashes, tree_of}
 use Rattle.reuse_store.specs.declared.store.Store.{Ghosts}
 use Rattle.reuse_command.specs.Answer.{IsEarly, IsStop, HasCause, HasClash}
 use Rattle.reuse_json.specs.EntryText.{entry_text}
-use Rattle.reuse_tree.specs.Head.{listed_direction}
 use Rattle.reuse_journal.specs.Journal.{State, ahead, next_count}
 use Rattle.reuse_journal.specs.JournalFiles.{head_path, entry_path, IsFree}
 use Rattle.reuse_plan.specs.Outcome.{edits_of, edit_count, recorded_size}
-use Rattle.reuse_session.specs.session.Session.{store_of, is_broken, memory_of, IsKept, IsRecordOf, StandsOn, StopsAfter, StopsAfterRun}
+use Rattle.reuse_session.specs.session.Session.{store_of, is_broken, memory_of, IsKept, IsRecordOf, StandsOn, StopsAfterReplay, StopsAfterRun}
 use Rattle.reuse_journal.specs.Remembered.{listed_count, head_room, IsSameBut, IsSameButTwo, HasHeadText, HasEntryText}
 use Rattle.reuse_change.specs.Tree.{undo_folder_of}
 use Rattle.reuse_command.specs.declared.command.Command.{Command}
@@ -48,7 +47,7 @@ pub record LeavesReplay {S : Type 0} (store : Ghosts S) (direction : Direction) 
   -- where it stops later something was put, and the files are in doubt between the standing before the call and that
   -- after it
   pub doubt : store.honest (store_of new) → (held : State) → StandsOn store.files old held
-      → IfErr result (λ refusal. IsStop refusal → StopsAfter (listed_direction direction) held (files_of store new))
+      → IfErr result (λ refusal. IsStop refusal → StopsAfterReplay direction held (files_of store new))
   pub late : IfErr result (λ refusal. IsStop refusal → store.written (store_of old) < store.written (store_of new))
   -- of the journal's files none but the head holds something else, which is its very text after a step
   pub folder : store.honest (store_of new) → IsSameBut head_path (folder_of store old) (folder_of store new)

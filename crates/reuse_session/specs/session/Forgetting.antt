@@ -1,5 +1,5 @@
 -- Forgetting: steps are taken out of the history, and the tree stays.
-use Rattle.std.specs.Prelude.{◌≡◌, ◌≢◌, ◌⊎◌, ◌↔◌, ◌==◌, ◌||◌, ◌<◌, ◌≤◌, ◌+◌, ℕ, Bool, not, List, [], ◌∷◌, ◌++◌, length, map, reverse, filter, find, Option, Some, None, Result, Ok, Err, IfOk, IfErr}
+use Rattle.std.specs.Prelude.{◌≡◌, ◌≢◌, ◌⊎◌, ◌↔◌, ◌==◌, ◌||◌, ◌<◌, ◌≤◌, ◌+◌, ℕ, Bool, not, List, [], ◌∷◌, ◌++◌, length, map, reverse, find, Option, Some, None, Result, Ok, Err, IfOk, IfErr}
 use Rattle.std.specs.List.{All, Contains, list_any}
 use Rattle.std.specs.List.Sorted.{IsStrictlyIncreasing}
 use Rattle.std.specs.FinMap.{get}
@@ -21,7 +21,7 @@ use Rattle.reuse_command.specs.declared.reply.Refusal.{Refusal}
 use Rattle.reuse_command.specs.declared.failure.Failure.TheVariants as failures
 use Rattle.reuse_command.specs.declared.reply.Refusal.TheVariants as refusals
 use Rattle.reuse_session.specs.declared.session.Session.{Session}
-use Rattle.reuse_journal.specs.Numbered.{is_one_of, memory_besides}
+use Rattle.reuse_journal.specs.Numbered.{memory_besides, state_besides}
 
 -- ---- numbers
 
@@ -44,18 +44,6 @@ numbers_in journal = map number_of (reverse journal.done) ++ map number_of (reve
 -- the first of the numbers that no step has
 abbrev pub first_absent : Journal → List ℕ → Option ℕ
 first_absent journal numbers = find (λ number. not (has_step journal number)) numbers
-
--- the steps whose number is none of these
-abbrev pub steps_besides : List ℕ → List Recorded → List Recorded
-steps_besides numbers steps = filter (λ (step : Recorded). not (is_one_of numbers (number_of step))) steps
-
--- the journal without the steps of these numbers, of which none is given out again
-abbrev pub journal_besides : List ℕ → Journal → Journal
-journal_besides numbers journal = record { done = steps_besides numbers journal.done; undone = steps_besides numbers journal.undone; used = journal.used }
-
--- the same tree, beside that journal
-abbrev pub state_besides : List ℕ → State → State
-state_besides numbers state = record { tree = state.tree; journal = journal_besides numbers state.journal }
 
 -- what forgetting answers and leaves: each number is that of a step, and they are gone then; or the first that isn't is
 -- refused, and all stays

@@ -1,11 +1,11 @@
--- The reference model (it keeps a whole copy of each earlier tree).
-use Rattle.std.specs.Prelude.{ℕ, ◌+◌, true, false, List, [], ◌∷◌, ◌++◌, length, map, Result, Ok, Err, if◌then◌else◌}
-use Rattle.reuse_change.specs.Files.{Files}
+-- The reference model (it keeps whole copies of the trees before and after each step).
+use Rattle.std.specs.Prelude.{◌≡◌, ℕ, ◌+◌, Bool, true, false, List, [], ◌∷◌, ◌++◌, length, map, reverse, Result, Ok, Err, if◌then◌else◌}
+use Rattle.reuse_change.specs.Files.{Files, AreFiles}
+use Rattle.reuse_change.specs.Entry.{IsEntry, LeadsAll}
 use Rattle.reuse_command.specs.Command.{name_of}
 use Rattle.reuse_plan.specs.PathOutcomes.{path_outcomes_of}
 use Rattle.reuse_change.specs.Tree.{changed_paths}
-use Rattle.reuse_change.specs.declared.direction.Direction.{Direction}
-use Rattle.reuse_change.specs.declared.direction.Direction.TheVariants as go
+use Rattle.reuse_change.specs.declared.change.Change.{Change}
 use Rattle.reuse_plan.specs.Outcome.{outcome_of}
 use Rattle.reuse_command.specs.declared.command.Command.{Command}
 use Rattle.reuse_change.specs.declared.command_name.CommandName.{CommandName}
@@ -18,18 +18,40 @@ use Rattle.reuse_command.specs.declared.reply.Refusal.{Refusal}
 use Rattle.reuse_command.specs.declared.reply.Refusal.TheVariants.{JournalFull, NothingToUndo, NothingToRedo}
 use Rattle.reuse_journal.specs.Labels.{Label, is_full, row_of}
 
--- a tree that is kept, with the label of the step between it and the next
+-- a step that is kept: its label, and copies of the tree before it and of that after it
 pub record Kept : Type 0 where
   pub label : Label
-  pub tree : Files
+  pub before : Files
+  pub after : Files
 
--- the tree now, those before it (the newest first), those undone (the next to be redone first), and how many numbers
--- are used
+-- the tree now, the steps done (the newest first), those undone (the next to be redone first), and how many numbers are
+-- used
 pub record Snapshots : Type 0 where
   pub tree : Files
   pub past : List Kept
   pub future : List Kept
   pub used : ℕ
+
+-- the changes are an entry's, and lead from the one tree to the other
+pub record Connects (changes : List Change) (before after : Files) : Type 0 where
+  pub good : IsEntry changes
+  pub leads : LeadsAll changes before after
+  pub are_files : AreFiles before × AreFiles after
+
+-- each step that is done led to the tree before the next one, and the last to the tree
+abbrev pub LedUpTo : Files → List Kept → Type 0
+LedUpTo tree [] = Unit {0}
+LedUpTo tree (kept ∷ past) = (kept.after ≡ tree) × LedUpTo kept.before past
+
+-- the steps that are undone lead on from the tree so
+abbrev pub LeadOn : Files → List Kept → Type 0
+LeadOn tree [] = Unit {0}
+LeadOn tree (kept ∷ future) = (kept.before ≡ tree) × LeadOn kept.after future
+
+-- no step is missing between two that are kept, nor beside the tree
+pub record IsUnbroken (state : Snapshots) : Type 0 where
+  pub past : LedUpTo state.tree state.past
+  pub future : LeadOn state.tree state.future
 
 -- an answer, and what is kept then
 abbrev pub Step : Type 0
@@ -42,7 +64,7 @@ taken s when command after (path ∷ paths) = (
   Ok (Changed (path ∷ paths)),
   record {
     tree = after;
-    past = record { label = record { number = s.used + 1; when = when; command = command }; tree = s.tree } ∷ s.past;
+    past = record { label = record { number = s.used + 1; when = when; command = command }; before = s.tree; after = after } ∷ s.past;
     future = [];
     used = s.used + 1;
   },
@@ -57,62 +79,51 @@ ran s when command (Ok after) = taken s when command after (changed_paths s.tree
 abbrev pub ran_by : Snapshots → Command → ℕ → Step
 ran_by s command when = if is_full (length s.past) s.used then (Err JournalFull, s) else ran s when (name_of command) (outcome_of command s.tree)
 
+-- an undo of the last step, if that led to the tree: it goes back to the copy of the tree before
 abbrev pub undone : Snapshots → List Kept → Step
 undone s [] = (Err NothingToUndo, s)
 undone s (kept ∷ past) = (
-  Ok (Undone (changed_paths kept.tree s.tree)),
+  Ok (Undone (changed_paths kept.before s.tree)),
   record {
-    tree = kept.tree;
+    tree = kept.before;
     past = past;
-    future = record { label = kept.label; tree = s.tree } ∷ s.future;
+    future = record { label = kept.label; before = kept.before; after = s.tree } ∷ s.future;
     used = s.used;
   },
 )
 
+-- a redo of the next step, if that leads on from the tree: it goes on to the copy of the tree after
 abbrev pub redone : Snapshots → List Kept → Step
 redone s [] = (Err NothingToRedo, s)
 redone s (kept ∷ future) = (
-  Ok (Redone (changed_paths s.tree kept.tree)),
+  Ok (Redone (changed_paths s.tree kept.after)),
   record {
-    tree = kept.tree;
-    past = record { label = kept.label; tree = s.tree } ∷ s.past;
+    tree = kept.after;
+    past = record { label = kept.label; before = s.tree; after = kept.after } ∷ s.past;
     future = future;
     used = s.used;
   },
 )
 
--- the rows of the steps that led to the tree, the oldest first, each with the number of paths at which its two trees
--- differ
-abbrev pub rows_before : Files → List Kept → List Row
-rows_before tree [] = []
-rows_before tree (kept ∷ past) =
-    rows_before kept.tree past ++ row_of kept.label (length (changed_paths kept.tree tree)) true ∷ []
+-- the row of a step, with the number of paths at which its two trees differ
+abbrev pub kept_row : Bool → Kept → Row
+kept_row is_done kept = row_of kept.label (length (changed_paths kept.before kept.after)) is_done
 
--- the rows of the steps that lead on from the tree, the next to be redone first
-abbrev pub rows_behind : Files → List Kept → List Row
-rows_behind tree [] = []
-rows_behind tree (kept ∷ future) =
-    row_of kept.label (length (changed_paths tree kept.tree)) false ∷ rows_behind kept.tree future
-
+-- the rows of the steps done, the oldest first, and then of those undone, the next to be redone first
 abbrev pub rows_of : Snapshots → List Row
-rows_of s = rows_before s.tree s.past ++ rows_behind s.tree s.future
+rows_of s = map (kept_row true) (reverse s.past) ++ map (kept_row false) s.future
 
 -- what a run of the command would do
 abbrev pub run_path_outcomes : Snapshots → Command → Result (List PathOutcome) Refusal
 run_path_outcomes s command =
     if is_full (length s.past) s.used then Err JournalFull else Ok (path_outcomes_of command s.tree)
 
--- what an undo would do: each path at which the tree before differs would change
+-- what such an undo would do: each path at which the tree before differs would change
 abbrev pub undo_path_outcomes : Files → List Kept → Result (List PathOutcome) Refusal
 undo_path_outcomes tree [] = Err NothingToUndo
-undo_path_outcomes tree (kept ∷ past) = Ok (map Changes (changed_paths kept.tree tree))
+undo_path_outcomes tree (kept ∷ past) = Ok (map Changes (changed_paths kept.before tree))
 
--- what a redo would do
+-- what such a redo would do
 abbrev pub redo_path_outcomes : Files → List Kept → Result (List PathOutcome) Refusal
 redo_path_outcomes tree [] = Err NothingToRedo
-redo_path_outcomes tree (kept ∷ future) = Ok (map Changes (changed_paths tree kept.tree))
-
--- what going one step this way would do
-abbrev pub step_path_outcomes : Direction → Snapshots → Result (List PathOutcome) Refusal
-step_path_outcomes go.Backward s = undo_path_outcomes s.tree s.past
-step_path_outcomes go.Forward s = redo_path_outcomes s.tree s.future
+redo_path_outcomes tree (kept ∷ future) = Ok (map Changes (changed_paths tree kept.after))

@@ -4,17 +4,16 @@ use Rattle.std.specs.List.{Contains}
 use Rattle.reuse_store.specs.Asked.{OnlyReads}
 use Rattle.reuse_change.specs.Files.{Files, Clashes}
 use Rattle.reuse_change.specs.Tree.{undo_folder_of}
-use Rattle.reuse_tree.specs.declared.journal.head.PendingDirection.TheVariants as directions
 use Rattle.reuse_store.specs.declared.store.Store.{Ghosts}
 use Rattle.reuse_change.specs.declared.direction.Direction.TheVariants as go
 use Rattle.reuse_command.specs.Answer.{IsEarly, IsStop, HasCause, HasClash, IsNoClash, RefusedAsRead, TellsNoFault}
 use Rattle.reuse_session.specs.session.Calls.{files_of, folder_of, IsCall}
 use Rattle.reuse_journal.specs.Journal.{Recorded, State, Undoes, Redoes, rows_in}
 use Rattle.reuse_journal.specs.JournalFiles.{head_path, entry_path, number_of, IsFree}
-use Rattle.reuse_journal.specs.Losses.{AreSafeOn, Survives, IsNextBy}
+use Rattle.reuse_journal.specs.Losses.{AreSafeOn, Survives}
 use Rattle.reuse_session.specs.session.Previews.{run_path_outcomes_on, PreviewsReplay}
 use Rattle.reuse_session.specs.session.RevertCalls.{IsAfterRevert, Reverts, changed_or_none, touched_later}
-use Rattle.reuse_session.specs.session.Session.{store_of, is_broken, IsKept, IsRun, Runs, StandsOn}
+use Rattle.reuse_session.specs.session.Session.{store_of, is_broken, IsKept, IsReplay, IsRun, Runs, StandsOn}
 use Rattle.reuse_journal.specs.Remembered.{IsSameBut, IsSameButTwo}
 use Rattle.reuse_session.specs.session.Showing.{IsUnused, ShowsIn}
 use Rattle.reuse_journal.specs.Standing.{InDoubt, IsStanding}
@@ -97,8 +96,8 @@ LeadsTo (requests.Show number) old answer new = (shown : Result Shown Refusal)
 -- the state is that after a call
 abbrev pub IsAfterCall : Call → ℕ → State → State → Type 0
 IsAfterCall (calls.Run command) when old new = IsRun command when old new
-IsAfterCall calls.Undo when old new = IsNextBy directions.Undo old new
-IsAfterCall calls.Redo when old new = IsNextBy directions.Redo old new
+IsAfterCall calls.Undo when old new = IsReplay go.Backward old new
+IsAfterCall calls.Redo when old new = IsReplay go.Forward old new
 IsAfterCall (calls.Revert number skip_moved) when old new = IsAfterRevert number skip_moved when old new
 
 -- the state is that after a request that makes a step

@@ -1,5 +1,5 @@
 -- What a revert of a step answers and leaves: what a run of the command does that takes the changes of the step back.
-use Rattle.std.specs.Prelude.{◌≡◌, ◌⊎◌, ◌==◌, ◌||◌, ℕ, Bool, false, not, List, [], ◌∷◌, filter, take_while, Result, Ok, Err, IfOk, if◌then◌else◌}
+use Rattle.std.specs.Prelude.{◌≡◌, ◌⊎◌, ◌==◌, ℕ, Bool, not, List, [], ◌∷◌, filter, take_while, Result, Ok, Err, IfOk}
 use Rattle.std.specs.List.{All, Contains, list_any}
 use Rattle.std.specs.FinMap.{get}
 use Rattle.reuse_store.specs.Asked.{OnlyReads}
@@ -14,7 +14,7 @@ use Rattle.reuse_journal.specs.JournalFiles.{entry_path, number_of, EntrySays}
 use Rattle.reuse_change.specs.Listing.{is_among}
 use Rattle.reuse_session.specs.session.Machine.{Kept, Snapshots, ran_by}
 use Rattle.reuse_session.specs.session.Session.{store_of, StandsOn, StandsAt, Follows, IsRun, Runs}
-use Rattle.reuse_session.specs.session.Showing.{IsUnused, LedTo}
+use Rattle.reuse_session.specs.session.Showing.{IsUnused, LedBy}
 use Rattle.reuse_change.specs.Tree.{changed_paths}
 use Rattle.reuse_command.specs.declared.command.Command.{Command}
 use Rattle.reuse_command.specs.declared.command.Command.TheVariants.{Revert}
@@ -49,15 +49,15 @@ touched_by steps path = list_any (λ (step : Recorded). touches step.changes pat
 abbrev pub touched_later : ℕ → List Recorded → List Change → List (List ℕ)
 touched_later number done changes = filter (touched_by (done_after number done)) (paths_of changes)
 
--- the same by the machine: whether the trees before and after such a step differ at the path, of those that led to the
--- tree
-abbrev pub differed_later : ℕ → Files → List Kept → List ℕ → Bool
-differed_later number tree [] path = false
-differed_later number tree (kept ∷ past) path =
-    if kept.label.number == number then false else is_among (changed_paths kept.tree tree) path || differed_later number kept.tree past path
+-- the same by the machine: the paths at which the trees before and after such a step differ
+abbrev pub kept_after : ℕ → List Kept → List Kept
+kept_after number steps = take_while (λ (kept : Kept). not (kept.label.number == number)) steps
 
-abbrev pub changed_later : ℕ → Files → List Kept → List Change → List (List ℕ)
-changed_later number tree past changes = filter (differed_later number tree past) (paths_of changes)
+abbrev pub differed_by : List Kept → List ℕ → Bool
+differed_by steps path = list_any (λ (kept : Kept). is_among (changed_paths kept.before kept.after) path) steps
+
+abbrev pub changed_later : ℕ → List Kept → List Change → List (List ℕ)
+changed_later number past changes = filter (differed_by (kept_after number past)) (paths_of changes)
 
 -- what is taken is the changes of a step of the number that is done, and the late paths are those of it that later
 -- steps touched
@@ -103,8 +103,8 @@ abbrev pub RevertFollows : {S : Type 0} → (S → Files) → ℕ → Bool → �
 RevertFollows files number skip_moved when state result new =
     ((result ≡ Err (NoSuchStep number)) × All (λ (kept : Kept). ¬ (kept.label.number ≡ number)) state.past
     × StandsAt files new state)
-    ⊎ ((changes : List Change) × LedTo number changes state.tree state.past
-    × Follows files (as_run result) new (ran_by state (Revert changes (changed_later number state.tree state.past changes) skip_moved) when))
+    ⊎ ((changes : List Change) × LedBy number state.past changes
+    × Follows files (as_run result) new (ran_by state (Revert changes (changed_later number state.past changes) skip_moved) when))
 
 -- what is answered where the command of a revert is asked for: that which takes back the changes of a step of the
 -- number that is done, or that there is none
@@ -117,8 +117,8 @@ GivesRevert number skip_moved held (Err refusal) = (refusal ≡ NoSuchStep numbe
 -- the same by the machine
 abbrev pub GivesRevertAt : ℕ → Bool → Snapshots → Result Command Refusal → Type 0
 GivesRevertAt number skip_moved state (Ok command) =
-    (changes : List Change) × LedTo number changes state.tree state.past
-    × (command ≡ Revert changes (changed_later number state.tree state.past changes) skip_moved)
+    (changes : List Change) × LedBy number state.past changes
+    × (command ≡ Revert changes (changed_later number state.past changes) skip_moved)
 GivesRevertAt number skip_moved state (Err refusal) =
     (refusal ≡ NoSuchStep number) × All (λ (kept : Kept). ¬ (kept.label.number ≡ number)) state.past
 

@@ -1,15 +1,18 @@
 -- When a session stands at a state of the machine.
 use Rattle.std.specs.Prelude.{◌≡◌, ℕ, ◌+◌, ◌≤◌, Bool, true, false, List, [], ◌∷◌, length, Result, Ok, Err}
 use Rattle.reuse_change.specs.declared.layout.TheConstants.{LAST_NUMBER}
+use Rattle.std.specs.List.{All}
 use Rattle.reuse_change.specs.Files.{Files, AreFiles}
 use Rattle.reuse_command.specs.Command.{name_of}
-use Rattle.reuse_change.specs.Entry.{IsEntry, LeadsAll}
+use Rattle.reuse_change.specs.Entry.{IsEntry, CanBeMade}
 use Rattle.reuse_change.specs.declared.change.Change.{Change}
+use Rattle.reuse_change.specs.declared.direction.Direction.{Direction}
+use Rattle.reuse_tree.specs.Head.{listed_direction}
 use Rattle.reuse_command.specs.declared.reply.Refusal.TheVariants.{JournalFull}
 use Rattle.reuse_journal.specs.History.{Memory}
 use Rattle.reuse_journal.specs.Journal.{Recorded, State}
 use Rattle.reuse_journal.specs.JournalFiles.{number_of, IsKeptIn}
-use Rattle.reuse_session.specs.session.Machine.{Kept, Snapshots, Step}
+use Rattle.reuse_session.specs.session.Machine.{Connects, Kept, Snapshots, Step}
 use Rattle.reuse_journal.specs.Labels.{is_full}
 use Rattle.reuse_plan.specs.Outcome.{edits_of, outcome_of}
 use Rattle.reuse_plan.specs.Plan.{IsPlan, Records}
@@ -18,7 +21,6 @@ use Rattle.reuse_change.specs.Tree.{changed_paths}
 use Rattle.reuse_command.specs.declared.command.Command.{Command}
 use Rattle.reuse_json.specs.declared.entry.Entry.{Entry}
 use Rattle.reuse_tree.specs.declared.journal.head.Pending.{Pending}
-use Rattle.reuse_tree.specs.declared.journal.head.PendingDirection.{PendingDirection}
 use Rattle.reuse_tree.specs.declared.journal.head.PendingDirection.TheVariants as directions
 use Rattle.reuse_session.specs.declared.session.Session.{Session}
 use Rattle.reuse_command.specs.declared.reply.Response.{Response}
@@ -53,33 +55,19 @@ pub record StandsOn {S : Type 0} (files : S → Files) (session : Session S) (he
 abbrev pub IsKept : {S : Type 0} → Session S → Session S → Type 0
 IsKept old new = (memory_of new ≡ memory_of old) × (is_broken new ≡ is_broken old)
 
--- the step leads from one tree to the other
-pub record Connects (step : Recorded) (before after : Files) : Type 0 where
-  pub good : IsEntry step.changes
-  pub leads : LeadsAll step.changes before after
-  pub are_files : AreFiles before × AreFiles after
+-- each step has a copy of the tree before it and of that after it: its changes lead from the one to the other
+abbrev pub HaveCopies : List Recorded → List Kept → Type 0
+HaveCopies [] [] = Unit {0}
+HaveCopies (step ∷ steps) (kept ∷ others) =
+    (kept.label ≡ step.label) × Connects step.changes kept.before kept.after × HaveCopies steps others
+HaveCopies [] (kept ∷ others) = ⊥
+HaveCopies (step ∷ steps) [] = ⊥
 
--- the steps, the newest first, lead to the tree through these earlier ones
-abbrev pub LeadUpTo : Files → List Recorded → List Kept → Type 0
-LeadUpTo tree [] [] = Unit {0}
-LeadUpTo tree (step ∷ steps) (kept ∷ past) =
-    (kept.label ≡ step.label) × Connects step kept.tree tree × LeadUpTo kept.tree steps past
-LeadUpTo tree [] (kept ∷ past) = ⊥
-LeadUpTo tree (step ∷ steps) [] = ⊥
-
--- the undone steps, the next to be redone first, lead on from the tree through these
-abbrev pub LeadOn : Files → List Recorded → List Kept → Type 0
-LeadOn tree [] [] = Unit {0}
-LeadOn tree (step ∷ steps) (kept ∷ future) =
-    (kept.label ≡ step.label) × Connects step tree kept.tree × LeadOn kept.tree steps future
-LeadOn tree [] (kept ∷ future) = ⊥
-LeadOn tree (step ∷ steps) [] = ⊥
-
--- a tree and a journal hold a state of the machine: the same tree, and the steps lead through the trees that are kept
+-- a tree and a journal hold a state of the machine: the same tree, and the steps have the copies that are kept
 pub record HoldsSnapshots (held : State) (state : Snapshots) : Type 0 where
   pub tree : held.tree ≡ state.tree
-  pub past : LeadUpTo state.tree held.journal.done state.past
-  pub future : LeadOn state.tree held.journal.undone state.future
+  pub past : HaveCopies held.journal.done state.past
+  pub future : HaveCopies held.journal.undone state.future
   pub used : held.journal.used ≡ state.used
 
 -- the session stands on a standing that holds the state
@@ -123,9 +111,16 @@ IsRecordOf command when tree entry =
 abbrev pub StopsAfterRun : Command → ℕ → State → Files → Type 0
 StopsAfterRun command when first files = (second : State) × IsRun command when first second × InDoubt first second files
 
-abbrev pub StopsAfter : PendingDirection → State → Files → Type 0
-StopsAfter direction first files =
-    (second : State) × (step : Recorded) × IsStep direction step first second × InDoubt first second files
+-- the second standing is that after the last step was taken back, or the next one made again, on a tree on which each of
+-- its changes can be gone through
+pub record IsReplay (direction : Direction) (first second : State) : Type 0 where
+  pub step : Recorded
+  pub is_step : IsStep (listed_direction direction) step first second
+  pub can : All (CanBeMade direction first.tree) step.changes
+
+abbrev pub StopsAfterReplay : Direction → State → Files → Type 0
+StopsAfterReplay direction first files =
+    (second : State) × IsReplay direction first second × InDoubt first second files
 
 -- ---- for private clauses
 

@@ -1,12 +1,10 @@
 -- Steps by their numbers, and what a session shows of one.
-use Rattle.std.specs.Prelude.{◌≡◌, ◌≢◌, ◌⊎◌, ℕ, Bool, true, false, List, [], ◌∷◌, length, Result, Ok, Err}
+use Rattle.std.specs.Prelude.{◌≡◌, ◌≢◌, ℕ, Bool, true, false, List, length, Result, Ok, Err}
 use Rattle.std.specs.List.{All, Contains}
-use Rattle.reuse_change.specs.Files.{Files}
 use Rattle.reuse_change.specs.declared.change.Change.{Change}
-use Rattle.reuse_change.specs.Entry.{IsEntry, LeadsAll}
 use Rattle.reuse_journal.specs.Journal.{Recorded, Journal}
 use Rattle.reuse_journal.specs.JournalFiles.{number_of}
-use Rattle.reuse_session.specs.session.Machine.{Kept, Snapshots, rows_of}
+use Rattle.reuse_session.specs.session.Machine.{Connects, Kept, Snapshots, kept_row}
 use Rattle.reuse_journal.specs.Labels.{row_of}
 use Rattle.reuse_command.specs.declared.reply.Refusal.{Refusal}
 use Rattle.reuse_command.specs.declared.reply.Refusal.TheVariants.{NoSuchStep}
@@ -39,20 +37,20 @@ ShowsIn journal number (Err refusal) =
 
 -- ---- the machine
 
--- the changes lead from the tree before a step of the number to that after it, of the steps that led to the tree
-abbrev pub LedTo : ℕ → List Change → Files → List Kept → Type 0
-LedTo number changes tree [] = ⊥
-LedTo number changes tree (kept ∷ past) = ((kept.label.number ≡ number) × IsEntry changes
-    × LeadsAll changes kept.tree tree) ⊎ LedTo number changes kept.tree past
+-- the steps that are done, or those that are undone
+abbrev pub kept_in : Bool → Snapshots → List Kept
+kept_in true state = state.past
+kept_in false state = state.future
 
--- the same, of the steps that lead on from the tree
-abbrev pub LedOn : ℕ → List Change → Files → List Kept → Type 0
-LedOn number changes tree [] = ⊥
-LedOn number changes tree (kept ∷ future) = ((kept.label.number ≡ number) × IsEntry changes
-    × LeadsAll changes tree kept.tree) ⊎ LedOn number changes kept.tree future
+-- one of the steps has the number, and the changes lead from the tree before it to that after it
+pub record LedBy (number : ℕ) (steps : List Kept) (changes : List Change) : Type 0 where
+  pub kept : Kept
+  pub is_in : Contains steps kept
+  pub numbered : kept.label.number ≡ number
+  pub connects : Connects changes kept.before kept.after
 
--- what is shown is a row of the machine's log, and how its tree before the step differs from that after it
+-- what is shown is a step of the number: its row of the machine's log, and how its tree before it differs from that
+-- after it
 pub record ShowsAt (state : Snapshots) (number : ℕ) (shown : Shown) : Type 0 where
-  pub row : Contains (rows_of state) shown.row
-  pub numbered : shown.row.number ≡ number
-  pub changes : LedTo number shown.changes state.tree state.past ⊎ LedOn number shown.changes state.tree state.future
+  pub step : LedBy number (kept_in shown.row.done state) shown.changes
+  pub row : shown.row ≡ kept_row shown.row.done step.kept

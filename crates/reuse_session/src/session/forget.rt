@@ -28,8 +28,8 @@ use std::alloc::{AllocError, Global};
 impl<S: Store + Drop> Session<S> {
     ghost use Rattle.reuse_command.specs.Answer.{IsEarly, IsFailure, TellsNoFault};
     ghost use Rattle.reuse_session.specs.session.Calls.{IsCall};
-    ghost use Rattle.reuse_session.specs.session.Forgetting.{AreInOrder, Forgets, IsForgetRefusal, IsWithoutOldest, LeavesForgetting, SurvivesToForget, alone, numbers_in, state_besides};
-    ghost use Rattle.reuse_journal.specs.Numbered.{all_numbers, first_unlisted, memory_besides};
+    ghost use Rattle.reuse_session.specs.session.Forgetting.{AreInOrder, Forgets, IsForgetRefusal, IsWithoutOldest, LeavesForgetting, SurvivesToForget, alone, numbers_in};
+    ghost use Rattle.reuse_journal.specs.Numbered.{all_numbers, first_unlisted, memory_besides, state_besides};
     ghost use Rattle.reuse_journal.specs.Journal.{State};
     ghost use Rattle.reuse_session.specs.session.Machine.{Snapshots};
     ghost use Rattle.reuse_session.specs.session.Session.{store_of, is_broken, memory_of, StandsOn, StandsAt};

@@ -6,7 +6,8 @@ ghost use Rattle.reuse_session.specs.session.Session.{counts_of};
 ghost use Rattle.reuse_plan.specs.PathOutcomes.{path_outcomes_of, first_refusal};
 ghost use Rattle.reuse_journal.specs.History.{entries_ahead};
 ghost use Rattle.reuse_journal.specs.Journal.{State, ahead, changes_ahead, end_of};
-ghost use Rattle.reuse_session.specs.session.Machine.{Snapshots, run_path_outcomes, undo_path_outcomes, redo_path_outcomes, step_path_outcomes};
+ghost use Rattle.reuse_session.specs.session.Machine.{Snapshots, run_path_outcomes};
+ghost use Rattle.reuse_session.specs.session.Model.{PreviewsReplayTo, kept_ahead};
 ghost use Rattle.reuse_journal.specs.Labels.{is_full};
 ghost use Rattle.reuse_plan.specs.Outcome.{outcome_of, edits_of};
 ghost use Rattle.reuse_plan.specs.Plan.{IsPlan, Records};
@@ -112,7 +113,7 @@ impl<S: Store + Drop> Session<S> {
         ensures exact { S.honest (store_of self.new) → (held : State) → StandsOn S.files self.old held
             → TellsNoFault result → PreviewsReplay go.Backward held.journal.done held.tree result }
         ensures machine { S.honest (store_of self.new) → (state : Snapshots) → StandsAt S.files self.old state
-            → TellsNoFault result → result ≡ undo_path_outcomes state.tree state.past }
+            → TellsNoFault result → PreviewsReplayTo go.Backward state.past state.tree result }
         ensures reads_only { ReadsOnly S.Store result self.old self.new }
         ensures refusal { IfErr result IsPreviewRefusal }
     {
@@ -131,7 +132,7 @@ impl<S: Store + Drop> Session<S> {
         ensures exact { S.honest (store_of self.new) → (held : State) → StandsOn S.files self.old held
             → TellsNoFault result → PreviewsReplay go.Forward held.journal.undone held.tree result }
         ensures machine { S.honest (store_of self.new) → (state : Snapshots) → StandsAt S.files self.old state
-            → TellsNoFault result → result ≡ redo_path_outcomes state.tree state.future }
+            → TellsNoFault result → PreviewsReplayTo go.Forward state.future state.tree result }
         ensures reads_only { ReadsOnly S.Store result self.old self.new }
         ensures refusal { IfErr result IsPreviewRefusal }
     {
@@ -155,7 +156,8 @@ impl<S: Store + Drop> Session<S> {
             → TellsNoFault result
             → PreviewsReplay direction (ahead direction held.journal) held.tree (path_outcomes_alone result) }
         ensures machine { S.honest (store_of self.new) → (state : Snapshots) → StandsAt S.files self.old state
-            → TellsNoFault result → path_outcomes_alone result ≡ step_path_outcomes direction state }
+            → TellsNoFault result
+            → PreviewsReplayTo direction (kept_ahead direction state) state.tree (path_outcomes_alone result) }
         // The changes are those of the step, and a good entry.
         ensures changes { S.honest (store_of self.new) → (held : State) → StandsOn S.files self.old held
             → IfOk result (λ previewed. changes_ahead (ahead direction held.journal) ≡ Some previewed.changes) }

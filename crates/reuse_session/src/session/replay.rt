@@ -1,15 +1,14 @@
 //! A session goes one step back, or on again.
 ghost use Rattle.std.specs.Prelude.{◌≡◌, ◌↔◌, ◌⊎◌, ◌++◌, ◌∷◌, [], List, true, false, IfErr};
-ghost use Rattle.reuse_tree.specs.Head.{listed_direction};
 ghost use Rattle.reuse_change.specs.declared.direction.Direction.TheVariants as go;
 ghost use Rattle.reuse_command.specs.Answer.{TellsNoFault, IsOpenRefusal};
 ghost use Rattle.reuse_session.specs.session.Calls.{IsCall, LeavesReplay};
 ghost use Rattle.reuse_journal.specs.History.{entries_ahead};
 ghost use Rattle.reuse_journal.specs.Journal.{State, Replays, Undoes, Redoes, ahead, end_of, reply_of};
-ghost use Rattle.reuse_journal.specs.Losses.{IsNextBy};
 ghost use Rattle.reuse_session.specs.session.SafeCalls.{SurvivesCall};
-ghost use Rattle.reuse_session.specs.session.Machine.{Snapshots, undone, redone};
-ghost use Rattle.reuse_session.specs.session.Session.{store_of, is_broken, memory_of, Follows, StandsAt, StandsOn};
+ghost use Rattle.reuse_session.specs.session.Machine.{Snapshots};
+ghost use Rattle.reuse_session.specs.session.Model.{ReplaysTo};
+ghost use Rattle.reuse_session.specs.session.Session.{store_of, is_broken, memory_of, IsReplay, StandsAt, StandsOn};
 ghost use Rattle.reuse_journal.specs.declared.history.ListedEntry.{ListedEntry};
 
 use crate::session::Session;
@@ -41,10 +40,11 @@ impl<S: Store + Drop> Session<S> {
             → TellsNoFault result → (left : State) × StandsOn S.files self.new left
             × Undoes held.journal.done held result left }
         ensures machine { S.honest (store_of self.new) → (state : Snapshots) → StandsAt S.files self.old state
-            → TellsNoFault result → Follows S.files result self.new (undone state state.past) }
+            → TellsNoFault result → (next : Snapshots) × ReplaysTo go.Backward state.past state result next
+            × StandsAt S.files self.new next }
 
         // What is left after a loss of power, at any moment of the call.
-        ensures survives { SurvivesCall S.Store (IsNextBy (listed_direction go.Backward)) result self.old self.new }
+        ensures survives { SurvivesCall S.Store (IsReplay go.Backward) result self.old self.new }
         // What any call leaves, and what an undo leaves of the files, whatever it answers.
         ensures call { IsCall S.Store result self.old self.new }
         ensures leaves { LeavesReplay S.Store go.Backward result self.old self.new }
@@ -70,10 +70,11 @@ impl<S: Store + Drop> Session<S> {
             → TellsNoFault result → (left : State) × StandsOn S.files self.new left
             × Redoes held.journal.undone held result left }
         ensures machine { S.honest (store_of self.new) → (state : Snapshots) → StandsAt S.files self.old state
-            → TellsNoFault result → Follows S.files result self.new (redone state state.future) }
+            → TellsNoFault result → (next : Snapshots) × ReplaysTo go.Forward state.future state result next
+            × StandsAt S.files self.new next }
 
         // What is left after a loss of power, at any moment of the call.
-        ensures survives { SurvivesCall S.Store (IsNextBy (listed_direction go.Forward)) result self.old self.new }
+        ensures survives { SurvivesCall S.Store (IsReplay go.Forward) result self.old self.new }
         // What any call leaves, and what a redo leaves of the files, whatever it answers.
         ensures call { IsCall S.Store result self.old self.new }
         ensures leaves { LeavesReplay S.Store go.Forward result self.old self.new }
@@ -90,7 +91,7 @@ impl<S: Store + Drop> Session<S> {
         ensures exact { S.honest (store_of self.new) → (held : State) → StandsOn S.files self.old held
             → TellsNoFault result → (left : State) × StandsOn S.files self.new left
             × Replays direction (ahead direction held.journal) held result left }
-        ensures survives { SurvivesCall S.Store (IsNextBy (listed_direction direction)) result self.old self.new }
+        ensures survives { SurvivesCall S.Store (IsReplay direction) result self.old self.new }
         ensures call { IsCall S.Store result self.old self.new }
         ensures leaves { LeavesReplay S.Store direction result self.old self.new }
     {
@@ -114,7 +115,7 @@ impl<S: Store + Drop> Session<S> {
         ensures exact { S.honest (store_of self.new) → (held : State) → StandsOn S.files self.old held
             → TellsNoFault result → (left : State) × StandsOn S.files self.new left
             × Replays direction (ahead direction held.journal) held result left }
-        ensures survives { SurvivesCall S.Store (IsNextBy (listed_direction direction)) result self.old self.new }
+        ensures survives { SurvivesCall S.Store (IsReplay direction) result self.old self.new }
         ensures call { IsCall S.Store result self.old self.new }
         ensures leaves { LeavesReplay S.Store direction result self.old self.new }
         ensures kinds { IfErr result IsOpenRefusal }

@@ -3,7 +3,8 @@ use Rattle.std.specs.Prelude.{◌≡◌, ◌⊎◌, ℕ, List, [], ◌∷◌, �
 use Rattle.std.specs.Fmt.{decimal}
 use Rattle.std.specs.List.{flat_map}
 use Rattle.reuse_change.specs.Files.{Files}
-use Rattle.reuse_session.specs.session.Forgetting.{first_absent, numbers_in, state_besides, Forgets}
+use Rattle.reuse_session.specs.session.Forgetting.{first_absent, numbers_in, Forgets}
+use Rattle.reuse_journal.specs.Numbered.{state_besides}
 use Rattle.reuse_journal.specs.Journal.{Journal, State}
 use Rattle.reuse_journal.specs.Opening.{OpensOn}
 use Rattle.reuse_journal.specs.Standing.{IsStanding}
@@ -14,8 +15,8 @@ use Rattle.reuse_print.specs.Outputs.{Adds, AddsFront}
 use Rattle.reuse_undo.specs.run.RunLine.{IsUnopened}
 use Rattle.reuse_print.specs.declared.fault.Fault.{Fault}
 use Rattle.reuse_print.specs.declared.fault.Fault.TheVariants as faults
-use Rattle.reuse_arguments.specs.declared.line.Steps.{Steps}
-use Rattle.reuse_arguments.specs.declared.line.Steps.TheVariants.{All, Numbers}
+use Rattle.reuse_command.specs.declared.request.Steps.{Steps}
+use Rattle.reuse_command.specs.declared.request.Steps.TheVariants.{All, Numbers}
 
 -- the numbers that are asked for, of a journal
 abbrev pub asked_numbers : Steps → Journal → List ℕ

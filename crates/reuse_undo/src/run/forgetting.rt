@@ -8,10 +8,9 @@ ghost use Rattle.reuse_undo.specs.run.Forgotten.{asked_numbers, forgotten_line, 
 ghost use Rattle.reuse_undo.specs.run.RunLine.{IfRefused};
 ghost use Rattle.reuse_undo.specs.print.Responses.{ReportsFailure};
 
-use reuse_arguments::line::Steps;
 use reuse_print::fault::{Fault, in_memory};
 use reuse_print::output::{Sink, write_text};
-use reuse_session::{EntryNumbers, Refusal, Session};
+use reuse_session::{EntryNumbers, Refusal, Session, Steps};
 use reuse_store::Store;
 use std::alloc::Global;
 use std::io::{self, Write};

@@ -3,7 +3,6 @@ use Rattle.std.proofs.Common.{◌≡◌, ◌⊎◌, inl, inr, ⊎_elim, ℕ, Boo
 use Rattle.std.specs.FinMap.{get}
 use Rattle.std.proofs.lemmas.Option.{none-some}
 use Rattle.reuse_change.specs.Files.{Files}
-use Rattle.reuse_change.specs.declared.direction.Direction.TheVariants as direction
 use Rattle.reuse_command.specs.declared.command.Command.{Command}
 use Rattle.reuse_session.specs.declared.events.Driven.{Driven}
 use Rattle.reuse_session.specs.declared.events.Driven.TheVariants.{Open, Closed}
@@ -21,64 +20,26 @@ use Rattle.reuse_command.specs.declared.reply.Refusal.TheVariants.{Failed}
 use Rattle.reuse_command.specs.declared.request.Request.{Request}
 use Rattle.reuse_session.specs.declared.session.Session.{Session}
 use Rattle.reuse_command.specs.Answer.{IsEarly, IsFailure, TellsNoFault}
-use Rattle.reuse_change.specs.Entry.{LeadsBy}
 use Rattle.reuse_journal.specs.Journal.{Recorded, Journal, State}
 use Rattle.reuse_journal.specs.JournalFiles.{head_path, head_of, number_of}
-use Rattle.reuse_journal.specs.Losses.{IsNextBy}
-use Rattle.reuse_session.specs.session.Machine.{Kept, Snapshots, ran_by, undone, redone}
+use Rattle.reuse_session.specs.session.Machine.{Snapshots, ran_by}
 use Rattle.reuse_session.specs.session.Model.{Gives}
 use Rattle.reuse_journal.specs.Opening.{OpensOn}
 use Rattle.reuse_session.specs.session.Requests.{IfFailed, MayFail}
-use Rattle.reuse_session.specs.session.Session.{store_of, LeadUpTo, LeadOn, HoldsSnapshots, StandsOn, StandsAt, IsKept, IsRun}
+use Rattle.reuse_session.specs.session.Session.{store_of, HoldsSnapshots, StandsOn, StandsAt, IsKept, IsRun}
 use Rattle.reuse_journal.specs.Remembered.{Remembers}
 use Rattle.reuse_journal.specs.Standing.{IsStanding, IsStep, IsUnderWay, InDoubt, Mutations}
 use Rattle.reuse_session.specs.session.Driven.{IsAt, store_in}
 use Rattle.reuse_session.specs.session.Stops.{Point, open_at, closed, Reopens, Continues, AnswersEvent, AreLeft}
 use Rattle.reuse_change.specs.Tree.{undo_folder_of}
-use Rattle.reuse_session.proofs.lemmas.session.Following.{back_from, on_from}
 use Rattle.reuse_journal.proofs.OpeningLemmas.{same_head}
 use Rattle.reuse_session.proofs.lemmas.session.RunFollowing.{step_follows}
-use Rattle.reuse_change.proofs.Walk.{leads_once}
 
 -- ---- the state after a step that stopped
 
-module _ (held : State) (state : Snapshots) (holds : HoldsSnapshots held state) (second : State) where
-  pub ran_on : (command : Command) (when : ℕ) (files : Files) → IsStanding files held → IsRun command when held second → HoldsSnapshots second (ran_by state command when).1
-  ran_on command when files good run = (step_follows held state holds command when second run good.good.are_files).1
-
-  undone_by : (recorded : Recorded) (steps : List Recorded) (past : List Kept) → LeadUpTo state.tree (recorded ∷ steps) past → LeadsBy direction.Backward recorded.changes held.tree second.tree
-      → second.journal ≡ record { done = steps; undone = recorded ∷ held.journal.undone; used = held.journal.used } → HoldsSnapshots second (undone state past).1
-  undone_by recorded steps [] h leads moved = absurd h
-  undone_by recorded steps (kept ∷ past) h leads moved =
-      let back = back_from held state holds recorded.changes kept.tree h.1.leads in
-      record {
-        tree = leads_once direction.Backward recorded.changes held.tree second.tree kept.tree leads back;
-        past = subst (λ j. LeadUpTo kept.tree j.done past) (sym moved) h.2;
-        future = subst (λ j. LeadOn kept.tree j.undone (record { label = kept.label; tree = state.tree } ∷ state.future)) (sym moved) (h.0, h.1, holds.future);
-        used = ap (λ j. j.used) moved ∙ holds.used;
-      }
-
-  redone_by : (recorded : Recorded) (steps : List Recorded) (future : List Kept) → LeadOn state.tree (recorded ∷ steps) future → LeadsBy direction.Forward recorded.changes held.tree second.tree
-      → second.journal ≡ record { done = recorded ∷ held.journal.done; undone = steps; used = held.journal.used } → HoldsSnapshots second (redone state future).1
-  redone_by recorded steps [] h leads moved = absurd h
-  redone_by recorded steps (kept ∷ future) h leads moved =
-      let on = on_from held state holds recorded.changes kept.tree h.1.leads in
-      record {
-        tree = leads_once direction.Forward recorded.changes held.tree second.tree kept.tree leads on;
-        past = subst (λ j. LeadUpTo kept.tree j.done (record { label = kept.label; tree = state.tree } ∷ state.past)) (sym moved) (h.0, h.1, holds.past);
-        future = subst (λ j. LeadOn kept.tree j.undone future) (sym moved) h.2;
-        used = ap (λ j. j.used) moved ∙ holds.used;
-      }
-
-  pub undo_next : IsNextBy pending.Undo held second → HoldsSnapshots second (undone state state.past).1
-  undo_next next =
-      let mutations = next.1.mutations in
-      undone_by next.0 mutations.0 state.past (subst (λ steps. LeadUpTo state.tree steps state.past) mutations.1 holds.past) next.1.leads mutations.2
-
-  pub redo_next : IsNextBy pending.Redo held second → HoldsSnapshots second (redone state state.future).1
-  redo_next next =
-      let mutations = next.1.mutations in
-      redone_by next.0 mutations.0 state.future (subst (λ steps. LeadOn state.tree steps state.future) mutations.1 holds.future) next.1.leads mutations.2
+pub ran_on : (held : State) (state : Snapshots) → HoldsSnapshots held state → (second : State) (command : Command) (when : ℕ) (files : Files) → IsStanding files held → IsRun command when held second
+    → HoldsSnapshots second (ran_by state command when).1
+ran_on held state holds second command when files good run = (step_follows held state holds command when second run good.good.are_files).1
 
 -- ---- opening
 

@@ -1,91 +1,139 @@
 -- A tree and a journal follow the reference model.
-use Rattle.std.proofs.Common.{◌≡◌, ◌⊎◌, ⊎_elim, ℕ, suc, ◌+◌, ◌<◌, true, false, cond, List, [], ◌∷◌, ◌++◌, length, map, reverse, Result, Ok, Err, refl, sym, ap, subst, ◌∙◌, arith}
-use Rattle.std.proofs.lemmas.List.{map-append, reverse-append, length-map, nil_from_length}
+use Rattle.std.proofs.Common.{◌≡◌, ◌⊎◌, ⊎_elim, ℕ, suc, ◌+◌, ◌<◌, Bool, true, false, cond, List, [], ◌∷◌, ◌++◌, length, map, reverse, Result, Ok, Err, refl, sym, ap, ap₂, subst, ◌∙◌, arith}
+use Rattle.std.specs.List.{All}
+use Rattle.std.proofs.lemmas.List.{length-map, nil_from_length}
 use Rattle.reuse_change.specs.Files.{Files, AreFiles}
 use Rattle.reuse_change.specs.declared.change.Change.{Change}
 use Rattle.reuse_change.specs.Change.{path_of}
+use Rattle.reuse_change.specs.declared.direction.Direction.{Direction}
 use Rattle.reuse_change.specs.declared.direction.Direction.TheVariants as direction
 use Rattle.reuse_command.specs.declared.command.Command.{Command}
 use Rattle.reuse_change.specs.declared.command_name.CommandName.{CommandName}
 use Rattle.reuse_command.specs.declared.reply.Response.{Response}
-use Rattle.reuse_command.specs.declared.reply.Response.TheVariants.{Changed, NothingChanged, Undone, Redone}
+use Rattle.reuse_command.specs.declared.reply.Response.TheVariants.{Changed, NothingChanged}
 use Rattle.reuse_command.specs.declared.reply.Refusal.{Refusal}
 use Rattle.reuse_command.specs.declared.reply.Refusal.TheVariants.{JournalFull, Moved, Failed}
 use Rattle.reuse_command.specs.Answer.{TellsNoFault, IsTestRefusal}
 use Rattle.reuse_command.specs.Command.{name_of}
 use Rattle.reuse_plan.specs.Outcome.{outcome_of}
-use Rattle.reuse_change.specs.Entry.{paths_of, IsEntry, LeadsBy, LeadsAll}
+use Rattle.reuse_change.specs.Entry.{paths_of, CanBeMade, IsEntry, IsFirstStuck, LeadsBy, LeadsAll}
 use Rattle.reuse_change.specs.Tree.{changed_paths}
-use Rattle.reuse_session.specs.session.Machine.{Kept, Snapshots, Step, taken, ran, ran_by, undone, redone, rows_before, rows_behind, rows_of}
+use Rattle.reuse_session.specs.session.Machine.{Connects, Kept, Snapshots, Step, taken, ran, ran_by, kept_row, rows_of}
+use Rattle.reuse_session.specs.session.Model.{ReplaysTo, kept_ahead, replayed}
 use Rattle.reuse_journal.specs.Labels.{Label, is_full, row_of}
-use Rattle.reuse_journal.specs.Journal.{Recorded, State, Undoes, Redoes, rows_in}
-use Rattle.reuse_session.specs.session.Session.{LeadUpTo, LeadOn, HoldsSnapshots}
+use Rattle.reuse_journal.specs.Journal.{Recorded, State, GoesOneStep, Replays, ahead, end_of, moved_on, reply_of, rows_in}
+use Rattle.reuse_session.specs.session.Session.{HaveCopies, HoldsSnapshots, IsReplay}
 use Rattle.reuse_change.proofs.Differ.{changed_by_entry, changed_by_none}
-use Rattle.reuse_change.proofs.Walk.{leads_once, leads_back, can_lead, none_stuck}
+use Rattle.reuse_change.proofs.Walk.{leads_back}
+use Rattle.reuse_journal.proofs.MemoryLemmas.{reverse_map}
+use Rattle.reuse_session.proofs.lemmas.session.ReachedFiles.{reach_files}
 
--- as many trees are kept as steps
-length_up_to : (tree : Files) (steps : List Recorded) (past : List Kept) → LeadUpTo tree steps past → length steps ≡ length past
-length_up_to tree [] [] h = refl
-length_up_to tree (step ∷ steps) (kept ∷ past) h = ap suc (length_up_to kept.tree steps past h.2)
-length_up_to tree [] (kept ∷ past) h = absurd h
-length_up_to tree (step ∷ steps) [] h = absurd h
+-- as many copies are kept as steps
+same_length : (steps : List Recorded) (copies : List Kept) → HaveCopies steps copies → length steps ≡ length copies
+same_length [] [] h = refl
+same_length (step ∷ steps) (kept ∷ others) h = ap suc (same_length steps others h.2)
+same_length [] (kept ∷ others) h = absurd h
+same_length (step ∷ steps) [] h = absurd h
+
+-- what leads back from a tree leads on to it
+leads_on : (changes : List Change) (before after : Files) → LeadsBy direction.Backward changes before after → LeadsAll changes after before
+leads_on changes before after h = record { each = h.each; others = λ path e. sym (h.others path e) }
 
 module _ (held : State) (state : Snapshots) (holds : HoldsSnapshots held state) where
-  -- changes that lead to the machine's tree lead back from the tree that is held
-  pub back_from : (changes : List Change) (tree : Files) → LeadsAll changes tree state.tree → LeadsBy direction.Backward changes held.tree tree
-  back_from changes tree leads = subst (λ t. LeadsBy direction.Backward changes t tree) (sym holds.tree) (leads_back changes tree state.tree leads)
+  -- ---- undo and redo
 
-  pub on_from : (changes : List Change) (tree : Files) → LeadsAll changes state.tree tree → LeadsBy direction.Forward changes held.tree tree
-  on_from changes tree leads = subst (λ t. LeadsBy direction.Forward changes t tree) (sym holds.tree) leads
+  module _ (are : AreFiles held.tree) (new : State) where
+    abbrev ReplaysSo : Direction → List Kept → Result Response Refusal → Type 0
+    ReplaysSo go copies answer = (next : Snapshots) × ReplaysTo go copies state answer next × HoldsSnapshots new next
 
-  undo_by_cases : (new : State) (result : Result Response Refusal) (done : List Recorded) (past : List Kept) → LeadUpTo state.tree done past → Undoes done held result new → state.past ≡ past
-      → (result ≡ (undone state past).0) × HoldsSnapshots new (undone state past).1
-  undo_by_cases new result [] [] h u e = (u.0, subst (λ s. HoldsSnapshots s state) (sym u.1) holds)
-  undo_by_cases new (Ok given) (step ∷ steps) (kept ∷ past) h u e =
-      let tree : new.tree ≡ kept.tree = leads_once direction.Backward step.changes held.tree new.tree kept.tree u.2 (back_from step.changes kept.tree h.1.leads) in (
-        ap (λ r. Ok r) (u.0 ∙ ap Undone (sym (changed_by_entry step.changes kept.tree state.tree h.1.good h.1.leads))),
-        record {
-          tree = tree;
-          past = subst (λ j. LeadUpTo kept.tree j.done past) (sym u.3) h.2;
-          future = subst (λ j. LeadOn kept.tree j.undone (record { label = kept.label; tree = state.tree } ∷ state.future)) (sym u.3) (h.0, h.1, holds.future);
-          used = ap (λ j. j.used) u.3 ∙ holds.used;
-        },
+    stays : (go : Direction) (answer : Result Response Refusal) → answer ≡ Err (end_of go) → new ≡ held → ReplaysSo go [] answer
+    stays go answer is same = (state, (is, refl), subst (λ s. HoldsSnapshots s state) (sym same) holds)
+
+    module _ (step : Recorded) (kept : Kept) (label : kept.label ≡ step.label) (connects : Connects step.changes kept.before kept.after) where
+      told : (go : Direction) (reply : Response) → reply ≡ reply_of go (paths_of step.changes) → reply ≡ reply_of go (changed_paths kept.before kept.after)
+      told go reply is = is ∙ ap (reply_of go) (sym (changed_by_entry step.changes kept.before kept.after connects.good connects.leads))
+
+      can_on : (go : Direction) → All (CanBeMade go held.tree) step.changes → All (CanBeMade go state.tree) step.changes
+      can_on go can = subst (λ t. All (CanBeMade go t) step.changes) holds.tree can
+
+      leads_from : (go : Direction) → LeadsBy go step.changes held.tree new.tree → LeadsBy go step.changes state.tree new.tree
+      leads_from go leads = subst (λ t. LeadsBy go step.changes t new.tree) holds.tree leads
+
+      state_are : AreFiles state.tree
+      state_are = subst AreFiles holds.tree are
+
+      stuck : (go : Direction) (others : List Kept) (refusal : Refusal) → (path : List ℕ) × (refusal ≡ Moved path) × IsFirstStuck go held.tree step.changes path → new ≡ held → ReplaysSo go (kept ∷ others) (Err refusal)
+      stuck go others refusal first same = (
+        state,
+        (step.changes, connects, ((first.0, first.1, subst (λ t. IsFirstStuck go t step.changes first.0) holds.tree first.2), refl)),
+        subst (λ s. HoldsSnapshots s state) (sym same) holds,
       )
-  undo_by_cases new (Err refusal) (step ∷ steps) (kept ∷ past) h u e =
-      absurd (none_stuck direction.Backward held.tree step.changes u.0.0 (can_lead direction.Backward step.changes held.tree kept.tree h.1.good h.1.are_files.0 (back_from step.changes kept.tree h.1.leads)) u.0.2)
-  undo_by_cases new result [] (kept ∷ past) h u e = absurd h
-  undo_by_cases new result (step ∷ steps) [] h u e = absurd h
 
-  -- an undo follows the machine
-  pub undo_follows : (new : State) (result : Result Response Refusal) → Undoes held.journal.done held result new → (result ≡ (undone state state.past).0) × HoldsSnapshots new (undone state state.past).1
-  undo_follows new result u = undo_by_cases new result held.journal.done state.past holds.past u refl
+      back : (steps : List Recorded) (others : List Kept) (reply : Response) → HaveCopies steps others
+          → GoesOneStep direction.Backward step (reply_of direction.Backward) (moved_on direction.Backward step steps held.journal) held (Ok reply) new → ReplaysSo direction.Backward (kept ∷ others) (Ok reply)
+      back steps others reply rest u =
+          let can = can_on direction.Backward u.1 in
+          let leads = leads_from direction.Backward u.2 in
+          let new_are = reach_files direction.Backward step.changes connects.good kept.after kept.before (leads_back step.changes kept.before kept.after connects.leads) connects.are_files.0 state.tree new.tree state_are can leads in (
+            replayed direction.Backward kept others state new.tree,
+            (step.changes, connects, (told direction.Backward reply u.0, can, leads, refl)),
+            record {
+              tree = refl;
+              past = subst (λ j. HaveCopies j.done others) (sym u.3) rest;
+              future = subst (λ j. HaveCopies j.undone (record { label = kept.label; before = new.tree; after = state.tree } ∷ state.future)) (sym u.3)
+                  (label, record { good = connects.good; leads = leads_on step.changes state.tree new.tree leads; are_files = (new_are, state_are) }, holds.future);
+              used = ap (λ j. j.used) u.3 ∙ holds.used;
+            },
+          )
 
-  redo_by_cases : (new : State) (result : Result Response Refusal) (steps : List Recorded) (future : List Kept) → LeadOn state.tree steps future → Redoes steps held result new
-      → (result ≡ (redone state future).0) × HoldsSnapshots new (redone state future).1
-  redo_by_cases new result [] [] h u = (u.0, subst (λ s. HoldsSnapshots s state) (sym u.1) holds)
-  redo_by_cases new (Ok given) (step ∷ steps) (kept ∷ future) h u =
-      let tree : new.tree ≡ kept.tree = leads_once direction.Forward step.changes held.tree new.tree kept.tree u.2 (on_from step.changes kept.tree h.1.leads) in (
-        ap (λ r. Ok r) (u.0 ∙ ap Redone (sym (changed_by_entry step.changes state.tree kept.tree h.1.good h.1.leads))),
-        record {
-          tree = tree;
-          past = subst (λ j. LeadUpTo kept.tree j.done (record { label = kept.label; tree = state.tree } ∷ state.past)) (sym u.3) (h.0, h.1, holds.past);
-          future = subst (λ j. LeadOn kept.tree j.undone future) (sym u.3) h.2;
-          used = ap (λ j. j.used) u.3 ∙ holds.used;
-        },
-      )
-  redo_by_cases new (Err refusal) (step ∷ steps) (kept ∷ future) h u =
-      absurd (none_stuck direction.Forward held.tree step.changes u.0.0 (can_lead direction.Forward step.changes held.tree kept.tree h.1.good h.1.are_files.1 (on_from step.changes kept.tree h.1.leads)) u.0.2)
-  redo_by_cases new result [] (kept ∷ future) h u = absurd h
-  redo_by_cases new result (step ∷ steps) [] h u = absurd h
+      on : (steps : List Recorded) (others : List Kept) (reply : Response) → HaveCopies steps others
+          → GoesOneStep direction.Forward step (reply_of direction.Forward) (moved_on direction.Forward step steps held.journal) held (Ok reply) new → ReplaysSo direction.Forward (kept ∷ others) (Ok reply)
+      on steps others reply rest u =
+          let can = can_on direction.Forward u.1 in
+          let leads = leads_from direction.Forward u.2 in
+          let new_are = reach_files direction.Forward step.changes connects.good kept.before kept.after connects.leads connects.are_files.1 state.tree new.tree state_are can leads in (
+            replayed direction.Forward kept others state new.tree,
+            (step.changes, connects, (told direction.Forward reply u.0, can, leads, refl)),
+            record {
+              tree = refl;
+              past = subst (λ j. HaveCopies j.done (record { label = kept.label; before = state.tree; after = new.tree } ∷ state.past)) (sym u.3)
+                  (label, record { good = connects.good; leads = leads; are_files = (state_are, new_are) }, holds.past);
+              future = subst (λ j. HaveCopies j.undone others) (sym u.3) rest;
+              used = ap (λ j. j.used) u.3 ∙ holds.used;
+            },
+          )
 
-  -- a redo follows the machine
-  pub redo_follows : (new : State) (result : Result Response Refusal) → Redoes held.journal.undone held result new → (result ≡ (redone state state.future).0) × HoldsSnapshots new (redone state state.future).1
-  redo_follows new result u = redo_by_cases new result held.journal.undone state.future holds.future u
+    by_cases : (go : Direction) (answer : Result Response Refusal) (steps : List Recorded) (copies : List Kept) → HaveCopies steps copies → Replays go steps held answer new → ReplaysSo go copies answer
+    by_cases go answer [] [] h u = stays go answer u.0 u.1
+    by_cases direction.Backward (Ok reply) (step ∷ steps) (kept ∷ others) h u = back step kept h.0 h.1 steps others reply h.2 u
+    by_cases direction.Forward (Ok reply) (step ∷ steps) (kept ∷ others) h u = on step kept h.0 h.1 steps others reply h.2 u
+    by_cases go (Err refusal) (step ∷ steps) (kept ∷ others) h u = stuck step kept h.0 h.1 go others refusal u.0 u.1
+    by_cases go answer [] (kept ∷ others) h u = absurd h
+    by_cases go answer (step ∷ steps) [] h u = absurd h
+
+    copies_ahead : (go : Direction) → HaveCopies (ahead go held.journal) (kept_ahead go state)
+    copies_ahead direction.Backward = holds.past
+    copies_ahead direction.Forward = holds.future
+
+    -- an undo or a redo follows the machine
+    pub replay_follows : (go : Direction) (answer : Result Response Refusal) → Replays go (ahead go held.journal) held answer new → ReplaysSo go (kept_ahead go state) answer
+    replay_follows go answer u = by_cases go answer (ahead go held.journal) (kept_ahead go state) (copies_ahead go) u
+
+    -- so does one that stopped
+    pub stopped_replay_follows : (go : Direction) → IsReplay go held new → (answer : Result Response Refusal) × ReplaysSo go (kept_ahead go state) answer
+    stopped_replay_follows direction.Backward replay =
+        let mutations = replay.is_step.mutations in
+        let answer : Result Response Refusal = Ok (reply_of direction.Backward (paths_of replay.step.changes)) in
+        (answer, replay_follows direction.Backward answer (subst (λ steps. Replays direction.Backward steps held answer new) (sym mutations.1) (refl, replay.can, replay.is_step.leads, mutations.2)))
+    stopped_replay_follows direction.Forward replay =
+        let mutations = replay.is_step.mutations in
+        let answer : Result Response Refusal = Ok (reply_of direction.Forward (paths_of replay.step.changes)) in
+        (answer, replay_follows direction.Forward answer (subst (λ steps. Replays direction.Forward steps held answer new) (sym mutations.1) (refl, replay.can, replay.is_step.leads, mutations.2)))
 
   -- ---- a run
 
   pub kept_count : length held.journal.done ≡ length state.past
-  kept_count = length_up_to state.tree held.journal.done state.past holds.past
+  kept_count = same_length held.journal.done state.past holds.past
 
   pub is_full_alike : is_full (length state.past) state.used ≡ is_full (length held.journal.done) held.journal.used
   is_full_alike = ap (λ n. is_full n state.used) (sym kept_count) ∙ ap (λ n. is_full (length held.journal.done) n) (sym holds.used)
@@ -112,7 +160,7 @@ module _ (held : State) (state : Snapshots) (holds : HoldsSnapshots held state) 
     Ok (Changed (paths_of changes)),
     record {
       tree = after;
-      past = record { label = record { number = state.used + 1; when = when; command = command }; tree = state.tree } ∷ state.past;
+      past = record { label = record { number = state.used + 1; when = when; command = command }; before = state.tree; after = after } ∷ state.past;
       future = [];
       used = state.used + 1;
     },
@@ -136,40 +184,34 @@ module _ (held : State) (state : Snapshots) (holds : HoldsSnapshots held state) 
         refl,
         record {
           tree = tree;
-          past = subst (λ j. LeadUpTo after j.done (record { label = record { number = state.used + 1; when = when; command = name_of command }; tree = state.tree } ∷ state.past)) (sym journal)
+          past = subst (λ j. HaveCopies j.done (record { label = record { number = state.used + 1; when = when; command = name_of command }; before = state.tree; after = after } ∷ state.past)) (sym journal)
               (numbered, record { good = good; leads = subst (λ t. LeadsAll changes t after) holds.tree leads; are_files = (subst AreFiles holds.tree before_are, after_are) }, holds.past);
-          future = subst (λ j. LeadOn after j.undone []) (sym journal) tt;
+          future = subst (λ j. HaveCopies j.undone []) (sym journal) tt;
           used = ap (λ j. j.used) journal ∙ ap (λ n. n + 1) holds.used;
         },
       )
 
 -- ---- the log
 
-before_rows : (tree : Files) (steps : List Recorded) (past : List Kept) → LeadUpTo tree steps past → map (λ step. row_of step.label (length step.changes) true) (reverse steps) ≡ rows_before tree past
-before_rows tree [] [] h = refl
-before_rows tree (step ∷ steps) (kept ∷ past) h =
-    ap (map (λ step. row_of step.label (length step.changes) true)) (reverse-append (step ∷ []) steps)
-    ∙ map-append (λ step. row_of step.label (length step.changes) true) (reverse steps) (step ∷ [])
-    ∙ ap (λ rows. rows ++ row_of step.label (length step.changes) true ∷ []) (before_rows kept.tree steps past h.2)
-    ∙ ap (λ label. rows_before kept.tree past ++ row_of label (length step.changes) true ∷ []) (sym h.0)
-    ∙ ap (λ n. rows_before kept.tree past ++ row_of kept.label n true ∷ []) (sym (ap length (changed_by_entry step.changes kept.tree tree h.1.good h.1.leads) ∙ length-map step.changes path_of))
-before_rows tree [] (kept ∷ past) h = absurd h
-before_rows tree (step ∷ steps) [] h = absurd h
+-- a step's row is that of its copies
+pub row_alike : (is_done : Bool) (step : Recorded) (kept : Kept) → kept.label ≡ step.label → Connects step.changes kept.before kept.after → row_of step.label (length step.changes) is_done ≡ kept_row is_done kept
+row_alike is_done step kept label connects =
+    ap (λ l. row_of l (length step.changes) is_done) (sym label)
+    ∙ ap (λ n. row_of kept.label n is_done) (sym (ap length (changed_by_entry step.changes kept.before kept.after connects.good connects.leads) ∙ length-map step.changes path_of))
 
-behind_rows : (tree : Files) (steps : List Recorded) (future : List Kept) → LeadOn tree steps future → map (λ step. row_of step.label (length step.changes) false) steps ≡ rows_behind tree future
-behind_rows tree [] [] h = refl
-behind_rows tree (step ∷ steps) (kept ∷ future) h =
-    ap (λ rows. row_of step.label (length step.changes) false ∷ rows) (behind_rows kept.tree steps future h.2)
-    ∙ ap (λ label. row_of label (length step.changes) false ∷ rows_behind kept.tree future) (sym h.0)
-    ∙ ap (λ n. row_of kept.label n false ∷ rows_behind kept.tree future) (sym (ap length (changed_by_entry step.changes tree kept.tree h.1.good h.1.leads) ∙ length-map step.changes path_of))
-behind_rows tree [] (kept ∷ future) h = absurd h
-behind_rows tree (step ∷ steps) [] h = absurd h
+rows_alike : (is_done : Bool) (steps : List Recorded) (copies : List Kept) → HaveCopies steps copies → map (λ (step : Recorded). row_of step.label (length step.changes) is_done) steps ≡ map (kept_row is_done) copies
+rows_alike is_done [] [] h = refl
+rows_alike is_done (step ∷ steps) (kept ∷ others) h =
+    ap (λ rows. row_of step.label (length step.changes) is_done ∷ rows) (rows_alike is_done steps others h.2) ∙ ap (λ row. row ∷ map (kept_row is_done) others) (row_alike is_done step kept h.0 h.1)
+rows_alike is_done [] (kept ∷ others) h = absurd h
+rows_alike is_done (step ∷ steps) [] h = absurd h
 
 -- the rows of the journal are those of the machine
 pub log_follows : (held : State) (state : Snapshots) → HoldsSnapshots held state → rows_in held.journal ≡ rows_of state
 log_follows held state holds =
-    ap (λ rows. rows ++ map (λ step. row_of step.label (length step.changes) false) held.journal.undone) (before_rows state.tree held.journal.done state.past holds.past)
-    ∙ ap (λ rows. rows_before state.tree state.past ++ rows) (behind_rows state.tree held.journal.undone state.future holds.future)
+    ap₂ (λ done undone. done ++ undone)
+    (sym (reverse_map (λ (step : Recorded). row_of step.label (length step.changes) true) held.journal.done) ∙ ap reverse (rows_alike true held.journal.done state.past holds.past) ∙ reverse_map (kept_row true) state.past)
+    (rows_alike false held.journal.undone state.future holds.future)
 
 -- a refusal of the test that is neither memory's nor the store's names a path
 pub names_path : (refusal : Refusal) → IsTestRefusal refusal → TellsNoFault {A = Response} (Err refusal) → (path : List ℕ) × (refusal ≡ Moved path)

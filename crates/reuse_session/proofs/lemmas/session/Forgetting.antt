@@ -13,8 +13,8 @@ use Rattle.reuse_store.specs.declared.cause.Cause.TheVariants as causes
 use Rattle.reuse_store.specs.declared.store.Store.{Ghosts}
 use Rattle.reuse_command.specs.Answer.{IsFailure, TellsNoFault}
 use Rattle.reuse_session.specs.session.Calls.{files_of}
-use Rattle.reuse_session.specs.session.Forgetting.{AreInOrder, Forgets, IsWithoutOldest, LeavesForgetting, SurvivesForgetting, PutsAndRemoves, PutsAndRemovesSome, alone, first_absent, journal_besides, state_besides}
-use Rattle.reuse_journal.specs.Numbered.{all_numbers, entries_besides, first_unlisted, is_one_of, memory_besides}
+use Rattle.reuse_session.specs.session.Forgetting.{AreInOrder, Forgets, IsWithoutOldest, LeavesForgetting, SurvivesForgetting, PutsAndRemoves, PutsAndRemovesSome, alone, first_absent}
+use Rattle.reuse_journal.specs.Numbered.{all_numbers, entries_besides, first_unlisted, is_one_of, memory_besides, journal_besides, state_besides}
 use Rattle.reuse_journal.specs.History.{Memory, head_listing}
 use Rattle.reuse_journal.specs.Journal.{State}
 use Rattle.reuse_journal.specs.JournalFiles.{head_path, entry_path, head_of, IsFree}

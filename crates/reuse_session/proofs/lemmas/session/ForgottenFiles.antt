@@ -20,8 +20,8 @@ use Rattle.reuse_change.proofs.FileMaps.{same_files, same_or_other}
 use Rattle.reuse_store.proofs.OfTree.{get-folder}
 use Rattle.reuse_store.proofs.TreeLemmas.{tree_file}
 use Rattle.reuse_store.proofs.ApplyLemmas.{removal_sets}
-use Rattle.reuse_session.specs.session.Forgetting.{AreInOrder, steps_besides, journal_besides, state_besides, AreGone, AreGoneFromTheTop, IsSameButGone, Removes, RemovesSome, PutsAndRemoves, PutsAndRemovesSome}
-use Rattle.reuse_journal.specs.Numbered.{is_one_of}
+use Rattle.reuse_session.specs.session.Forgetting.{AreInOrder, AreGone, AreGoneFromTheTop, IsSameButGone, Removes, RemovesSome, PutsAndRemoves, PutsAndRemovesSome}
+use Rattle.reuse_journal.specs.Numbered.{is_one_of, steps_besides, journal_besides, state_besides}
 use Rattle.reuse_journal.specs.Journal.{Recorded, State}
 use Rattle.reuse_journal.specs.JournalFiles.{head_path, entry_path, entry_in, number_of, head_of, HeadSays, EntrySays, IsFree, IsKeptIn, KeepsJournal}
 use Rattle.reuse_journal.specs.Losses.{IsSafeOn}

@@ -9,8 +9,8 @@ use Rattle.std.proofs.lemmas.List.Filters.{length-filter_both}
 use Rattle.std.proofs.lemmas.List.Folds.{list_any-append, list_any_at, Any-from_list_any}
 use Rattle.std.proofs.lemmas.List.Kept.{AllPairs-filter}
 use Rattle.reuse_tree.specs.Head.{IsSoundHead, listed}
-use Rattle.reuse_session.specs.session.Forgetting.{has_step, first_absent, steps_besides, journal_besides, numbers_in}
-use Rattle.reuse_journal.specs.Numbered.{is_one_of, is_listed, first_unlisted, entries_besides, memory_besides, all_numbers}
+use Rattle.reuse_session.specs.session.Forgetting.{has_step, first_absent, numbers_in}
+use Rattle.reuse_journal.specs.Numbered.{is_one_of, is_listed, first_unlisted, entries_besides, memory_besides, all_numbers, steps_besides, journal_besides}
 use Rattle.reuse_journal.specs.History.{Memory, head_listing}
 use Rattle.reuse_journal.specs.Journal.{Recorded, Journal}
 use Rattle.reuse_journal.specs.JournalFiles.{number_of, head_of}

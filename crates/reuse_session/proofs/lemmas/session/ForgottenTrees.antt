@@ -4,15 +4,14 @@ use Rattle.std.specs.List.{AllPairs, Contains}
 use Rattle.std.proofs.lemmas.List.{append-nil, length-append, map-append, reverse-append, get_or-append-add}
 use Rattle.std.proofs.lemmas.List.Elements.{Contains-append_left, Contains-append_right, filter-append}
 use Rattle.std.proofs.Math.ListN.{get_or-append}
-use Rattle.reuse_change.specs.Files.{Files}
 use Rattle.reuse_tree.specs.Head.{IsSoundHead}
-use Rattle.reuse_session.specs.session.Forgetting.{IsWithoutOldest, steps_besides, state_besides, alone}
-use Rattle.reuse_journal.specs.Numbered.{is_one_of, all_numbers}
+use Rattle.reuse_session.specs.session.Forgetting.{IsWithoutOldest, alone}
+use Rattle.reuse_journal.specs.Numbered.{is_one_of, all_numbers, steps_besides, state_besides}
 use Rattle.reuse_journal.specs.History.{Memory}
 use Rattle.reuse_journal.specs.Journal.{Recorded, State}
 use Rattle.reuse_journal.specs.JournalFiles.{number_of, head_of}
 use Rattle.reuse_session.specs.session.Machine.{Kept, Snapshots}
-use Rattle.reuse_session.specs.session.Session.{LeadUpTo, LeadOn, HoldsSnapshots}
+use Rattle.reuse_session.specs.session.Session.{HaveCopies, HoldsSnapshots}
 use Rattle.reuse_journal.specs.Remembered.{Remembers, listed_as}
 use Rattle.reuse_journal.specs.declared.history.ListedEntry.{ListedEntry}
 use Rattle.reuse_session.proofs.lemmas.session.ForgottenSteps.{one_of, is_in, filter_whole, filter_nothing}
@@ -32,30 +31,30 @@ parts_differ a b distinct number h k =
 
 -- ---- a past in two parts
 
--- the steps that led through the trees of two parts
-pub record IsParted (tree : Files) (steps : List Recorded) (recent oldest : List Kept) : Type 0 where
+-- the steps whose copies are in two parts
+pub record IsParted (steps : List Recorded) (recent oldest : List Kept) : Type 0 where
   pub newer : List Recorded
   pub older : List Recorded
   pub parts : steps ≡ newer ++ older
-  pub leads : LeadUpTo tree newer recent
+  pub have : HaveCopies newer recent
   pub numbers : map number_of older ≡ map kept_number oldest
 
-same_numbers : (tree : Files) (steps : List Recorded) (past : List Kept) → LeadUpTo tree steps past → map number_of steps ≡ map kept_number past
-same_numbers tree [] [] up = refl
-same_numbers tree [] (kept ∷ past) up = absurd up
-same_numbers tree (step ∷ steps) [] up = absurd up
-same_numbers tree (step ∷ steps) (kept ∷ past) up = ap₂ (λ n ns. n ∷ ns) (ap (λ l. l.number) (sym up.0)) (same_numbers kept.tree steps past up.2)
+same_numbers : (steps : List Recorded) (copies : List Kept) → HaveCopies steps copies → map number_of steps ≡ map kept_number copies
+same_numbers [] [] have = refl
+same_numbers [] (kept ∷ others) have = absurd have
+same_numbers (step ∷ steps) [] have = absurd have
+same_numbers (step ∷ steps) (kept ∷ others) have = ap₂ (λ n ns. n ∷ ns) (ap (λ l. l.number) (sym have.0)) (same_numbers steps others have.2)
 
-pub parted : (tree : Files) (steps : List Recorded) (recent oldest : List Kept) → LeadUpTo tree steps (recent ++ oldest) → IsParted tree steps recent oldest
-parted tree steps [] oldest up = record { newer = []; older = steps; parts = refl; leads = tt; numbers = same_numbers tree steps oldest up }
-parted tree [] (kept ∷ recent) oldest up = absurd up
-parted tree (step ∷ steps) (kept ∷ recent) oldest up =
-    let rest = parted kept.tree steps recent oldest up.2 in
+pub parted : (steps : List Recorded) (recent oldest : List Kept) → HaveCopies steps (recent ++ oldest) → IsParted steps recent oldest
+parted steps [] oldest have = record { newer = []; older = steps; parts = refl; have = tt; numbers = same_numbers steps oldest have }
+parted [] (kept ∷ recent) oldest have = absurd have
+parted (step ∷ steps) (kept ∷ recent) oldest have =
+    let rest = parted steps recent oldest have.2 in
     record {
       newer = step ∷ rest.newer;
       older = rest.older;
       parts = ap (λ ss. step ∷ ss) rest.parts;
-      leads = (up.0, up.1, rest.leads);
+      have = (have.0, have.1, rest.have);
       numbers = rest.numbers;
     }
 
@@ -65,8 +64,8 @@ number_in : (steps : List Recorded) (step : Recorded) → Contains steps step �
 number_in steps step h = to_map number_of steps step h
 
 module _ (numbers : List ℕ) (held : State) (state next : Snapshots) (holds : HoldsSnapshots held state) (without : IsWithoutOldest numbers state next) (sound : IsSoundHead (head_of held.journal None)) where
-  parts : IsParted state.tree held.journal.done next.past without.oldest
-  parts = parted state.tree held.journal.done next.past without.oldest (subst (LeadUpTo state.tree held.journal.done) without.past holds.past)
+  parts : IsParted held.journal.done next.past without.oldest
+  parts = parted held.journal.done next.past without.oldest (subst (HaveCopies held.journal.done) without.past holds.past)
 
   -- the numbers are those of the older steps
   of_older : (number : ℕ) → Contains numbers number → Contains (map number_of parts.older) number
@@ -128,9 +127,8 @@ module _ (numbers : List ℕ) (held : State) (state next : Snapshots) (holds : H
   pub holds_next : HoldsSnapshots (state_besides numbers held) next
   holds_next = record {
     tree = holds.tree ∙ sym without.tree;
-    past = subst (λ tree. LeadUpTo tree (steps_besides numbers held.journal.done) next.past) (sym without.tree) (subst (λ steps. LeadUpTo state.tree steps next.past) (sym done_left) parts.leads);
-    future = subst (λ tree. LeadOn tree (steps_besides numbers held.journal.undone) next.future) (sym without.tree)
-        (subst (LeadOn state.tree (steps_besides numbers held.journal.undone)) (sym without.future) (subst (λ steps. LeadOn state.tree steps state.future) (sym undone_left) holds.future));
+    past = subst (λ steps. HaveCopies steps next.past) (sym done_left) parts.have;
+    future = subst (HaveCopies (steps_besides numbers held.journal.undone)) (sym without.future) (subst (λ steps. HaveCopies steps state.future) (sym undone_left) holds.future);
     used = holds.used ∙ sym without.used;
   }
 
@@ -154,7 +152,7 @@ module _ (memory : Memory) (held : State) (remembers : Remembers memory held.jou
   pub holds_alone : (state : Snapshots) → HoldsSnapshots held state → HoldsSnapshots (state_besides (all_numbers memory) held) (alone state)
   holds_alone state holds = record {
     tree = holds.tree;
-    past = subst (λ steps. LeadUpTo state.tree steps []) (sym (in_all held.journal.done memory.done remembers.done (λ number h. Contains-append_left _ _ number h))) tt;
-    future = subst (λ steps. LeadOn state.tree steps []) (sym (in_all held.journal.undone memory.undone remembers.undone (λ number h. Contains-append_right _ _ number h))) tt;
+    past = subst (λ steps. HaveCopies steps []) (sym (in_all held.journal.done memory.done remembers.done (λ number h. Contains-append_left _ _ number h))) tt;
+    future = subst (λ steps. HaveCopies steps []) (sym (in_all held.journal.undone memory.undone remembers.undone (λ number h. Contains-append_right _ _ number h))) tt;
     used = holds.used;
   }

@@ -25,8 +25,8 @@ use Rattle.reuse_journal.specs.History.{Memory, numbers_after}
 use Rattle.reuse_journal.specs.Journal.{Recorded, Journal, State}
 use Rattle.reuse_journal.specs.JournalFiles.{entry_path, entry_in, number_of, EntrySays, IsKeptIn, KeepsJournal}
 use Rattle.reuse_session.specs.session.Machine.{Kept, Snapshots}
-use Rattle.reuse_session.specs.session.RevertCalls.{done_after, touched_by, touched_later, differed_later, changed_later, left_of}
-use Rattle.reuse_session.specs.session.Session.{LeadUpTo, HoldsSnapshots}
+use Rattle.reuse_session.specs.session.RevertCalls.{done_after, touched_by, touched_later, kept_after, differed_by, changed_later, left_of}
+use Rattle.reuse_session.specs.session.Session.{HaveCopies, HoldsSnapshots}
 use Rattle.reuse_journal.specs.Remembered.{listed_as, Remembers}
 use Rattle.reuse_journal.specs.declared.history.ListedEntry.{ListedEntry}
 use Rattle.reuse_journal.proofs.JournalLemmas.{same_entry}
@@ -185,25 +185,27 @@ later_kept folder journal number keeps = after_kept folder number journal.done k
 
 -- ---- the machine
 
-touched_as_machine : (number : ℕ) (path : List ℕ) (tree : Files) (steps : List Recorded) (past : List Kept) → LeadUpTo tree steps past → touched_by (done_after number steps) path ≡ differed_later number tree past path
-touched_as_machine number path tree [] [] up = refl
-touched_as_machine number path tree [] (kept ∷ past) up = absurd up
-touched_as_machine number path tree (s ∷ steps) [] up = absurd up
-touched_as_machine number path tree (s ∷ steps) (kept ∷ past) up =
-    ap (λ l. touched_by l path) (take_while-cons (λ (step : Recorded). not (number_of step == number)) s steps)
-    ∙ by_test (number_of s == number) (touched_as_machine number path kept.tree steps past up.2)
-    ∙ ap (λ n. cond (n == number) false (is_among (changed_paths kept.tree tree) path || differed_later number kept.tree past path)) (sym (ap (λ l. l.number) up.0))
-  where
-    here : touches s.changes path ≡ is_among (changed_paths kept.tree tree) path
-    here = touches_among s.changes path ∙ ap (λ ps. is_among ps path) (sym (changed_by_entry s.changes kept.tree tree up.1.good up.1.leads))
+module _ (number : ℕ) (path : List ℕ) where
+  touched_as_machine : (steps : List Recorded) (copies : List Kept) → HaveCopies steps copies → touched_by (done_after number steps) path ≡ differed_by (kept_after number copies) path
+  touched_as_machine [] [] h = refl
+  touched_as_machine [] (kept ∷ others) h = absurd h
+  touched_as_machine (s ∷ steps) [] h = absurd h
+  touched_as_machine (s ∷ steps) (kept ∷ others) h =
+      ap (λ l. touched_by l path) (take_while-cons (λ (step : Recorded). not (number_of step == number)) s steps)
+      ∙ by_test (number_of s == number) (touched_as_machine steps others h.2)
+      ∙ ap (λ n. differed_by (cond (not (n == number)) (kept ∷ kept_after number others) []) path) (sym (ap (λ l. l.number) h.0))
+      ∙ sym (ap (λ l. differed_by l path) (take_while-cons (λ (k : Kept). not (k.label.number == number)) kept others))
+    where
+      here : touches s.changes path ≡ is_among (changed_paths kept.before kept.after) path
+      here = touches_among s.changes path ∙ ap (λ ps. is_among ps path) (sym (changed_by_entry s.changes kept.before kept.after h.1.good h.1.leads))
 
-    by_test : (b : Bool) → touched_by (done_after number steps) path ≡ differed_later number kept.tree past path
-        → touched_by (cond (not b) (s ∷ done_after number steps) []) path ≡ cond b false (is_among (changed_paths kept.tree tree) path || differed_later number kept.tree past path)
-    by_test true rest = refl
-    by_test false rest = ap (λ b. b || touched_by (done_after number steps) path) here ∙ ap (λ b. is_among (changed_paths kept.tree tree) path || b) rest
+      by_test : (b : Bool) → touched_by (done_after number steps) path ≡ differed_by (kept_after number others) path
+          → touched_by (cond (not b) (s ∷ done_after number steps) []) path ≡ differed_by (cond (not b) (kept ∷ kept_after number others) []) path
+      by_test true rest = refl
+      by_test false rest = ap (λ b. b || touched_by (done_after number steps) path) here ∙ ap (λ b. is_among (changed_paths kept.before kept.after) path || b) rest
 
 -- by the machine the same paths changed later
-pub later_as_machine : (held : State) (state : Snapshots) → HoldsSnapshots held state → (number : ℕ) (changes : List Change) → touched_later number held.journal.done changes ≡ changed_later number state.tree state.past changes
+pub later_as_machine : (held : State) (state : Snapshots) → HoldsSnapshots held state → (number : ℕ) (changes : List Change) → touched_later number held.journal.done changes ≡ changed_later number state.past changes
 later_as_machine held state holds number changes =
-    filter_alike (touched_by (done_after number held.journal.done)) (differed_later number state.tree state.past)
-    (λ path. touched_as_machine number path state.tree held.journal.done state.past holds.past) (paths_of changes)
+    filter_alike (touched_by (done_after number held.journal.done)) (differed_by (kept_after number state.past))
+    (λ path. touched_as_machine number path held.journal.done state.past holds.past) (paths_of changes)

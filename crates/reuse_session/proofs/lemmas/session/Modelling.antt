@@ -1,19 +1,21 @@
 -- What a session answers from a committed state is what the model gives in the state that this holds.
-use Rattle.std.proofs.Common.{◌≡◌, ◌⊎◌, inl, inr, ⊎_elim, ◌∙◌, ℕ, Bool, cond, List, [], ◌∷◌, Some, Result, Ok, Err, IfOk, ◌<◌, refl, sym, ap, subst, length, get_or, zero, suc, arith}
+use Rattle.std.proofs.Common.{◌≡◌, ◌⊎◌, inl, inr, ⊎_elim, ◌∙◌, ℕ, Bool, cond, List, [], ◌∷◌, Some, Result, Ok, Err, IfOk, refl, sym, ap, subst, length}
 use Rattle.std.specs.List.{Contains}
 use Rattle.reuse_change.specs.Files.{Files}
 use Rattle.reuse_change.specs.Entry.{paths_of}
 use Rattle.reuse_change.specs.declared.change.Change.{Change}
+use Rattle.reuse_change.specs.declared.direction.Direction.{Direction}
+use Rattle.reuse_change.specs.declared.direction.Direction.TheVariants as go
 use Rattle.reuse_plan.specs.PathOutcomes.{path_outcomes_of}
 use Rattle.reuse_journal.specs.Journal.{State, Recorded}
 use Rattle.reuse_journal.specs.JournalFiles.{number_of}
-use Rattle.reuse_session.specs.session.Machine.{Kept, Snapshots, ran_by, undone, redone, run_path_outcomes}
+use Rattle.reuse_session.specs.session.Machine.{Snapshots, ran_by, run_path_outcomes}
 use Rattle.reuse_journal.specs.Labels.{is_full}
-use Rattle.reuse_session.specs.session.Model.{IsUnkept, ShowsBy, command_back, as_reverted, RevertsTo, PreviewsBack, MakesTo, PreviewsTo, Gives}
+use Rattle.reuse_session.specs.session.Model.{ShowsBy, command_back, as_reverted, ReplaysTo, kept_ahead, RevertsTo, PreviewsBack, MakesTo, PreviewsTo, Gives}
 use Rattle.reuse_session.specs.session.Previews.{run_path_outcomes_on}
 use Rattle.reuse_session.specs.session.Requests.{as_answer, PreviewsRevert, Previews, Makes, LeadsTo, IsAfterCall, IsAfter, IsStopped}
 use Rattle.reuse_session.specs.session.RevertCalls.{Reverts, TakesBack, IsAfterRevert, as_run, changed_or_none, left_of, touched_later}
-use Rattle.reuse_session.specs.session.Session.{HoldsSnapshots, IsRun, LeadOn, Runs}
+use Rattle.reuse_session.specs.session.Session.{HoldsSnapshots, IsReplay, IsRun, Runs}
 use Rattle.reuse_session.specs.session.Showing.{IsUnused, ShowsIn}
 use Rattle.reuse_journal.specs.Standing.{IsStanding}
 use Rattle.reuse_session.specs.session.Stops.{AreLeft}
@@ -30,10 +32,10 @@ use Rattle.reuse_command.specs.declared.request.Call.{Call}
 use Rattle.reuse_command.specs.declared.request.Call.TheVariants as calls
 use Rattle.reuse_command.specs.declared.request.Request.{Request}
 use Rattle.reuse_command.specs.declared.request.Request.TheVariants as requests
-use Rattle.reuse_session.proofs.lemmas.session.Driving.{ran_on, undo_next, redo_next}
-use Rattle.reuse_session.proofs.lemmas.session.Following.{undo_follows, redo_follows, log_follows, is_full_alike}
+use Rattle.reuse_session.proofs.lemmas.session.Driving.{ran_on}
+use Rattle.reuse_session.proofs.lemmas.session.Following.{replay_follows, stopped_replay_follows, log_follows, is_full_alike}
 use Rattle.reuse_session.proofs.lemmas.session.LaterSteps.{later_as_machine}
-use Rattle.reuse_session.proofs.lemmas.session.Previewing.{undo_as_previewed, redo_as_previewed}
+use Rattle.reuse_session.proofs.lemmas.session.Previewing.{replay_as_previewed_to}
 use Rattle.reuse_session.proofs.lemmas.session.RunFollowing.{runs_as_machine}
 use Rattle.reuse_session.proofs.lemmas.session.StepsByNumber.{led_to_tree, shows_at, unkept}
 
@@ -58,17 +60,6 @@ module _ (changes : List Change) where
   reverted_as_run (Ok reverted) is = by_paths reverted.changed reverted.skipped is
   reverted_as_run (Err refusal) is = refl
 
--- no step that leads on from the tree has the number
-unkept_on : (number : ℕ) (tree : Files) (steps : List Recorded) (future : List Kept) → LeadOn tree steps future → IsUnused number steps → IsUnkept number future
-unkept_on number tree steps future on none k d low same = at tree steps future on none k low same
-  where
-    at : (tree : Files) (steps : List Recorded) (future : List Kept) → LeadOn tree steps future → IsUnused number steps → (k : ℕ) → k < length future → (get_or future k d).label.number ≡ number → ⊥
-    at tree [] [] on none k low same = omega (arith, low)
-    at tree [] (kept ∷ future) on none k low same = on
-    at tree (s ∷ steps) [] on none k low same = on
-    at tree (s ∷ steps) (kept ∷ future) on none zero low same = none 0 s (omega arith) (sym (ap (λ l. l.number) on.0) ∙ same)
-    at tree (s ∷ steps) (kept ∷ future) on none (suc k) low same = at kept.tree steps future on.2 (λ i x lt. none (suc i) x (omega (arith, lt))) k (omega (arith, low)) same
-
 module _ (held : State) (state : Snapshots) (holds : HoldsSnapshots held state) where
   -- ---- what only reads
 
@@ -76,7 +67,7 @@ module _ (held : State) (state : Snapshots) (holds : HoldsSnapshots held state) 
   shown_by : (number : ℕ) (shown : Result Shown Refusal) → ShowsIn held.journal number shown → ShowsBy state number shown
   shown_by number (Ok shown) shows = shows_at held state holds number shown shows
   shown_by number (Err refusal) none =
-      (none.0, unkept number state.tree held.journal.done state.past holds.past none.1, unkept_on number state.tree held.journal.undone state.future holds.future none.2)
+      (none.0, unkept number held.journal.done state.past holds.past none.1, unkept number held.journal.undone state.future holds.future none.2)
 
   -- what a run would do
   run_alike : (command : Command) → run_path_outcomes_on held command ≡ run_path_outcomes state command
@@ -87,7 +78,7 @@ module _ (held : State) (state : Snapshots) (holds : HoldsSnapshots held state) 
   -- what a revert would do
   previews_back : (number : ℕ) (skip_moved : Bool) (answer : Result (List PathOutcome) Refusal) → PreviewsRevert number skip_moved held answer → PreviewsBack state number skip_moved answer
   previews_back number skip_moved answer previews =
-      ⊎_elim (λ (none : (answer ≡ Err (NoSuchStep number)) × IsUnused number held.journal.done). inl (none.0, unkept number state.tree held.journal.done state.past holds.past none.1))
+      ⊎_elim (λ (none : (answer ≡ Err (NoSuchStep number)) × IsUnused number held.journal.done). inl (none.0, unkept number held.journal.done state.past holds.past none.1))
       (λ (back : (step : Recorded) × Contains held.journal.done step × (number_of step ≡ number) × (answer ≡ run_path_outcomes_on held (Revert step.changes (touched_later number held.journal.done step.changes) skip_moved))).
       let changes = back.0.changes in
       inr (
@@ -99,8 +90,8 @@ module _ (held : State) (state : Snapshots) (holds : HoldsSnapshots held state) 
 
   pub previews_to : (call : Call) (path_outcomes : Result (List PathOutcome) Refusal) → Previews call held path_outcomes → PreviewsTo state call path_outcomes
   previews_to (calls.Run command) path_outcomes previews = previews ∙ run_alike command
-  previews_to calls.Undo path_outcomes previews = undo_as_previewed held state holds path_outcomes previews
-  previews_to calls.Redo path_outcomes previews = redo_as_previewed held state holds path_outcomes previews
+  previews_to calls.Undo path_outcomes previews = replay_as_previewed_to held state holds go.Backward path_outcomes previews
+  previews_to calls.Redo path_outcomes previews = replay_as_previewed_to held state holds go.Forward path_outcomes previews
   previews_to (calls.Revert number skip_moved) path_outcomes previews = previews_back number skip_moved path_outcomes previews
 
   -- ---- what is made
@@ -110,7 +101,7 @@ module _ (held : State) (state : Snapshots) (holds : HoldsSnapshots held state) 
         → (next : Snapshots) × RevertsTo state number skip_moved when (as_answer responses.Reverted answer) next × HoldsSnapshots left next
     reverts_to number skip_moved when answer left reverts =
         ⊎_elim (λ (none : (answer ≡ Err (NoSuchStep number)) × IsUnused number held.journal.done × (left ≡ held)).
-        (state, inl (ap (as_answer responses.Reverted) none.0, unkept number state.tree held.journal.done state.past holds.past none.1, refl), subst (λ s. HoldsSnapshots s state) (sym none.2) holds))
+        (state, inl (ap (as_answer responses.Reverted) none.0, unkept number held.journal.done state.past holds.past none.1, refl), subst (λ s. HoldsSnapshots s state) (sym none.2) holds))
         (λ (back : TakesBack number skip_moved when held answer left).
         let changes = back.step.changes in
         let runs = subst (λ late. Runs (Revert changes late skip_moved) when held (as_run answer) left) (later_as_machine held state holds number changes) back.runs in
@@ -123,8 +114,8 @@ module _ (held : State) (state : Snapshots) (holds : HoldsSnapshots held state) 
     makes_to : (call : Call) (when : ℕ) (answer : Result Response Refusal) (left : State) → Makes call when held answer left → (next : Snapshots) × MakesTo state call when answer next × HoldsSnapshots left next
     makes_to (calls.Run command) when answer left makes =
         let ran = runs_as_machine held state holds command when answer left standing.good.are_files makes in ((ran_by state command when).1, (ran.0, refl), ran.1)
-    makes_to calls.Undo when answer left makes = let did = undo_follows held state holds left answer makes in ((undone state state.past).1, (did.0, refl), did.1)
-    makes_to calls.Redo when answer left makes = let did = redo_follows held state holds left answer makes in ((redone state state.future).1, (did.0, refl), did.1)
+    makes_to calls.Undo when answer left makes = replay_follows held state holds standing.good.are_files left go.Backward answer makes
+    makes_to calls.Redo when answer left makes = replay_follows held state holds standing.good.are_files left go.Forward answer makes
     makes_to (calls.Revert number skip_moved) when answer left makes =
         let to = reverts_to number skip_moved when makes.0 left makes.2 in
         (to.0, subst (λ a. RevertsTo state number skip_moved when a to.0) (sym makes.1) to.1, to.2)
@@ -153,10 +144,13 @@ module _ (held : State) (state : Snapshots) (holds : HoldsSnapshots held state) 
           ran_on held state holds second command when files standing run,
         )
 
+    after_replay : (way : Direction) (second : State) → IsReplay way held second → (given : Result Response Refusal) × (next : Snapshots) × ReplaysTo way (kept_ahead way state) state given next × HoldsSnapshots second next
+    after_replay way second after = let to = stopped_replay_follows held state holds standing.good.are_files second way after in (to.0, to.1.0, to.1.1, to.1.2)
+
     after_call : (call : Call) (when : ℕ) (second : State) → IsAfterCall call when held second → (given : Result Response Refusal) × (next : Snapshots) × MakesTo state call when given next × HoldsSnapshots second next
     after_call (calls.Run command) when second after = ((ran_by state command when).0, (ran_by state command when).1, (refl, refl), ran_on held state holds second command when files standing after)
-    after_call calls.Undo when second after = ((undone state state.past).0, (undone state state.past).1, (refl, refl), undo_next held state holds second after)
-    after_call calls.Redo when second after = ((redone state state.future).0, (redone state state.future).1, (refl, refl), redo_next held state holds second after)
+    after_call calls.Undo when second after = after_replay go.Backward second after
+    after_call calls.Redo when second after = after_replay go.Forward second after
     after_call (calls.Revert number skip_moved) when second after = after_revert number skip_moved when second after
 
     pub after_as_model : (request : Request) (second : State) → IsAfter request held second → (given : Result Response Refusal) × (next : Snapshots) × Gives state request given next × HoldsSnapshots second next

@@ -10,10 +10,11 @@ use Rattle.reuse_command.specs.Answer.{IsEarly, RefusedAsRead, TellsNoFault, IsE
 use Rattle.reuse_change.specs.Entry.{paths_of, CanBeMade}
 use Rattle.reuse_plan.specs.PathOutcomes.{path_outcomes_of, IsPathOutcomeOf, ArePathOutcomesOf}
 use Rattle.reuse_journal.specs.Journal.{Recorded, State, ahead}
-use Rattle.reuse_session.specs.session.Machine.{Kept, Snapshots, run_path_outcomes, undo_path_outcomes, redo_path_outcomes, step_path_outcomes}
+use Rattle.reuse_session.specs.session.Machine.{Kept, Snapshots, run_path_outcomes}
+use Rattle.reuse_session.specs.session.Model.{PreviewsReplayTo, kept_ahead}
 use Rattle.reuse_journal.specs.Labels.{is_full}
 use Rattle.reuse_session.specs.session.Previews.{path_outcomes_alone, PreviewsReplay, ReadsOnly, run_path_outcomes_on}
-use Rattle.reuse_session.specs.session.Session.{store_of, LeadUpTo, LeadOn, HoldsSnapshots}
+use Rattle.reuse_session.specs.session.Session.{store_of, HaveCopies, HoldsSnapshots}
 use Rattle.reuse_command.specs.declared.command.Command.{Command}
 use Rattle.reuse_change.specs.declared.direction.Direction.{Direction}
 use Rattle.reuse_change.specs.declared.direction.Direction.TheVariants as direction
@@ -23,9 +24,6 @@ use Rattle.reuse_command.specs.declared.path_outcome.Previewed.{Previewed}
 use Rattle.reuse_command.specs.declared.reply.Refusal.{Refusal}
 use Rattle.reuse_command.specs.declared.reply.Refusal.TheVariants as refusals
 use Rattle.reuse_session.specs.declared.session.Session.{Session}
-use Rattle.reuse_session.proofs.lemmas.session.Following.{back_from, on_from}
-use Rattle.reuse_change.proofs.Differ.{changed_by_entry}
-use Rattle.reuse_change.proofs.Walk.{can_lead}
 
 -- ---- the path outcomes of changes
 
@@ -54,29 +52,17 @@ all_change direction tree (c ∷ cs) [] can are = absurd are
 -- ---- the machine
 
 module _ (held : State) (state : Snapshots) (holds : HoldsSnapshots held state) where
-  undo_by_cases : (answer : Result (List PathOutcome) Refusal) (done : List Recorded) (past : List Kept) → LeadUpTo state.tree done past → PreviewsReplay direction.Backward done held.tree answer → answer ≡ undo_path_outcomes state.tree past
-  undo_by_cases answer [] [] h told = told
-  undo_by_cases (Ok path_outcomes) (step ∷ steps) (kept ∷ past) h told =
-      ap (λ fs. Ok fs) (all_change direction.Backward held.tree step.changes path_outcomes (can_lead direction.Backward step.changes held.tree kept.tree h.1.good h.1.are_files.0 (back_from held state holds step.changes kept.tree h.1.leads)) told
-      ∙ ap (map path_outcome.Changes) (sym (changed_by_entry step.changes kept.tree state.tree h.1.good h.1.leads)))
-  undo_by_cases (Err refusal) (step ∷ steps) (kept ∷ past) h told = absurd told
-  undo_by_cases answer [] (kept ∷ past) h told = absurd h
-  undo_by_cases answer (step ∷ steps) [] h told = absurd h
+  by_cases : (go : Direction) (answer : Result (List PathOutcome) Refusal) (steps : List Recorded) (copies : List Kept) → HaveCopies steps copies → PreviewsReplay go steps held.tree answer → PreviewsReplayTo go copies state.tree answer
+  by_cases go answer [] [] h told = told
+  by_cases go (Ok path_outcomes) (step ∷ steps) (kept ∷ others) h told = (step.changes, h.1, subst (λ t. ArePathOutcomesOf go t step.changes path_outcomes) holds.tree told)
+  by_cases go (Err refusal) (step ∷ steps) (kept ∷ others) h told = absurd told
+  by_cases go answer [] (kept ∷ others) h told = absurd h
+  by_cases go answer (step ∷ steps) [] h told = absurd h
 
-  pub undo_as_previewed : (answer : Result (List PathOutcome) Refusal) → PreviewsReplay direction.Backward held.journal.done held.tree answer → answer ≡ undo_path_outcomes state.tree state.past
-  undo_as_previewed answer told = undo_by_cases answer held.journal.done state.past holds.past told
-
-  redo_by_cases : (answer : Result (List PathOutcome) Refusal) (steps : List Recorded) (future : List Kept) → LeadOn state.tree steps future → PreviewsReplay direction.Forward steps held.tree answer → answer ≡ redo_path_outcomes state.tree future
-  redo_by_cases answer [] [] h told = told
-  redo_by_cases (Ok path_outcomes) (step ∷ steps) (kept ∷ future) h told =
-      ap (λ fs. Ok fs) (all_change direction.Forward held.tree step.changes path_outcomes (can_lead direction.Forward step.changes held.tree kept.tree h.1.good h.1.are_files.1 (on_from held state holds step.changes kept.tree h.1.leads)) told
-      ∙ ap (map path_outcome.Changes) (sym (changed_by_entry step.changes state.tree kept.tree h.1.good h.1.leads)))
-  redo_by_cases (Err refusal) (step ∷ steps) (kept ∷ future) h told = absurd told
-  redo_by_cases answer [] (kept ∷ future) h told = absurd h
-  redo_by_cases answer (step ∷ steps) [] h told = absurd h
-
-  pub redo_as_previewed : (answer : Result (List PathOutcome) Refusal) → PreviewsReplay direction.Forward held.journal.undone held.tree answer → answer ≡ redo_path_outcomes state.tree state.future
-  redo_as_previewed answer told = redo_by_cases answer held.journal.undone state.future holds.future told
+  -- what going one step this way tells
+  pub replay_as_previewed_to : (go : Direction) (answer : Result (List PathOutcome) Refusal) → PreviewsReplay go (ahead go held.journal) held.tree answer → PreviewsReplayTo go (kept_ahead go state) state.tree answer
+  replay_as_previewed_to direction.Backward answer told = by_cases direction.Backward answer held.journal.done state.past holds.past told
+  replay_as_previewed_to direction.Forward answer told = by_cases direction.Forward answer held.journal.undone state.future holds.future told
 
 -- a refusal that tells a fault isn't told
 pub look_told : (A : Type 0) (refusal : Refusal) → IsEarlyFailure refusal → TellsNoFault {A = A} (Err refusal) → ⊥
@@ -107,12 +93,6 @@ pub replay_as_previewed : (direction : Direction) (step : Recorded) (steps : Lis
     → IfOk answer (ArePathOutcomesOf direction now made) → IfErr answer IsEarlyFailure → TellsNoFault answer → PreviewsReplay direction (step ∷ steps) tree answer
 replay_as_previewed direction step steps made tree now (Ok path_outcomes) changes same are kind told = subst (λ t. ArePathOutcomesOf direction t step.changes path_outcomes) same (subst (λ cs. ArePathOutcomesOf direction now cs path_outcomes) (sym changes) are)
 replay_as_previewed direction step steps made tree now (Err refusal) changes same are kind told = absurd (look_told (List PathOutcome) refusal kind told)
-
--- what going one step this way tells
-pub step_as_previewed : (go : Direction) (held : State) (state : Snapshots) → HoldsSnapshots held state → (answer : Result (List PathOutcome) Refusal) → PreviewsReplay go (ahead go held.journal) held.tree answer
-    → answer ≡ step_path_outcomes go state
-step_as_previewed direction.Backward held state holds answer told = undo_as_previewed held state holds answer told
-step_as_previewed direction.Forward held state holds answer told = redo_as_previewed held state holds answer told
 
 -- ---- path outcomes with their changes, and without
 

@@ -1,20 +1,17 @@
 -- How an undo and a redo answer a request: alike, but for their direction.
 use Rattle.std.proofs.Common.{◌≡◌, ◌↔◌, true, List, [], ◌∷◌, Result, Ok, Err, IfErr, refl, sym, subst}
 use Rattle.reuse_change.specs.Files.{Files, Clashes}
-use Rattle.reuse_tree.specs.Head.{listed_direction}
 use Rattle.reuse_change.specs.declared.direction.Direction.{Direction}
 use Rattle.reuse_change.specs.declared.direction.Direction.TheVariants as direction
-use Rattle.reuse_tree.specs.declared.journal.head.PendingDirection.{PendingDirection}
 use Rattle.reuse_store.specs.declared.store.Store.{Ghosts}
 use Rattle.reuse_journal.specs.Journal.{Recorded, State, Replays, ahead}
 use Rattle.reuse_journal.specs.JournalFiles.{head_path}
-use Rattle.reuse_journal.specs.Losses.{IsNextBy, Survives}
+use Rattle.reuse_journal.specs.Losses.{Survives}
 use Rattle.reuse_session.specs.session.SafeCalls.{SurvivesCall}
-use Rattle.reuse_journal.specs.Standing.{InDoubt}
 use Rattle.reuse_command.specs.Answer.{HasClash, IsStop, TellsNoFault}
 use Rattle.reuse_session.specs.session.Calls.{files_of, folder_of, IsCall, LeavesReplay}
 use Rattle.reuse_session.specs.session.Requests.{IsReading, MayFail, IfFailed, LeadsTo, IsStopped, HasCallClash, KeepsFolder, SurvivesRequest, as_step, IsAnswered}
-use Rattle.reuse_session.specs.session.Session.{store_of, is_broken, StandsOn, StopsAfter}
+use Rattle.reuse_session.specs.session.Session.{store_of, is_broken, IsReplay, StandsOn, StopsAfterReplay}
 use Rattle.reuse_journal.specs.Remembered.{IsSameBut}
 use Rattle.reuse_command.specs.declared.reply.Refusal.{Refusal}
 use Rattle.reuse_command.specs.declared.reply.Refusal.TheVariants.{Broken}
@@ -41,19 +38,13 @@ replay_is_step go steps held Stands (Ok (responses.Reverted reverted)) exact = l
 replay_is_step go steps held Stands (Ok reply) exact = refl
 replay_is_step go steps held Stands (Err refusal) exact = refl
 
--- where it stopped, the next state is that after its step
-replay_doubt : (direction : PendingDirection) (held : State) (files : Files) (answer : Result Response Refusal) → IfErr answer (λ refusal. IsStop refusal → StopsAfter direction held files)
-    → IfErr answer (λ refusal. IsStop refusal → (second : State) × IsNextBy direction held second × InDoubt held second files)
-replay_doubt direction held files (Ok reply) doubt = tt
-replay_doubt direction held files (Err refusal) doubt = λ stop. let left = doubt stop in (left.0, (left.1, left.2), left.3)
-
 -- It answers each request of which the request's clauses say what those of the direction say.
 module _ {S : Type 0} (store : Ghosts S) (go : Direction) (request : Request) (answer : Result Response Refusal) (old new : Session S)
     (makes : IsReading request → ⊥) (fails : IfErr answer (IfFailed (MayFail request)))
     (leads : (held left : State) → Replays go (ahead go held.journal) held answer left → LeadsTo request held answer left)
-    (stops : (held : State) → IfErr answer (λ refusal. IsStop refusal → (second : State) × IsNextBy (listed_direction go) held second × InDoubt held second (files_of store new))
+    (stops : (held : State) → IfErr answer (λ refusal. IsStop refusal → StopsAfterReplay go held (files_of store new))
     → IfErr answer (λ refusal. IsStop refusal → IsStopped request held (files_of store new)))
-    (survives : (earlier held : State) → Survives store (IsNextBy (listed_direction go) held) earlier held (as_step answer) (store_of new)
+    (survives : (earlier held : State) → Survives store (IsReplay go held) earlier held (as_step answer) (store_of new)
     → SurvivesRequest store request earlier held answer (store_of new))
     (clashes : (held : State) → IfErr answer (HasClash ⊥ (Clashes (files_of store old) head_path)) → IfErr answer (HasCallClash request held (files_of store old)))
     (keeps : (held : State) → IsSameBut head_path (folder_of store old) (folder_of store new) → KeepsFolder request held (files_of store old) (files_of store new))
@@ -61,17 +52,17 @@ module _ {S : Type 0} (store : Ghosts S) (go : Direction) (request : Request) (a
     pub replay_answers : (answer ≡ Err Broken) ↔ (is_broken old ≡ true)
         → (store.honest (store_of new) → (held : State) → StandsOn store.files old held
         → TellsNoFault answer → (left : State) × StandsOn store.files new left × Replays go (ahead go held.journal) held answer left)
-        → SurvivesCall store (IsNextBy (listed_direction go)) answer old new → IsCall store answer old new → LeavesReplay store go answer old new
+        → SurvivesCall store (IsReplay go) answer old new → IsCall store answer old new → LeavesReplay store go answer old new
         → IsAnswered store request answer old new
     replay_answers broken exact survived call leaves = record {
       broken = broken;
       exact = λ honest held stands told. let e = exact honest held stands told in (e.0, e.1, leads held e.0 e.2);
       stands = λ honest held stands.
           stands_early store.files old new held answer stands call.refused (early_files store (store_of old) (store_of new) answer leaves.early honest);
-      doubt = λ honest held stands. stops held (replay_doubt (listed_direction go) held (files_of store new) answer (leaves.doubt honest held stands));
+      doubt = λ honest held stands. stops held (leaves.doubt honest held stands);
       fails = fails;
       survives = λ honest earlier held stands safe.
-          survives earlier held (subst (λ a. Survives store (IsNextBy (listed_direction go) held) earlier held a (store_of new))
+          survives earlier held (subst (λ a. Survives store (IsReplay go held) earlier held a (store_of new))
           (sym (replay_is_step go (ahead go held.journal) held (StandsOn store.files new) answer (exact honest held stands))) (survived honest earlier held stands safe));
       reads_only = λ look. absurd (makes look);
       kept = λ look. absurd (makes look);

@@ -12,7 +12,7 @@ use Rattle.reuse_tree.specs.Head.{listed_direction, direction_of, IsSoundHead}
 use Rattle.reuse_journal.specs.History.{Memory, head_listing, entries_ahead, remember_moved}
 use Rattle.reuse_journal.specs.Journal.{Recorded, Journal, State, Replays, ahead, next_count, moved_on, end_of, reply_of}
 use Rattle.reuse_journal.specs.JournalFiles.{head_path, IsFree, entry_path, entry_in, number_of, EntrySays, IsKeptIn, KeepsJournal}
-use Rattle.reuse_session.specs.session.Session.{store_of, memory_of, IsStepOf, StandsOn}
+use Rattle.reuse_session.specs.session.Session.{store_of, memory_of, IsReplay, IsStepOf, StandsOn}
 use Rattle.reuse_journal.specs.Remembered.{listed_count, head_room, IsSameBut, HasHeadText, Remembers}
 use Rattle.reuse_journal.specs.Standing.{IsStep, InDoubt, Mutations}
 use Rattle.reuse_change.specs.Tree.{undo_folder_of}
@@ -109,6 +109,7 @@ pub record Prepared {S : Type 0} (files : S → Files) (direction : Direction) (
   pub stands : StandsOn files session held
   pub is : IsStepOf (undo_folder_of (files (store_of session))) made pending moved held second
   pub goes : IsStep (listed_direction direction) is.step held second
+  pub can : All (CanBeMade direction held.tree) is.step.changes
   pub replays : (given : Response) → given ≡ reply_of direction (paths_of made) → Replays direction (ahead direction held.journal) held (Ok given) second
   pub many : listed_count moved ≡ listed_count (memory_of session)
   pub next : next_count (ahead direction held.journal) ≡ length made
@@ -140,11 +141,17 @@ prepared {direction} files session {entry} {moved} {held} made pending stands ne
         room = λ is. absurd (listed_is_not_new direction (sym is_direction ∙ is));
       };
       goes = goes;
+      can = subst (All (CanBeMade direction held.tree)) (sym same) all;
       replays = λ given given_is. subst (λ steps. Replays direction steps held (Ok given) second) (sym next.list)
           (given_is ∙ ap (λ cs. reply_of direction (paths_of cs)) (sym same), subst (All (CanBeMade direction held.tree)) (sym same) all, subst (λ cs. LeadsBy direction cs held.tree reach.0) (sym same) reach.1, refl);
       many = as_many direction next.step next.steps held.journal (memory_of session) moved next.list stands.remembers next.remembers;
       next = ap next_count next.list ∙ ap length same;
     }
+
+-- so the standing after it is that after an undo or a redo
+pub is_replay : {S : Type 0} (files : S → Files) (direction : Direction) (session : Session S) (made : List Change) (pending : Pending) (moved : Memory) (held : State)
+    → (at : Prepared files direction session made pending moved held) → IsReplay direction held at.second
+is_replay files direction session made pending moved held at = record { step = at.is.step; is_step = at.goes; can = at.can }
 
 -- so it is once the entry is read and its changes are tested
 pub ready : {S : Type 0} (store : Ghosts S) (direction : Direction) (old : Session S) (listed : ListedEntry) (front : List ListedEntry) → entries_ahead direction (memory_of old) ≡ front ++ listed ∷ []
@@ -218,7 +225,7 @@ module _ {S : Type 0} (store : Ghosts S) (direction : Direction) (old new : Sess
       early = λ early. subst (λ s. OnlyReads store (store_of old) (store_of s)) (sym (refused early)) reads;
       doubt = λ honest held stands stop.
           let at = ready (was_honest honest) held stands in
-          (at.second, at.is.step, at.goes, mutations honest held at.second at.stands at.is stop);
+          (at.second, is_replay store.files direction (record old { store = read }) made pending moved held at, mutations honest held at.second at.stands at.is stop);
       late = λ stop. omega (arith, late good stop, reads.written);
       folder = folder_left;
       texts = λ honest. tt;

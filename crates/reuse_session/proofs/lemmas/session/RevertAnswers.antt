@@ -94,10 +94,10 @@ module _ (held left : State) (number : ℕ) (skip : Bool) (when : ℕ) (changes 
         inr (
           cs,
           led_to_tree stands_at.held state stands_at.holds back.step number h back.numbered,
-          follows_exact files new state stands_at (Revert cs (changed_later number state.tree state.past cs) skip) when (as_run result) (
+          follows_exact files new state stands_at (Revert cs (changed_later number state.past cs) skip) when (as_run result) (
             left,
             stands_left,
-            subst (λ (s : State). Runs (Revert back.step.changes (changed_later number state.tree state.past back.step.changes) skip) when s (as_run result) left) is_held ran,
+            subst (λ (s : State). Runs (Revert back.step.changes (changed_later number state.past back.step.changes) skip) when s (as_run result) left) is_held ran,
           ),
         )
 
@@ -108,7 +108,7 @@ absent_step files session held stands number none = unused (memory_of session) h
 pub absent_follows : {S : Type 0} (files : S → Files) (session : Session S) (state : Snapshots) (stands_at : StandsAt files session state) (number : ℕ) (skip : Bool) (when : ℕ) → lists (memory_of session).done number ≡ false
     → RevertFollows files number skip when state (Err (NoSuchStep number)) session
 absent_follows files session state stands_at number skip when none =
-    inl (refl, unkept number state.tree stands_at.held.journal.done state.past stands_at.holds.past (absent_step files session stands_at.held stands_at.stands number none), stands_at)
+    inl (refl, unkept number stands_at.held.journal.done state.past stands_at.holds.past (absent_step files session stands_at.held stands_at.stands number none), stands_at)
 
 -- where nothing can be taken back and no fault is told, there is no such step
 pub no_step_back : (number : ℕ) (refusal : Refusal) → (refusal ≡ NoSuchStep number) ⊎ IsReadRefusal refusal → TellsNoFault {A = Response} (Err refusal) → ((path : List ℕ) → refusal ≡ BadJournal path → ⊥) → refusal ≡ NoSuchStep number

@@ -9,15 +9,14 @@ use Rattle.std.proofs.lemmas.List.Elements.{Contains-append_left, Contains-appen
 use Rattle.std.proofs.lemmas.List.Folds.{list_any_at, Any-from_list_any}
 use Rattle.reuse_change.specs.Files.{Files}
 use Rattle.reuse_command.specs.Answer.{IsReadRefusal}
-use Rattle.reuse_change.specs.Entry.{IsEntry, LeadsAll}
 use Rattle.reuse_journal.specs.History.{Memory, row_listing}
 use Rattle.reuse_journal.specs.Journal.{Recorded, Journal, State, rows_in}
 use Rattle.reuse_journal.specs.JournalFiles.{entry_path, entry_in, number_of, EntrySays, IsKeptIn, KeepsJournal}
-use Rattle.reuse_session.specs.session.Machine.{Kept, Snapshots}
+use Rattle.reuse_session.specs.session.Machine.{Connects, Kept, Snapshots}
 use Rattle.reuse_journal.specs.Labels.{row_of}
-use Rattle.reuse_session.specs.session.Session.{store_of, memory_of, StandsOn, HoldsSnapshots, Connects, LeadUpTo, LeadOn}
+use Rattle.reuse_session.specs.session.Session.{store_of, memory_of, StandsOn, HoldsSnapshots, HaveCopies}
 use Rattle.reuse_journal.specs.Remembered.{listed_as, Remembers}
-use Rattle.reuse_session.specs.session.Showing.{steps_in, IsUnused, Shows, ShowsAt, LedTo, LedOn}
+use Rattle.reuse_session.specs.session.Showing.{steps_in, kept_in, IsUnused, Shows, ShowsAt, LedBy}
 use Rattle.reuse_journal.specs.Numbered.{entry_of, row_among, row_in}
 use Rattle.reuse_journal.specs.Numbered.{lists}
 use Rattle.reuse_change.specs.Tree.{undo_folder_of}
@@ -28,7 +27,7 @@ use Rattle.reuse_command.specs.declared.reply.Refusal.TheVariants.{NoSuchStep}
 use Rattle.reuse_command.specs.declared.reply.Row.{Row}
 use Rattle.reuse_command.specs.declared.reply.Shown.{Shown}
 use Rattle.reuse_session.specs.declared.session.Session.{Session}
-use Rattle.reuse_session.proofs.lemmas.session.Following.{log_follows}
+use Rattle.reuse_session.proofs.lemmas.session.Following.{row_alike}
 use Rattle.reuse_journal.proofs.JournalLemmas.{same_entry}
 
 -- ---- lists
@@ -211,54 +210,45 @@ read_is_no_absence refusal is number e = subst IsReadRefusal e is
 
 -- ---- the machine
 
--- a step that connects two trees has the number and leads from the one to the other
-connected : (number : ℕ) (step found : Recorded) (kept : Kept) (before after : Files) → kept.label ≡ found.label → Connects found before after → found ≡ step → number_of step ≡ number
-    → (kept.label.number ≡ number) × IsEntry step.changes × LeadsAll step.changes before after
-connected number step found kept before after label connects same e =
-    subst (λ (x : Recorded). (kept.label.number ≡ number) × IsEntry x.changes × LeadsAll x.changes before after) same (ap (λ l. l.number) label ∙ ap number_of same ∙ e, connects.good, connects.leads)
-
-led_to : (number : ℕ) (step : Recorded) (tree : Files) (steps : List Recorded) (past : List Kept) → LeadUpTo tree steps past → Contains steps step → number_of step ≡ number → LedTo number step.changes tree past
-led_to number step tree [] past up h e = absurd (omega (arith, h.1))
-led_to number step tree (s ∷ steps) [] up h e = absurd up
-led_to number step tree (s ∷ steps) (kept ∷ past) up h e = elim (first_or_later s steps step h) [
-  | inl same ↦ inl (connected number step s kept kept.tree tree up.0 up.1 same e)
-  | inr behind ↦ inr (led_to number step kept.tree steps past up.2 behind e)
+-- a step has its copies
+pub copies_of : (steps : List Recorded) (copies : List Kept) → HaveCopies steps copies → (step : Recorded) → Contains steps step
+    → (kept : Kept) × Contains copies kept × (kept.label ≡ step.label) × Connects step.changes kept.before kept.after
+copies_of [] copies have step h = absurd (omega (arith, h.1))
+copies_of (s ∷ steps) [] have step h = absurd have
+copies_of (s ∷ steps) (kept ∷ others) have step h = elim (first_or_later s steps step h) [
+  | inl same ↦ (kept, (0, omega arith, refl), have.0 ∙ ap (λ (x : Recorded). x.label) same, subst (λ (x : Recorded). Connects x.changes kept.before kept.after) same have.1)
+  | inr behind ↦ let r = copies_of steps others have.2 step behind in (r.0, later kept others r.0 r.1, r.2, r.3)
 ]
 
-led_on : (number : ℕ) (step : Recorded) (tree : Files) (steps : List Recorded) (future : List Kept) → LeadOn tree steps future → Contains steps step → number_of step ≡ number → LedOn number step.changes tree future
-led_on number step tree [] future on h e = absurd (omega (arith, h.1))
-led_on number step tree (s ∷ steps) [] on h e = absurd on
-led_on number step tree (s ∷ steps) (kept ∷ future) on h e = elim (first_or_later s steps step h) [
-  | inl same ↦ inl (connected number step s kept tree kept.tree on.0 on.1 same e)
-  | inr behind ↦ inr (led_on number step kept.tree steps future on.2 behind e)
-]
+led_by : (number : ℕ) (step : Recorded) (steps : List Recorded) (copies : List Kept) → HaveCopies steps copies → Contains steps step → number_of step ≡ number → LedBy number copies step.changes
+led_by number step steps copies have h e =
+    let r = copies_of steps copies have step h in
+    record { kept = r.0; is_in = r.1; numbered = ap (λ l. l.number) r.2 ∙ e; connects = r.3 }
 
--- no tree that is kept has the number
-pub unkept : (number : ℕ) (tree : Files) (steps : List Recorded) (past : List Kept) → LeadUpTo tree steps past → IsUnused number steps → All (λ (kept : Kept). ¬ (kept.label.number ≡ number)) past
-unkept number tree steps past up none k d low same = at tree steps past up none k low same
+-- no step that is kept has the number
+pub unkept : (number : ℕ) (steps : List Recorded) (copies : List Kept) → HaveCopies steps copies → IsUnused number steps → All (λ (kept : Kept). ¬ (kept.label.number ≡ number)) copies
+unkept number steps copies have none k d low same = at steps copies have none k low same
   where
-    at : (tree : Files) (steps : List Recorded) (past : List Kept) → LeadUpTo tree steps past → IsUnused number steps → (k : ℕ) → k < length past → (get_or past k d).label.number ≡ number → ⊥
-    at tree [] [] up none k low same = omega (arith, low)
-    at tree [] (kept ∷ past) up none k low same = up
-    at tree (s ∷ steps) [] up none k low same = up
-    at tree (s ∷ steps) (kept ∷ past) up none zero low same = none 0 s (omega arith) (sym (ap (λ l. l.number) up.0) ∙ same)
-    at tree (s ∷ steps) (kept ∷ past) up none (suc k) low same = at kept.tree steps past up.2 (λ i x lt. none (suc i) x (omega (arith, lt))) k (omega (arith, low)) same
+    at : (steps : List Recorded) (copies : List Kept) → HaveCopies steps copies → IsUnused number steps → (k : ℕ) → k < length copies → (get_or copies k d).label.number ≡ number → ⊥
+    at [] [] have none k low same = omega (arith, low)
+    at [] (kept ∷ others) have none k low same = have
+    at (s ∷ steps) [] have none k low same = have
+    at (s ∷ steps) (kept ∷ others) have none zero low same = none 0 s (omega arith) (sym (ap (λ l. l.number) have.0) ∙ same)
+    at (s ∷ steps) (kept ∷ others) have none (suc k) low same = at steps others have.2 (λ i x lt. none (suc i) x (omega (arith, lt))) k (omega (arith, low)) same
 
-pub led_to_tree : (held : State) (state : Snapshots) → HoldsSnapshots held state → (step : Recorded) (number : ℕ) → Contains held.journal.done step → number_of step ≡ number → LedTo number step.changes state.tree state.past
-led_to_tree held state holds step number h e = led_to number step state.tree held.journal.done state.past holds.past h e
+module _ (held : State) (state : Snapshots) (holds : HoldsSnapshots held state) where
+  pub led_to_tree : (step : Recorded) (number : ℕ) → Contains held.journal.done step → number_of step ≡ number → LedBy number state.past step.changes
+  led_to_tree step number h e = led_by number step held.journal.done state.past holds.past h e
 
--- what is shown is of the machine
-pub shows_at : (held : State) (state : Snapshots) → HoldsSnapshots held state → (number : ℕ) (shown : Shown) → Shows held.journal number shown → ShowsAt state number shown
-shows_at held state holds number shown found = record {
-  row = subst (λ rows. Contains rows shown.row) (log_follows held state holds) (subst (Contains (rows_in held.journal)) (sym found.row) (by_end shown.row.done found.is_in));
-  numbered = ap (λ (r : Row). r.number) found.row ∙ found.numbered;
-  changes = subst (λ cs. LedTo number cs state.tree state.past ⊎ LedOn number cs state.tree state.future) (sym found.changes) (led shown.row.done found.is_in);
-}
-  where
-    by_end : (done : Bool) → Contains (steps_in done held.journal) found.step → Contains (rows_in held.journal) (row_of found.step.label (length found.step.changes) done)
-    by_end true h = Contains-append_left _ _ _ (to_map (λ (step : Recorded). row_of step.label (length step.changes) true) (reverse held.journal.done) found.step (to_reverse held.journal.done found.step h))
-    by_end false h = Contains-append_right _ _ _ (to_map (λ (step : Recorded). row_of step.label (length step.changes) false) held.journal.undone found.step h)
+  copies_in : (is_done : Bool) → HaveCopies (steps_in is_done held.journal) (kept_in is_done state)
+  copies_in true = holds.past
+  copies_in false = holds.future
 
-    led : (done : Bool) → Contains (steps_in done held.journal) found.step → LedTo number found.step.changes state.tree state.past ⊎ LedOn number found.step.changes state.tree state.future
-    led true h = inl (led_to number found.step state.tree held.journal.done state.past holds.past h found.numbered)
-    led false h = inr (led_on number found.step state.tree held.journal.undone state.future holds.future h found.numbered)
+  -- what is shown is of the machine
+  pub shows_at : (number : ℕ) (shown : Shown) → Shows held.journal number shown → ShowsAt state number shown
+  shows_at number shown found =
+      let r = copies_of (steps_in shown.row.done held.journal) (kept_in shown.row.done state) (copies_in shown.row.done) found.step found.is_in in
+      record {
+        step = record { kept = r.0; is_in = r.1; numbered = ap (λ l. l.number) r.2 ∙ found.numbered; connects = subst (λ cs. Connects cs r.0.before r.0.after) (sym found.changes) r.3 };
+        row = found.row ∙ row_alike shown.row.done found.step r.0 r.2 r.3;
+      }

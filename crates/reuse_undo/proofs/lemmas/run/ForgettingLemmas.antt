@@ -3,7 +3,8 @@ use Rattle.std.proofs.Common.{◌≡◌, ◌⊎◌, inr, ℕ, List, Result, Ok, 
 use Rattle.std.specs.Prelude.{IfOk}
 use Rattle.reuse_change.specs.Files.{Files}
 use Rattle.reuse_command.specs.Answer.{IsEarly, IsStop, TellsNoFault}
-use Rattle.reuse_session.specs.session.Forgetting.{Forgets, IsForgetRefusal, state_besides}
+use Rattle.reuse_session.specs.session.Forgetting.{Forgets, IsForgetRefusal}
+use Rattle.reuse_journal.specs.Numbered.{state_besides}
 use Rattle.reuse_journal.specs.Journal.{State}
 use Rattle.reuse_journal.specs.Opening.{OpensOn}
 use Rattle.reuse_session.specs.session.Session.{store_of, StandsOn}
@@ -13,7 +14,7 @@ use Rattle.reuse_command.specs.declared.failure.Failure.TheVariants.{Memory, Int
 use Rattle.reuse_command.specs.declared.reply.Refusal.TheVariants.{Broken, NoSuchStep, Failed}
 use Rattle.reuse_session.specs.declared.session.Session.{Session}
 use Rattle.reuse_undo.specs.run.Forgotten.{asked_numbers, HasForgotten, RefusesFrom, RefusesToForget}
-use Rattle.reuse_arguments.specs.declared.line.Steps.{Steps}
+use Rattle.reuse_command.specs.declared.request.Steps.{Steps}
 
 -- what is answered exactly
 pub forgets_exactly : {S : Type 0} (files : S → Files) (new : Session S) (numbers : List ℕ) (held : State) (result : Result (List ℕ) Refusal)

@@ -1,7 +1,7 @@
 use Rattle.std.proofs.Common.{ℕ, ◌≤◌, List, Err, None, length, sym, ap, subst, ◌∙◌}
 use Rattle.reuse_tree.specs.Head.{IsGoodHead}
-use Rattle.reuse_session.specs.session.Forgetting.{AreInOrder, state_besides}
-use Rattle.reuse_journal.specs.Numbered.{memory_besides}
+use Rattle.reuse_session.specs.session.Forgetting.{AreInOrder}
+use Rattle.reuse_journal.specs.Numbered.{memory_besides, state_besides}
 use Rattle.reuse_journal.specs.History.{Memory, head_listing}
 use Rattle.reuse_session.specs.session.Session.{store_of, memory_of}
 use Rattle.reuse_journal.specs.Remembered.{listed_count, head_room, Remembers}

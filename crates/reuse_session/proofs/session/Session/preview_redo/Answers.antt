@@ -1,5 +1,6 @@
-use Rattle.std.proofs.Common.{◌∙◌, sym, subst}
+use Rattle.std.proofs.Common.{sym, subst}
 use Rattle.reuse_change.specs.declared.direction.Direction.TheVariants as go
+use Rattle.reuse_session.specs.session.Model.{PreviewsReplayTo}
 use Rattle.reuse_session.specs.session.Previews.{PreviewsReplay}
 use Rattle.reuse_session.proofs.lemmas.session.Previewing.{alone_err, alone_looks, alone_where, told_alone}
 use Rattle.reuse_session.proofs.session.Session.preview_redo.Goals as goal
@@ -17,7 +18,8 @@ returns-clause-exact g c honest held stands told =
 
 pub returns-clause-machine : goal.returns-clause-machine
 returns-clause-machine g c honest state stands_at told =
-    c.path_outcomes_alone.ensures ∙ c.preview_step.ensures.machine honest state stands_at (told_alone c.preview_step.result c.path_outcomes_alone.result c.path_outcomes_alone.ensures told)
+    subst (PreviewsReplayTo go.Forward state.future state.tree) (sym c.path_outcomes_alone.ensures)
+    (c.preview_step.ensures.machine honest state stands_at (told_alone c.preview_step.result c.path_outcomes_alone.result c.path_outcomes_alone.ensures told))
 
 pub returns-clause-reads_only : goal.returns-clause-reads_only
 returns-clause-reads_only g c = alone_looks c.preview_step.result c.path_outcomes_alone.result c.path_outcomes_alone.ensures g.S.Store c.args.self.now c.preview_step.new.self c.preview_step.ensures.reads_only

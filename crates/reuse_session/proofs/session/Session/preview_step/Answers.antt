@@ -2,7 +2,7 @@ use Rattle.std.proofs.Common.{Err, ap, sym, subst}
 use Rattle.reuse_session.specs.session.Previews.{path_outcomes_alone, PreviewsReplay}
 use Rattle.reuse_session.specs.session.Session.{memory_of}
 use Rattle.reuse_journal.proofs.MemoryLemmas.{none_ahead}
-use Rattle.reuse_session.proofs.lemmas.session.Previewing.{step_as_previewed}
+use Rattle.reuse_session.proofs.lemmas.session.Previewing.{replay_as_previewed_to}
 use Rattle.reuse_plan.proofs.Results.{none_unless_some}
 use Rattle.reuse_session.proofs.session.Session.preview_step.Goals as goal
 
@@ -14,8 +14,8 @@ returns-in_default-clause-exact g c honest held stands told =
 
 pub returns-in_default-clause-machine : goal.returns-in_default-clause-machine
 returns-in_default-clause-machine g c honest state stands_at told =
-    step_as_previewed c.args.direction stands_at.held state stands_at.holds _ (returns-in_default-clause-exact g c honest stands_at.held stands_at.stands told)
+    replay_as_previewed_to stands_at.held state stands_at.holds c.args.direction _ (returns-in_default-clause-exact g c honest stands_at.held stands_at.stands told)
 
 pub returns-clause-machine : goal.returns-clause-machine
 returns-clause-machine g c honest state stands_at told =
-    step_as_previewed c.args.direction stands_at.held state stands_at.holds (path_outcomes_alone c.preview_listed.result) (c.preview_listed.ensures.exact honest stands_at.held stands_at.stands told)
+    replay_as_previewed_to stands_at.held state stands_at.holds c.args.direction (path_outcomes_alone c.preview_listed.result) (c.preview_listed.ensures.exact honest stands_at.held stands_at.stands told)

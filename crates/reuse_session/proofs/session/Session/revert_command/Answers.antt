@@ -27,7 +27,7 @@ returns-in_err-changes-clause-machine g c honest state stands_at told =
     (λ path e. c.read_back.ensures.good honest held.journal stands.remembers stands.standing.journal path (c.in_err-changes.was ∙ ap (λ x. Err x) e)) in
     subst (GivesRevertAt c.args.number c.args.skip_moved state) (sym is) (
       none,
-      unkept c.args.number state.tree held.journal.done state.past stands_at.holds.past
+      unkept c.args.number held.journal.done state.past stands_at.holds.past
           (absent_step g.S.Store.files c.args.self.now held stands c.args.number (c.read_back.ensures.absent.0 (c.in_err-changes.was ∙ ap (λ x. Err x) none))),
     )
 

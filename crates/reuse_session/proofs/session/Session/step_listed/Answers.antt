@@ -7,9 +7,9 @@ use Rattle.reuse_change.specs.Entry.{IsEntry, CanBeMade, IsFirstStuck}
 use Rattle.reuse_tree.specs.Head.{direction_of, listed_direction}
 use Rattle.reuse_journal.specs.Journal.{Recorded, State, Replays, ahead, reply_of}
 use Rattle.reuse_journal.specs.JournalFiles.{entry_in, IsKeptIn}
-use Rattle.reuse_journal.specs.Losses.{AreSafeOn, IsNextBy, Survives}
+use Rattle.reuse_journal.specs.Losses.{AreSafeOn, Survives}
 use Rattle.reuse_journal.specs.Standing.{IsStep}
-use Rattle.reuse_session.specs.session.Session.{store_of, StandsOn}
+use Rattle.reuse_session.specs.session.Session.{store_of, IsReplay, StandsOn}
 use Rattle.reuse_tree.specs.declared.journal.head.Pending.{Pending}
 use Rattle.reuse_session.proofs.lemmas.session.Following.{names_path}
 use Rattle.reuse_store.specs.Asked.{OnlyReads, Leaves}
@@ -18,7 +18,7 @@ use Rattle.reuse_store.proofs.AskedLemmas.{reads_more}
 use Rattle.reuse_command.proofs.OnlyReading.{is_refused, read_early, tested_early}
 use Rattle.reuse_session.proofs.lemmas.journal.StepDoubt.{kept_next, reads_are_safe, safe_entries, survives_early, survives_stop, survives_replay}
 use Rattle.reuse_session.proofs.lemmas.journal.StepAnswers.{still_stands, read_told, failed_untold}
-use Rattle.reuse_session.proofs.lemmas.session.Replaying.{Prepared, same_direction, next_of, next_says, next_changes, stuck, ready, step_leaves, stop_leaves}
+use Rattle.reuse_session.proofs.lemmas.session.Replaying.{Prepared, is_replay, same_direction, next_of, next_says, next_changes, stuck, ready, step_leaves, stop_leaves}
 use Rattle.reuse_session.proofs.session.Session.step_listed.Given.{Over}
 use Rattle.reuse_session.proofs.session.Session.step_listed.Goals.{After-of_listed}
 use Rattle.reuse_session.proofs.session.Session.step_listed.Goals as goal
@@ -121,15 +121,15 @@ module _ (g : Over) (c : After-of_listed g) (earlier held : State) (safe : AreSa
 pub returns-in_err-entry-clause-survives : goal.returns-in_err-entry-clause-survives
 returns-in_err-entry-clause-survives g c honest earlier held stands safe =
     let store = c.read_entry.new.store in
-    subst (λ r. Survives g.S.Store (IsNextBy (listed_direction c.args.direction) held) earlier held r store) (sym (is_refused c.from_residual-in_err-entry.result c.from_residual-in_err-entry.ensures.1))
-    (survives_early g.S.Store (IsNextBy (listed_direction c.args.direction) held) earlier held store c.in_err-entry.field-0.0 (read_early c.in_err-entry.field-0.0 c.in_err-entry.ensures.refusal)
+    subst (λ r. Survives g.S.Store (IsReplay c.args.direction held) earlier held r store) (sym (is_refused c.from_residual-in_err-entry.result c.from_residual-in_err-entry.ensures.1))
+    (survives_early g.S.Store (IsReplay c.args.direction held) earlier held store c.in_err-entry.field-0.0 (read_early c.in_err-entry.field-0.0 c.in_err-entry.ensures.refusal)
     (reads_are_safe g.S.Store earlier held (store_of c.args.self.now) store c.read_entry.ensures.reads safe))
 
 pub returns-in_err-paths-clause-survives : goal.returns-in_err-paths-clause-survives
 returns-in_err-paths-clause-survives g c honest earlier held stands safe =
     let store = c.prepare.new.store in
-    subst (λ r. Survives g.S.Store (IsNextBy (listed_direction c.args.direction) held) earlier held r store) (sym (is_refused c.from_residual-in_err-paths.result c.from_residual-in_err-paths.ensures.1))
-    (survives_early g.S.Store (IsNextBy (listed_direction c.args.direction) held) earlier held store c.in_err-paths.field-0.0 (tested_early c.in_err-paths.field-0.0 c.in_err-paths.ensures.refusal)
+    subst (λ r. Survives g.S.Store (IsReplay c.args.direction held) earlier held r store) (sym (is_refused c.from_residual-in_err-paths.result c.from_residual-in_err-paths.ensures.1))
+    (survives_early g.S.Store (IsReplay c.args.direction held) earlier held store c.in_err-paths.field-0.0 (tested_early c.in_err-paths.field-0.0 c.in_err-paths.ensures.refusal)
     (reads_are_safe g.S.Store earlier held (store_of c.args.self.now) store (reads_more g.S.Store (store_of c.args.self.now) c.read_entry.new.store store c.read_entry.ensures.reads c.prepare.ensures.reads) safe))
 
 pub returns-in_err-step-clause-survives : goal.returns-in_err-step-clause-survives
@@ -137,15 +137,15 @@ returns-in_err-step-clause-survives g c honest earlier held stands safe =
     let at = (goal.at.returns-in_err-step-clause-survives g c).After-of_listed in
     let here = prepared_step g at (c.step.ensures.call.later.was_honest honest) held stands in
     let then = safe_then g at earlier held safe in
-    let IsNext = IsNextBy (listed_direction c.args.direction) held in
+    let IsNext = IsReplay c.args.direction held in
     subst (λ r. Survives g.S.Store IsNext earlier held r (store_of c.step.new.self)) (sym (is_refused c.from_residual-in_err-step.result c.from_residual-in_err-step.ensures.1))
     (survives_stop g.S.Store IsNext earlier held here.second (store_of c.step.new.self) c.in_err-step.field-0.0
-    (λ early. subst (λ s. AreSafeOn g.S.Store earlier held (store_of s)) (sym (c.in_err-step.ensures.refused early)) then) (here.is.step, here.goes)
+    (λ early. subst (λ s. AreSafeOn g.S.Store earlier held (store_of s)) (sym (c.in_err-step.ensures.refused early)) then) (is_replay g.S.Store.files c.args.direction (record c.args.self.now { store = c.prepare.new.store }) c.as_slice-changes.result.now (pending_of g at) c.in_ok-moved.moved held here)
     (c.in_err-step.ensures.survives honest earlier held here.second here.stands here.is then (kept_then g at earlier held safe here.is.step here.second here.goes)))
 
 pub returns-clause-survives : goal.returns-clause-survives
 returns-clause-survives g c honest earlier held stands safe =
     let at = (goal.at.returns-clause-survives g c).After-of_listed in
     let here = prepared_step g at (c.step.ensures.call.later.was_honest honest) held stands in
-    survives_replay g.S.Store (IsNextBy (listed_direction c.args.direction) held) earlier held (store_of c.step.new.self) c.args.direction _ c.reply_of.result c.reply_of.ensures
+    survives_replay g.S.Store (IsReplay c.args.direction held) earlier held (store_of c.step.new.self) c.args.direction _ c.reply_of.result c.reply_of.ensures
     (c.in_ok-step.ensures.survives honest earlier held here.second here.stands here.is (safe_then g at earlier held safe) (kept_then g at earlier held safe here.is.step here.second here.goes))

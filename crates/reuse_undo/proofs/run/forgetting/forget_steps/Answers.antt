@@ -2,14 +2,15 @@ use Rattle.std.proofs.Common.{◌⊎◌, Ok, IfErr, sym, subst, ◌∙◌}
 use Rattle.std.specs.Prelude.{IfOk}
 use Rattle.std.proofs.lemmas.Bool.{false≢true}
 use Rattle.reuse_command.specs.Answer.{IsStop}
-use Rattle.reuse_session.specs.session.Forgetting.{Forgets, numbers_in, state_besides}
+use Rattle.reuse_session.specs.session.Forgetting.{Forgets, numbers_in}
+use Rattle.reuse_journal.specs.Numbered.{state_besides}
 use Rattle.reuse_journal.specs.Journal.{State}
 use Rattle.reuse_session.specs.session.Session.{store_of, memory_of, StandsOn}
 use Rattle.reuse_journal.specs.Standing.{IsStanding}
 use Rattle.reuse_session.proofs.lemmas.session.ForgottenSteps.{numbers_of_all}
 use Rattle.reuse_undo.specs.run.Forgotten.{asked_numbers, RefusesFrom}
-use Rattle.reuse_arguments.specs.declared.line.Steps.{Steps}
-use Rattle.reuse_arguments.specs.declared.line.Steps.TheVariants.{All, Numbers}
+use Rattle.reuse_command.specs.declared.request.Steps.{Steps}
+use Rattle.reuse_command.specs.declared.request.Steps.TheVariants.{All, Numbers}
 use Rattle.reuse_undo.proofs.lemmas.run.ForgettingLemmas.{forgets_exactly, refuses_exactly}
 use Rattle.reuse_undo.proofs.run.forgetting.forget_steps.Goals as goal
 
