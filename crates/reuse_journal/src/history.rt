@@ -7,6 +7,7 @@ ghost use Rattle.reuse_journal.specs.Labels.{is_full};
 ghost use Rattle.reuse_journal.specs.Numbered.{all_numbers, entries_besides, first_unlisted, is_listed, is_one_of, memory_besides};
 ghost use Rattle.reuse_journal.specs.Numbered.{entry_of, row_in};
 ghost use Rattle.reuse_journal.specs.Numbered.{lists};
+ghost use Rattle.reuse_change.specs.declared.layout.TheConstants.{LAST_NUMBER};
 ghost use Rattle.reuse_journal.specs.declared.history.ListedEntry.{ListedEntry};
 
 use reuse_change::layout::{LAST_NUMBER, MOST_LISTED};
