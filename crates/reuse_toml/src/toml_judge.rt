@@ -6,7 +6,7 @@ ghost use Rattle.reuse_toml.specs.TomlAmending.{level_of_member, level_of_item, 
 
 use crate::toml_places::{TomlKey, key_named};
 use crate::toml_values::amend_value;
-use reuse_notice::{AmendRefusal, Amendments};
+use reuse_amend::{AmendRefusal, Amendments};
 use std::alloc::{AllocError, Global};
 use toml::{Table, Value};
 

@@ -4,14 +4,14 @@ ghost use Rattle.std.specs.Option.{option_and_then};
 ghost use Rattle.toml.specs.Data.{as_str};
 ghost use Rattle.toml.specs.View.{view};
 ghost use Rattle.toml.specs.Parse.{parse_value};
-ghost use Rattle.reuse_notice.specs.AmendmentViews.{IsAnswer};
+ghost use Rattle.reuse_amend.specs.AmendmentViews.{IsAnswer};
 ghost use Rattle.reuse_toml.specs.TomlValues.{notice_lead, without_lead, value_amended, value_written, spelled, is_literal, goes_over_lines, respelled, piece_becomes, string_amended, unless_removed, piece_amended};
 ghost use Rattle.reuse_toml.specs.TomlAnswers.{IsTomlAnswer};
 
 use crate::toml_pieces::{PieceKind, is_multi_line};
 use crate::toml_places::{TomlKey, TomlPlace};
 use crate::toml_text::push_quoted;
-use reuse_notice::{AmendRefusal, Amendments, amend_one_licence, amend_one_notice};
+use reuse_amend::{AmendRefusal, Amendments, amend_one_licence, amend_one_notice};
 use reuse_text::Bytes;
 use std::alloc::{AllocError, Global};
 use thiserror::Error;
