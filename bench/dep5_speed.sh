@@ -4,7 +4,7 @@
 # near 2 where the work is linear.
 # usage: bench/dep5_speed.sh
 set -euo pipefail
-. "$(dirname "$0")/build.sh" dep5_speed reuse_text reuse_notice reuse_toml reuse_dep5
+. "$(dirname "$0")/build.sh" dep5_speed reuse_text reuse_notice reuse_amend reuse_toml reuse_dep5
 
 # fill SIZE LINE: the line, with {} numbered, as often as it fits
 fill() { python3 -c 'import sys

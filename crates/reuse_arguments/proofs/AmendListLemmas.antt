@@ -2,9 +2,9 @@
 use Rattle.std.proofs.Common.{◌≡◌, ◌≤◌, ◌<◌, ◌-◌, ◌∙◌, ℕ, List, [], ◌∷◌, Bor, arith, ap, refl, sym, get_or, length, map, take, drop, codes, true, false, cond}
 use Rattle.std.specs.Prelude.{Result, Ok, Err, IfSome}
 use Rattle.std.proofs.lemmas.List.{take_all}
-use Rattle.reuse_notice.specs.declared.amendments.Amendments.{Amendments}
+use Rattle.reuse_amend.specs.declared.amendments.Amendments.{Amendments}
 use Rattle.reuse_arguments.specs.AmendSteps.{all_removed, all_replaced, removed, replaced}
-use Rattle.reuse_notice.specs.AmendmentViews.{no_amendments}
+use Rattle.reuse_amend.specs.AmendmentViews.{no_amendments}
 use Rattle.reuse_arguments.specs.AmendWords.{amendments_read, in_turn, is_amending, steps_of}
 use Rattle.reuse_arguments.specs.Found.{Rows}
 use Rattle.reuse_arguments.specs.LineFaults.{Mistake, mistake_of, nothing_to_amend, then_read, unread}

@@ -3,13 +3,13 @@ use Rattle.std.proofs.Common.{Bor, ◌≡◌, ◌∙◌, ℕ, true, false, cond,
 use Rattle.std.specs.Prelude.{Ok, Err, IfSome, option_map}
 use Rattle.std.specs.Option.{option_or}
 use Rattle.reuse_notice.specs.Adding.{Refusal, bad_expression, bad_licence, bad_text, bad_year, is_bad_text, is_bad_year, without_spaces}
-use Rattle.reuse_notice.specs.AmendmentViews.{replacement}
+use Rattle.reuse_amend.specs.AmendmentViews.{replacement}
 use Rattle.reuse_notice.specs.ExpressionSteps.{fault_of}
 use Rattle.reuse_notice.specs.Refusals.{refusal_view}
 use Rattle.reuse_notice.specs.Tags.{year_of}
 use Rattle.reuse_notice.specs.declared.prefixes.Prefix.{Prefix}
 use Rattle.reuse_notice.specs.declared.adding.NoticeRefusal.{NoticeRefusal}
-use Rattle.reuse_notice.specs.declared.amendments.Amendments.{Amendments}
+use Rattle.reuse_amend.specs.declared.amendments.Amendments.{Amendments}
 use Rattle.reuse_arguments.specs.AmendSteps.{new_refusal, prefix_read, removed, replaced, sought_read, with_holder, with_prefix, with_removed, with_replaced, with_until}
 use Rattle.reuse_arguments.specs.LineFaults.{bad_additions, mistake_of, unless_refused}
 use Rattle.reuse_arguments.specs.declared.line.LineFault.{LineFault}

@@ -3,11 +3,11 @@
 use Rattle.std.specs.Prelude.{ℕ, List, [], ◌∷◌, ◌++◌, Option, None, Some, Result, Ok, Err, codes, if◌then◌else◌}
 use Rattle.std.specs.List.{list_all}
 use Rattle.reuse_notice.specs.Adding.{Refusal, bad_licence, bad_text, bad_year, is_bad_text, is_bad_year, is_space, without_spaces}
-use Rattle.reuse_notice.specs.AmendmentViews.{replacement}
+use Rattle.reuse_amend.specs.AmendmentViews.{replacement}
 use Rattle.reuse_notice.specs.Tags.{year_of}
-use Rattle.reuse_notice.specs.declared.amendments.Amendments.{Amendments}
+use Rattle.reuse_amend.specs.declared.amendments.Amendments.{Amendments}
 use Rattle.reuse_notice.specs.declared.prefixes.Prefix.{Prefix}
-use Rattle.reuse_notice.specs.declared.replacements.Replacement.{Replacement}
+use Rattle.reuse_amend.specs.declared.replacements.Replacement.{Replacement}
 use Rattle.reuse_arguments.specs.LineFaults.{Mistake, bad_additions, or_mistake, then_read, unless_refused, unread}
 use Rattle.reuse_arguments.specs.PrefixNames.{prefix_named}
 use Rattle.reuse_arguments.specs.declared.words.amend_words.Part.{Part}

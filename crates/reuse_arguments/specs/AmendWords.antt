@@ -1,8 +1,8 @@
 -- What the words of `amend` change (docs/REFERENCE.md, "amend").
 use Rattle.std.specs.Prelude.{ℕ, Bool, List, [], ◌∷◌, Result, Ok, Err, codes, if◌then◌else◌}
 use Rattle.std.specs.List.{list_any}
-use Rattle.reuse_notice.specs.AmendmentViews.{no_amendments}
-use Rattle.reuse_notice.specs.declared.amendments.Amendments.{Amendments}
+use Rattle.reuse_amend.specs.AmendmentViews.{no_amendments}
+use Rattle.reuse_amend.specs.declared.amendments.Amendments.{Amendments}
 use Rattle.reuse_arguments.specs.AmendSteps.{all_removed, all_replaced, with_holder, with_prefix, with_until}
 use Rattle.reuse_arguments.specs.Found.{Rows, is_given, value, values}
 use Rattle.reuse_arguments.specs.LineFaults.{Mistake, nothing_to_amend, then_read}

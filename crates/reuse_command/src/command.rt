@@ -3,10 +3,11 @@ ghost use Rattle.std.specs.Prelude.{◌≡◌, IfOk};
 
 use crate::choice::{Globs, PathList};
 use crate::licence::{Ids, LicenceTexts};
+use reuse_amend::Amendments;
 use reuse_change::{CommandName, Items, PathText};
 use reuse_header::{How, Style};
 use reuse_json::EntryChanges;
-use reuse_notice::{Additions, Amendments};
+use reuse_notice::Additions;
 use std::alloc::{AllocError, Global};
 
 /// A place of a tree that a command is given.

@@ -9,8 +9,8 @@ use Rattle.reuse_text.specs.declared.LineKind.{LineKind}
 use Rattle.reuse_text.specs.Text.{AreLines, lines_of, after_mark}
 use Rattle.reuse_notice.specs.declared.prefixes.Prefix.{Prefix}
 use Rattle.reuse_notice.specs.declared.infos.Info.{Info}
-use Rattle.reuse_notice.specs.declared.amendments.Amendments.{Amendments}
-use Rattle.reuse_notice.specs.declared.replacements.Replacement.{Replacement}
+use Rattle.reuse_amend.specs.declared.amendments.Amendments.{Amendments}
+use Rattle.reuse_amend.specs.declared.replacements.Replacement.{Replacement}
 use Rattle.reuse_notice.specs.Tags.{NoticeText, notice_of, trimmed, stripped, tag_of}
 use Rattle.reuse_notice.specs.Contents.{notice_text, contributor_value, licence_value, is_blank_content}
 use Rattle.reuse_notice.specs.Adding.{notice_written}
@@ -19,13 +19,12 @@ use Rattle.reuse_notice.specs.Merging.{says}
 use Rattle.reuse_notice.specs.MergeSteps.{is_among}
 use Rattle.reuse_notice.specs.Plain.{IsPlain}
 use Rattle.reuse_notice.specs.Sets.{IsSorted}
-use Rattle.reuse_notice.specs.AmendmentLists.{without}
-use Rattle.reuse_notice.specs.Amending.{text_replaced, text_amended, licence_amended, each_made, years_amended}
-use Rattle.reuse_notice.specs.Amending.{prefix_amended, notice_saying, holder_amended, notice_amended, amended}
-use Rattle.reuse_notice.specs.Settled.{WritePlainTexts}
+use Rattle.reuse_notice.specs.TextLists.{without}
+use Rattle.reuse_amend.specs.Amending.{text_replaced, text_amended, licence_amended, each_made, years_amended, prefix_amended, notice_saying, holder_amended, notice_amended, amended}
+use Rattle.reuse_amend.specs.Settled.{WritePlainTexts}
 use Rattle.reuse_notice.proofs.ClassLemmas.{text_kept}
-use Rattle.reuse_notice.proofs.UnnamedLemmas.{are_amended}
-use Rattle.reuse_notice.proofs.ShapeLemmas.{IsWhole, whole_kept, feedless_kept}
+use Rattle.reuse_amend.proofs.UnnamedLemmas.{are_amended}
+use Rattle.reuse_amend.proofs.ShapeLemmas.{IsWhole, whole_kept, feedless_kept}
 use Rattle.reuse_header.specs.declared.style.Style.{Style}
 use Rattle.reuse_header.specs.declared.style.Form.{Form}
 use Rattle.reuse_header.specs.Styles.{punctuation_of}

@@ -6,17 +6,17 @@ use Rattle.std.specs.List.{AllByRecursion}
 use Rattle.std.specs.Option.{option_map}
 use Rattle.reuse_text.specs.Text.{AreLines, lines_of, text_of, after_mark, mark_len_of}
 use Rattle.reuse_notice.specs.declared.infos.Info.{Info}
-use Rattle.reuse_notice.specs.declared.amendments.Amendments.{Amendments}
-use Rattle.reuse_notice.specs.declared.replacements.Replacement.{Replacement}
+use Rattle.reuse_amend.specs.declared.amendments.Amendments.{Amendments}
+use Rattle.reuse_amend.specs.declared.replacements.Replacement.{Replacement}
 use Rattle.reuse_notice.specs.Infos.{info_of}
 use Rattle.reuse_notice.specs.Plain.{IsPlain}
-use Rattle.reuse_notice.specs.Amending.{years_amended, notice_amended, amended}
-use Rattle.reuse_notice.specs.Settled.{WritePlainTexts, WriteUtf8Texts, HasFourDigits}
-use Rattle.reuse_notice.proofs.UnnamedLemmas.{are_amended}
+use Rattle.reuse_amend.specs.Amending.{years_amended, notice_amended, amended}
+use Rattle.reuse_amend.specs.Settled.{WritePlainTexts, WriteUtf8Texts, HasFourDigits}
+use Rattle.reuse_amend.proofs.UnnamedLemmas.{are_amended}
 use Rattle.reuse_notice.proofs.SoundLemmas.{IsSound, sound_append}
 use Rattle.reuse_notice.proofs.NoticeSoundLemmas.{written_sound}
-use Rattle.reuse_notice.proofs.ShapeLemmas.{plain_sound, sound_kept}
-use Rattle.reuse_notice.proofs.OrdinaryLemmas.{amended_digits}
+use Rattle.reuse_amend.proofs.ShapeLemmas.{plain_sound, sound_kept}
+use Rattle.reuse_amend.proofs.OrdinaryLemmas.{amended_digits}
 use Rattle.reuse_header.specs.declared.style.Style.{Style}
 use Rattle.reuse_header.specs.declared.annotation.HeaderRefusal.TheVariants.{NotText}
 use Rattle.reuse_header.specs.declared.amendment.AmendHeaderRefusal.TheVariants.{Header as HeaderRefused}

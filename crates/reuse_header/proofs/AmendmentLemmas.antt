@@ -8,7 +8,7 @@ use Rattle.reuse_header.specs.declared.annotation.HeaderRefusal.TheVariants.{Not
 use Rattle.reuse_header.specs.declared.annotation.HeaderRefusal.TheVariants.{Unsettled, Memory}
 use Rattle.reuse_header.specs.declared.amendment.AmendHeaderRefusal.{AmendHeaderRefusal}
 use Rattle.reuse_header.specs.declared.amendment.AmendHeaderRefusal.TheVariants.{BadExpression, NothingLeft, Header}
-use Rattle.reuse_notice.specs.declared.amendments.Amendments.{Amendments}
+use Rattle.reuse_amend.specs.declared.amendments.Amendments.{Amendments}
 use Rattle.reuse_notice.specs.Infos.{info_of}
 use Rattle.reuse_header.specs.declared.style.Style.{Style}
 use Rattle.reuse_header.specs.Styles.{punctuation_of}

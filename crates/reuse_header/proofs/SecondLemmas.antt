@@ -4,11 +4,11 @@ use Rattle.std.proofs.Common.{subst, ◌∙◌, arith}
 use Rattle.std.specs.Prelude.{Result, Ok, Err}
 use Rattle.std.specs.Option.{option_map}
 use Rattle.reuse_notice.specs.declared.infos.Info.{Info}
-use Rattle.reuse_notice.specs.declared.amendments.Amendments.{Amendments}
+use Rattle.reuse_amend.specs.declared.amendments.Amendments.{Amendments}
 use Rattle.reuse_notice.specs.Infos.{info_of, says_the_same}
-use Rattle.reuse_notice.specs.Amending.{amended}
-use Rattle.reuse_notice.specs.Settled.{BringNothingBack, WritePlainTexts}
-use Rattle.reuse_notice.proofs.UnnamedLemmas.{is_same}
+use Rattle.reuse_amend.specs.Amending.{amended}
+use Rattle.reuse_amend.specs.Settled.{BringNothingBack, WritePlainTexts}
+use Rattle.reuse_amend.proofs.UnnamedLemmas.{is_same}
 use Rattle.reuse_header.specs.declared.style.Style.{Style}
 use Rattle.reuse_header.specs.declared.amendment.AmendHeaderRefusal.{AmendHeaderRefusal}
 use Rattle.reuse_header.specs.Styles.{punctuation_of}

@@ -1,10 +1,10 @@
 -- What an amendment writes, as its laws say it (this project's own).
 use Rattle.std.specs.Prelude.{◌≡◌, ℕ, false, List, [], Some, Contains}
 use Rattle.reuse_notice.specs.declared.infos.Info.{Info}
-use Rattle.reuse_notice.specs.declared.amendments.Amendments.{Amendments}
+use Rattle.reuse_amend.specs.declared.amendments.Amendments.{Amendments}
 use Rattle.reuse_notice.specs.Infos.{info_of, says_the_same, says_nothing}
-use Rattle.reuse_notice.specs.Amending.{amended}
-use Rattle.reuse_notice.specs.Settled.{ReadsAsAmended}
+use Rattle.reuse_amend.specs.Amending.{amended}
+use Rattle.reuse_amend.specs.Settled.{ReadsAsAmended}
 use Rattle.reuse_header.specs.declared.style.Style.{Style}
 use Rattle.reuse_header.specs.Styles.{punctuation_of}
 use Rattle.reuse_header.specs.Marks.{LineMarks}

@@ -18,7 +18,8 @@ use crate::finder::{Block, find};
 use crate::neighbour::{is_text_file, replaced_contents, write_neighbour};
 use crate::style::Style;
 use crate::writer::marks_of;
-use reuse_notice::{AmendRefusal, Amendments, Info};
+use reuse_amend::{AmendRefusal, Amendments, amend_info};
+use reuse_notice::Info;
 use reuse_text::LONGEST_FILE;
 use std::alloc::{AllocError, Global};
 
@@ -201,7 +202,7 @@ fn amend_information(
 ) -> Result<Option<Info>, AmendHeaderRefusal>
     ensures { IsAmendmentDue (amended_information amendments.now info.now) result }
 {
-    let new = match info.amend(alloc, amendments) {
+    let new = match amend_info(alloc, info, amendments) {
         Ok(new) => new,
         Err(AmendRefusal::BadExpression) => return Err(AmendHeaderRefusal::BadExpression),
         Err(AmendRefusal::Memory(e)) => return Err(AmendHeaderRefusal::from(e)),

@@ -2,10 +2,10 @@
 ghost use Rattle.std.specs.Prelude.{◌≡◌, ◌++◌, ◌+◌, ◌≤◌, ℕ, List, [], Option, None, Some, Ok, true, length, take, drop};
 ghost use Rattle.std.specs.Option.{option_map};
 ghost use Rattle.reuse_notice.specs.declared.infos.Info.{Info};
-ghost use Rattle.reuse_notice.specs.declared.amendments.Amendments.{Amendments};
+ghost use Rattle.reuse_amend.specs.declared.amendments.Amendments.{Amendments};
 ghost use Rattle.reuse_notice.specs.Infos.{info_of, says_the_same};
-ghost use Rattle.reuse_notice.specs.Amending.{amended};
-ghost use Rattle.reuse_notice.specs.Settled.{BringNothingBack, WritePlainTexts, WriteUtf8Texts, HasFourDigits};
+ghost use Rattle.reuse_amend.specs.Amending.{amended};
+ghost use Rattle.reuse_amend.specs.Settled.{BringNothingBack, WritePlainTexts, WriteUtf8Texts, HasFourDigits};
 ghost use Rattle.reuse_text.specs.Text.{mark_len_of};
 ghost use Rattle.reuse_text.specs.declared.TheConstants.{LONGEST_FILE};
 ghost use Rattle.reuse_text.specs.declared.LineKind.{LineKind};
@@ -23,7 +23,8 @@ ghost use Rattle.reuse_header.specs.Amendment.{amendment_of, neighbour_amendment
 ghost use Rattle.reuse_header.specs.AmendmentLaws.{AmendsBlock, AmendsNeighbour, NoticesReadAsAmended};
 
 use crate::laws::lower_laws;
-use reuse_notice::{second_amendments_change_nothing, sets_are_one};
+use reuse_amend::second_amendments_change_nothing;
+use reuse_notice::sets_are_one;
 use reuse_text::lines_are_one;
 
 /// Amending makes nothing: a file without a header block stays, and so does one whose block the

@@ -158,8 +158,8 @@ fn find_bad_text<'a>(texts: &[&'a str]) -> Option<&'a [u8]>
     None
 }
 
-// Whether a holder or a contributor can't be written.
-pub(crate) fn is_unfit(text: &[u8]) -> bool
+/// Whether a holder or a contributor can't be written.
+pub fn is_unfit(text: &[u8]) -> bool
     ensures { result ≡ is_bad_text text.now }
 {
     text.is_empty()
@@ -175,8 +175,8 @@ fn has_control(text: &[u8]) -> bool
     text.iter().any(|b| *b < 0x20 || *b == 0x7f)
 }
 
-// Whether some bytes stand in a text.
-pub(crate) fn has_part(text: &[u8], part: &[u8]) -> bool
+/// Whether some bytes stand in a text.
+pub fn has_part(text: &[u8], part: &[u8]) -> bool
     ensures { result ≡ holds part.now text.now }
 {
     for i in 0..text.len() {
@@ -200,8 +200,8 @@ fn find_bad_licence<'a>(licences: &[&'a str]) -> Option<(&'a [u8], usize)>
     None
 }
 
-// The bytes of a text without outer spaces.
-pub(crate) fn trim_spaces(text: &str) -> &[u8]
+/// The bytes of a text without outer spaces.
+pub fn trim_spaces(text: &str) -> &[u8]
     ensures value { result.now ≡ without_spaces text.now }
     ensures utf8 { IsUtf8 result.now }
 {
@@ -277,8 +277,11 @@ fn write_notices(
     Ok(Texts::new(notices))
 }
 
-// The text of a notice.
-pub(crate) fn write_notice(
+/// The text of a notice.
+///
+/// # Errors
+/// There was no memory.
+pub fn write_notice(
     alloc: Global,
     prefix: Prefix,
     years: Option<Years>,
@@ -325,8 +328,11 @@ fn copy_texts(alloc: Global, texts: &[&str]) -> Result<Texts, AllocError>
     Ok(Texts::new(copied))
 }
 
-// A copy of a text without its outer spaces.
-pub(crate) fn copy_text(alloc: Global, text: &str) -> Result<Bytes, AllocError>
+/// A copy of a text without its outer spaces.
+///
+/// # Errors
+/// There was no memory.
+pub fn copy_text(alloc: Global, text: &str) -> Result<Bytes, AllocError>
     ensures { IfOk result (λ copied. copied ≡ without_spaces text.now) }
 {
     Bytes::from_slice(alloc, trim_spaces(text))

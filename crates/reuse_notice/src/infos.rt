@@ -8,8 +8,6 @@ ghost use Rattle.reuse_notice.specs.Contents.{untagged, with_content, with_free}
 ghost use Rattle.reuse_notice.specs.TagViews.{tag_view};
 
 use crate::adding::Additions;
-use crate::amending::{amend_contributors, amend_licences, amend_notices};
-use crate::amendments::{AmendRefusal, Amendments};
 use crate::blanks::is_all_filler;
 use crate::merging::merge_notices;
 use crate::tags::{Tag, read_tag};
@@ -29,8 +27,6 @@ pub struct Info {
 
 impl Info {
     ghost use Rattle.reuse_notice.specs.Infos.{info_of, union_of, merged_of, says_the_same, says_nothing};
-    ghost use Rattle.reuse_notice.specs.Amending.{amended};
-    ghost use Rattle.reuse_notice.specs.AmendmentViews.{IsAnswer};
 
     /// The information in the contents of a comment whose style has the punctuation `punct`.
     pub fn read(alloc: Global, contents: &[&[u8]], punct: &[u8]) -> Result<Info, AllocError>
@@ -74,19 +70,19 @@ impl Info {
         Ok(Info { notices, ..self })
     }
 
-    /// The information with the amendments: licences, holders and contributors replaced and then
-    /// removed, then years and prefixes of notices. Texts that become equal are one. What is not
-    /// named stays, and so do the free contents.
-    ///
-    /// # Errors
-    /// `BadExpression` where an identifier is replaced by what can't stand in its place.
-    pub fn amend(&self, alloc: Global, amendments: &Amendments) -> Result<Info, AmendRefusal>
-        ensures { IsAnswer (amended amendments.now self.now) result }
+    /// The same free contents with other tags.
+    pub fn with_tags(
+        &self,
+        alloc: Global,
+        notices: TextSet,
+        contributors: TextSet,
+        licences: TextSet,
+    ) -> Result<Info, AllocError>
+        ensures { IfOk result (λ info. info ≡ record { notices = notices; contributors = contributors; licences = licences; free = self.now.free }) }
     {
-        let licences = amend_licences(alloc, self.licences.as_slice(), amendments)?;
         Ok(Info {
-            notices: amend_notices(alloc, self.notices.as_slice(), amendments)?,
-            contributors: amend_contributors(alloc, self.contributors.as_slice(), amendments)?,
+            notices,
+            contributors,
             licences,
             free: self.free.copy(alloc)?,
         })

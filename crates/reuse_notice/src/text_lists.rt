@@ -3,7 +3,7 @@ ghost use Rattle.std.specs.Prelude.{◌≡◌, [], ◌∷◌, ◌++◌, IfOk, On
 ghost use Rattle.std.specs.List.{list_any};
 ghost use Rattle.std.specs.Str.{bytes_eq};
 ghost use Rattle.std.specs.Cmp.Lexicographic.{pointwise};
-ghost use Rattle.reuse_notice.specs.AmendmentLists.{without};
+ghost use Rattle.reuse_notice.specs.TextLists.{without};
 ghost use Rattle.reuse_notice.specs.Sets.{set_of, IsSorted};
 
 use reuse_text::Bytes;
@@ -23,13 +23,15 @@ impl Model for Texts {
 }
 
 impl Texts {
-    pub(crate) fn new(texts: Vec<Bytes>) -> Texts
+    /// The texts in this order.
+    pub fn new(texts: Vec<Bytes>) -> Texts
         ensures { result ≡ texts.items }
     {
         Texts { texts }
     }
 
-    pub(crate) fn as_slice(&self) -> &[Bytes]
+    /// The texts, in order.
+    pub fn as_slice(&self) -> &[Bytes]
         ensures { result.now ≡ self.now }
     {
         self.texts.as_slice()
@@ -42,8 +44,8 @@ impl Texts {
         copy_all(alloc, self.as_slice())
     }
 
-    // Those that are not to be removed.
-    pub(crate) fn without(self, removed: &[Bytes]) -> Texts
+    /// Those that are not to be removed.
+    pub fn without(self, removed: &[Bytes]) -> Texts
         ensures { result ≡ without removed.now self }
     {
         let Texts { texts } = self;
@@ -52,16 +54,19 @@ impl Texts {
         }
     }
 
-    // The set of the texts.
-    pub(crate) fn into_set(self) -> TextSet
+    /// The set of the texts.
+    pub fn into_set(self) -> TextSet
         ensures { result ≡ set_of self }
     {
         let Texts { texts } = self;
         TextSet::new(texts)
     }
 
-    // Adds a text.
-    pub(crate) fn push(&mut self, text: Bytes) -> Result<(), AllocError>
+    /// Adds a text.
+    ///
+    /// # Errors
+    /// There was no memory, and the texts stay.
+    pub fn push(&mut self, text: Bytes) -> Result<(), AllocError>
         ensures ok { OnOk result (self.new ≡ self.old ++ text ∷ []) }
         ensures err { OnErr result (self.new ≡ self.old) }
     {
@@ -97,8 +102,8 @@ pub(crate) fn are_same(texts: &[Bytes], others: &[Bytes]) -> bool
     texts == others
 }
 
-// Whether a text is one of some.
-pub(crate) fn is_among(texts: &[Bytes], text: &[u8]) -> bool
+/// Whether a text is one of some.
+pub fn is_among(texts: &[Bytes], text: &[u8]) -> bool
     ensures { result ≡ list_any (λ other. bytes_eq other text.now) texts.now }
 {
     texts.iter().any(|other| other.as_slice() == text)
@@ -119,8 +124,8 @@ impl Model for TextSet {
 }
 
 impl TextSet {
-    // The set of the texts.
-    pub(crate) fn new(texts: Vec<Bytes>) -> TextSet
+    /// The set of the texts.
+    pub fn new(texts: Vec<Bytes>) -> TextSet
         ensures { result ≡ set_of texts.items }
     {
         let mut texts = texts;

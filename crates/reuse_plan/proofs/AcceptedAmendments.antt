@@ -5,7 +5,7 @@ use Rattle.std.proofs.lemmas.Bool.{false≢true, ltb-false, le-ltb}
 use Rattle.std.proofs.lemmas.Option.{none-some, same_Some}
 use Rattle.std.proofs.lemmas.Slice.Eq.{bytes_eq-Decides}
 use Rattle.reuse_text.specs.declared.TheConstants.{LONGEST_FILE}
-use Rattle.reuse_notice.specs.declared.amendments.Amendments.{Amendments}
+use Rattle.reuse_amend.specs.declared.amendments.Amendments.{Amendments}
 use Rattle.reuse_notice.proofs.SetLemmas.{In-from_contains, Contains-from_in}
 use Rattle.reuse_toml.specs.declared.toml_change.TomlSplice.{TomlSplice}
 use Rattle.reuse_toml.specs.declared.toml_values.AmendTomlRefusal.{AmendTomlRefusal}

@@ -1,7 +1,7 @@
 -- Where an amend isn't refused, each file that is gone through is amended, and all else stays; that is one tree, with the files of the old.
 use Rattle.std.proofs.Common.{◌≡◌, ◌≢◌, ◌⊎◌, inl, inr, ℕ, not, ◌&&◌, List, Option, Some, is_some, Result, Ok, Err, refl, sym, ap, ap₂, subst, ◌∙◌, Contains}
 use Rattle.reuse_command.specs.Reading.{get, Files}
-use Rattle.reuse_notice.specs.declared.amendments.Amendments.{Amendments}
+use Rattle.reuse_amend.specs.declared.amendments.Amendments.{Amendments}
 use Rattle.reuse_notice.proofs.SetLemmas.{In, In-from_contains, Contains-from_in}
 use Rattle.reuse_plan.specs.Amend.{amended_at}
 use Rattle.reuse_plan.specs.Amended.{IsAmended, Amends, HaveSamePaths, IsTableAmended, IsCoveredAmended}

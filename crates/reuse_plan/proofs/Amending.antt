@@ -3,7 +3,7 @@ use Rattle.std.proofs.Common.{◌≡◌, ◌⊎◌, inl, inr, ℕ, ◌≤◌, Bo
 use Rattle.reuse_command.specs.Reading.{get, Files}
 use Rattle.std.proofs.lemmas.Bool.{false≢true, ltb-false}
 use Rattle.std.proofs.lemmas.Slice.Eq.{bytes_eq-Decides}
-use Rattle.reuse_notice.specs.declared.amendments.Amendments.{Amendments}
+use Rattle.reuse_amend.specs.declared.amendments.Amendments.{Amendments}
 use Rattle.reuse_toml.specs.TomlAmending.{toml_amendment_of}
 use Rattle.reuse_header.specs.declared.amendment.AmendHeaderRefusal.{AmendHeaderRefusal}
 use Rattle.reuse_header.specs.declared.style.Style.{Style}

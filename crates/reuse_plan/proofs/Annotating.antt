@@ -22,7 +22,7 @@ use Rattle.reuse_plan.specs.Annotate.{annotated_where, annotated_at}
 use Rattle.reuse_header.specs.declared.annotation.How.{How}
 use Rattle.reuse_plan.specs.TreeStyles.{OwnNames}
 use Rattle.reuse_notice.specs.declared.adding.Additions.{Additions}
-use Rattle.reuse_notice.specs.declared.amendments.Amendments.{Amendments}
+use Rattle.reuse_amend.specs.declared.amendments.Amendments.{Amendments}
 use Rattle.reuse_command.specs.declared.command.Scope.{Scope}
 use Rattle.reuse_plan.specs.Shown.{ShowsPair}
 use Rattle.reuse_plan.specs.Plan.{IsRefusalOf, MakesEdits}

@@ -5,7 +5,7 @@ use Rattle.std.specs.Option.{option_map, option_or}
 use Rattle.std.proofs.lemmas.Option.{same_Some}
 use Rattle.reuse_notice.specs.Sets.{set_of}
 use Rattle.reuse_notice.specs.declared.adding.Additions.{Additions}
-use Rattle.reuse_notice.specs.declared.amendments.Amendments.{Amendments}
+use Rattle.reuse_amend.specs.declared.amendments.Amendments.{Amendments}
 use Rattle.reuse_header.specs.declared.annotation.How.{How}
 use Rattle.reuse_change.specs.Change.{path_of}
 use Rattle.reuse_change.specs.Files.{Files}

@@ -5,7 +5,7 @@ use Rattle.std.specs.FinMap.{get}
 use Rattle.reuse_change.specs.declared.layout.TheConstants.{LARGEST_ENTRY, MOST_CHANGES}
 use Rattle.reuse_text.specs.declared.TheConstants.{LONGEST_FILE}
 use Rattle.reuse_notice.specs.declared.adding.Additions.{Additions}
-use Rattle.reuse_notice.specs.declared.amendments.Amendments.{Amendments}
+use Rattle.reuse_amend.specs.declared.amendments.Amendments.{Amendments}
 use Rattle.reuse_header.specs.Annotation.{annotated}
 use Rattle.reuse_header.specs.Amendment.{amended_file, amendment_of, neighbour_amendment_of}
 use Rattle.reuse_header.specs.Neighbour.{is_text, neighbour_annotated}

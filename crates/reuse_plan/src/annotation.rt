@@ -2,9 +2,10 @@
 ghost use Rattle.std.specs.Prelude.{◌≡◌};
 ghost use Rattle.reuse_plan.specs.Asked.{scope_of};
 
+use reuse_amend::Amendments;
 use reuse_command::command::Scope;
 use reuse_header::{How, StyleTable};
-use reuse_notice::{Additions, Amendments};
+use reuse_notice::Additions;
 
 /// What is asked of an annotation, and the styles of the tree that it is of.
 #[derive(Clone, Copy)]

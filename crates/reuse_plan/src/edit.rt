@@ -5,7 +5,7 @@ ghost use Rattle.reuse_command.specs.Reading.{get, Files};
 ghost use Rattle.reuse_change.specs.Change.{sealed_splice};
 ghost use Rattle.reuse_header.specs.Splices.{IsDue, answer_of};
 ghost use Rattle.reuse_header.specs.Amendment.{amendment_answer, IsAmendmentDue};
-ghost use Rattle.reuse_notice.specs.declared.amendments.Amendments.{Amendments};
+ghost use Rattle.reuse_amend.specs.declared.amendments.Amendments.{Amendments};
 ghost use Rattle.reuse_toml.specs.TomlAmending.{toml_amendment_of};
 ghost use Rattle.reuse_toml.specs.TomlAnswers.{IsTomlAnswer};
 ghost use Rattle.reuse_plan.specs.Amend.{amendment_edit, amend_refused_by, table_amendment, table_refused_by};

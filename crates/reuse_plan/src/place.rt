@@ -7,7 +7,7 @@ ghost use Rattle.reuse_change.specs.Clash.{is_clash};
 ghost use Rattle.reuse_header.specs.declared.annotation.How.{How};
 ghost use Rattle.reuse_plan.specs.TreeStyles.{OwnNames};
 ghost use Rattle.reuse_notice.specs.declared.adding.Additions.{Additions};
-ghost use Rattle.reuse_notice.specs.declared.amendments.Amendments.{Amendments};
+ghost use Rattle.reuse_amend.specs.declared.amendments.Amendments.{Amendments};
 ghost use Rattle.reuse_plan.specs.Amend.{amended_at};
 ghost use Rattle.reuse_plan.specs.Annotate.{neighbour_of, annotated_at};
 ghost use Rattle.reuse_plan.specs.AnnotationPlan.{neighbour_by, path_inside_by, path_neighbour_by};

@@ -24,10 +24,10 @@ use crate::select::{Listing, find_selected, gives_root};
 use crate::styles::read_styles;
 use crate::tree_paths::pair_paths;
 use crate::unused::Unused;
+use reuse_amend::Amendments;
 use reuse_change::PathText;
 use reuse_command::command::{Command, Place, Scope};
 use reuse_command::reply::Refusal;
-use reuse_notice::Amendments;
 use reuse_store::Store;
 use std::alloc::Global;
 

@@ -7,7 +7,7 @@ ghost use Rattle.std.specs.List.Sorted.{IsPermutation, IsStrictlySortedBy};
 ghost use Rattle.std.specs.FinMap.{get};
 ghost use Rattle.reuse_header.specs.declared.annotation.How.{How};
 ghost use Rattle.reuse_notice.specs.declared.adding.Additions.{Additions};
-ghost use Rattle.reuse_notice.specs.declared.amendments.Amendments.{Amendments};
+ghost use Rattle.reuse_amend.specs.declared.amendments.Amendments.{Amendments};
 ghost use Rattle.reuse_notice.specs.Plain.{ArePlain, AreUtf8};
 ghost use Rattle.reuse_change.specs.Files.{Files, AreFiles, Clashes};
 ghost use Rattle.reuse_change.specs.Change.{inverse_of};

@@ -9,7 +9,7 @@ use Rattle.toml.specs.Data.{Data, Items, no_items, item, Members, no_members, me
 use Rattle.toml.specs.View.{view, items_view}
 use Rattle.toml.specs.declared.value.Value.{Value}
 use Rattle.toml.proofs.Views.{items_view-drop}
-use Rattle.reuse_notice.specs.declared.amendments.Amendments.{Amendments}
+use Rattle.reuse_amend.specs.declared.amendments.Amendments.{Amendments}
 use Rattle.reuse_toml.specs.declared.toml_judge.TomlLevel.{TomlLevel}
 use Rattle.reuse_toml.specs.TomlAmending.{level_of_member, is_removed, is_no_items, is_amended, are_amended}
 use Rattle.reuse_toml.specs.TomlAmending.{members_amended}

@@ -5,7 +5,7 @@ use Rattle.std.specs.Prelude.{Result, Ok, Err, is_ok, flat_map, ◌==◌, slice_
 use Rattle.std.specs.List.{prefix_len}
 use Rattle.std.proofs.lemmas.Bool.{false≢true}
 use Rattle.std.proofs.lemmas.List.{take-append-drop, append-nil}
-use Rattle.reuse_notice.specs.declared.amendments.Amendments.{Amendments}
+use Rattle.reuse_amend.specs.declared.amendments.Amendments.{Amendments}
 use Rattle.reuse_toml.specs.declared.toml_pieces.PieceKind.{PieceKind}
 use Rattle.reuse_toml.specs.declared.toml_pieces.PieceKind.TheVariants.{Comma, Text}
 use Rattle.reuse_toml.specs.declared.toml_places.TomlPlace.{TomlPlace}

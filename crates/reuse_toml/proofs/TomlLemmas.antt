@@ -11,7 +11,7 @@ use Rattle.std.proofs.lemmas.List.Sums.{common_prefix_len-drop_yes, common_prefi
 use Rattle.toml.specs.Data.{Members}
 use Rattle.reuse_toml.specs.TomlText.{read_toml}
 use Rattle.reuse_notice.proofs.BlankLemmas.{drop_next}
-use Rattle.reuse_notice.specs.declared.amendments.Amendments.{Amendments}
+use Rattle.reuse_amend.specs.declared.amendments.Amendments.{Amendments}
 use Rattle.reuse_toml.specs.declared.toml_pieces.PieceKind.{PieceKind}
 use Rattle.reuse_toml.specs.declared.toml_places.TomlPlace.{TomlPlace}
 use Rattle.reuse_toml.specs.declared.toml_values.AmendTomlRefusal.{AmendTomlRefusal}

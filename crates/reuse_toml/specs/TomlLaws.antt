@@ -2,7 +2,7 @@
 -- writes").
 use Rattle.std.specs.Prelude.{◌≡◌, ◌⊎◌, ℕ, true, false, List, [], ◌∷◌, flat_map, Some}
 use Rattle.toml.specs.Data.{Members}
-use Rattle.reuse_notice.specs.declared.amendments.Amendments.{Amendments}
+use Rattle.reuse_amend.specs.declared.amendments.Amendments.{Amendments}
 use Rattle.reuse_toml.specs.declared.toml_pieces.PieceKind.TheVariants.{Comma, Text}
 use Rattle.reuse_toml.specs.declared.toml_judge.TomlLevel.TheVariants.{Document}
 use Rattle.reuse_toml.specs.TomlText.{read_toml}

@@ -6,8 +6,8 @@ use Rattle.std.specs.List.{starts_with}
 use Rattle.std.specs.Str.{bytes_eq, is_utf8}
 use Rattle.toml.specs.Data.{as_str}
 use Rattle.toml.specs.Parse.{parse_value}
-use Rattle.reuse_notice.specs.declared.amendments.Amendments.{Amendments}
-use Rattle.reuse_notice.specs.Amending.{licence_alone, notice_amended}
+use Rattle.reuse_amend.specs.declared.amendments.Amendments.{Amendments}
+use Rattle.reuse_amend.specs.Amending.{licence_alone, notice_amended}
 use Rattle.reuse_toml.specs.declared.toml_pieces.PieceKind.{PieceKind}
 use Rattle.reuse_toml.specs.declared.toml_pieces.PieceKind.TheVariants.{Comma, Text}
 use Rattle.reuse_toml.specs.declared.toml_places.TomlKey.{TomlKey}

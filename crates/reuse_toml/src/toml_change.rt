@@ -13,7 +13,7 @@ use crate::toml_judge::{TomlLevel, are_members_amended};
 use crate::toml_pieces::{piece_kind, split_piece};
 use crate::toml_places::{TomlPlace, place_behind};
 use crate::toml_values::{AmendTomlRefusal, NewPiece, amend_piece};
-use reuse_notice::Amendments;
+use reuse_amend::Amendments;
 use reuse_text::{Bytes, LONGEST_FILE};
 use std::alloc::{AllocError, Global};
 use toml::Table;

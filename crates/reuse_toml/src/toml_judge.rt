@@ -8,7 +8,7 @@ ghost use Rattle.reuse_toml.specs.TomlAmending.{members_amended};
 
 use crate::toml_places::{TomlKey, key_named};
 use crate::toml_values::amend_value;
-use reuse_notice::{AmendRefusal, Amendments};
+use reuse_amend::{AmendRefusal, Amendments};
 use std::alloc::{AllocError, Global};
 use toml::{Table, Value};
 

@@ -2,7 +2,7 @@
 ghost use Rattle.std.specs.Prelude.{◌≡◌, ◌≢◌, ◌≤◌, ◌+◌, length, ℕ, List, Some, None, Ok, flat_map};
 ghost use Rattle.reuse_text.specs.Text.{spliced};
 ghost use Rattle.reuse_text.specs.declared.TheConstants.{LONGEST_FILE};
-ghost use Rattle.reuse_notice.specs.declared.amendments.Amendments.{Amendments};
+ghost use Rattle.reuse_amend.specs.declared.amendments.Amendments.{Amendments};
 ghost use Rattle.reuse_toml.specs.declared.toml_change.TomlSplice.{TomlSplice};
 ghost use Rattle.reuse_toml.specs.TomlPieces.{pieces_of};
 ghost use Rattle.reuse_toml.specs.TomlAmending.{toml_amendment_of};

@@ -15,7 +15,8 @@ use crate::prefix_name::prefix_of_name;
 use crate::words::found::{is_given, value, values};
 use crate::words::unread_words::{or_unread, unread};
 use clap::ArgMatches;
-use reuse_notice::{Amendments, NoticeRefusal, Prefix};
+use reuse_amend::Amendments;
+use reuse_notice::{NoticeRefusal, Prefix};
 use reuse_text::Bytes;
 use std::alloc::Global;
 

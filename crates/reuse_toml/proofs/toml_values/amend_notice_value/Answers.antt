@@ -1,6 +1,6 @@
 use Rattle.std.proofs.Common.{◌≡◌, ◌∙◌, List, ℕ, Option, Some, option_map, sym, ap}
 use Rattle.std.proofs.lemmas.Result.{IfOk-weaker}
-use Rattle.reuse_notice.specs.Amending.{notice_amended}
+use Rattle.reuse_amend.specs.Amending.{notice_amended}
 use Rattle.reuse_toml.specs.declared.toml_places.TomlKey.TheVariants.{Notice}
 use Rattle.reuse_toml.specs.TomlValues.{without_lead, value_amended}
 use Rattle.reuse_toml.proofs.toml_values.amend_notice_value.Goals as goal

@@ -1,0 +1,16 @@
+pub mod PieceLemmas
+pub mod AnswerLemmas
+pub mod UnnamedLemmas
+pub mod CutLemmas
+pub mod WordLemmas
+pub mod PassLemmas
+pub mod ReplacedLemmas
+pub mod MeantLemmas
+pub mod MeaningLemmas
+pub mod FusedLemmas
+pub mod PhraseLemmas
+pub mod SettledLemmas
+pub mod SecondLemmas
+pub mod ShapeLemmas
+pub mod ReadAgainLemmas
+pub mod OrdinaryLemmas

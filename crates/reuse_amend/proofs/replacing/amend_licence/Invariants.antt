@@ -1,0 +1,7 @@
+use Rattle.std.proofs.Common.{◌≡◌, drop}
+use Rattle.reuse_amend.specs.Amending.{licence_amended}
+use Rattle.reuse_amend.proofs.replacing.amend_licence.Given as goal
+
+abbrev pub invariant-loop-replacement : goal.invariant-loop-replacement
+invariant-loop-replacement l =
+    licence_amended (drop l.replacement-index l.replacements) l.text ≡ licence_amended l.replacements l.value

@@ -1,0 +1,7 @@
+pub mod Pieces
+pub mod Amending
+pub mod AmendmentViews
+pub mod Unnamed
+pub mod Sought
+pub mod Settled
+pub mod Meanings

@@ -1,0 +1,36 @@
+-- What amendments don't name (this project's own).
+use Rattle.std.specs.Prelude.{◌≡◌, ◌≢◌, ℕ, false, List, None, Some}
+use Rattle.std.specs.List.{AllByRecursion}
+use Rattle.reuse_amend.specs.declared.replacements.Replacement.{Replacement}
+use Rattle.reuse_amend.specs.declared.amendments.Amendments.{Amendments}
+use Rattle.reuse_notice.specs.Tags.{NoticeText, notice_of}
+use Rattle.reuse_notice.specs.MergeSteps.{is_among}
+use Rattle.reuse_amend.specs.Pieces.{pieces_of}
+
+-- a text is none of those that are replaced
+abbrev pub IsNoOld : List Replacement → List ℕ → Type 0
+IsNoOld replacements text = AllByRecursion (λ r. text ≢ r.old) replacements
+
+-- nor is a token of it
+abbrev pub HasNoOld : List Replacement → List ℕ → Type 0
+HasNoOld replacements text = AllByRecursion (λ r. AllByRecursion (λ p. p.0 ≢ r.old) (pieces_of text)) replacements
+
+-- a licence that the amendments don't name
+pub record IsOtherLicence (a : Amendments) (value : List ℕ) : Type 0 where
+  pub whole : IsNoOld a.replaced_licences value
+  pub tokens : HasNoOld a.replaced_licences value
+  pub stays : is_among a.removed_licences value ≡ false
+
+-- a contributor that they don't name
+pub record IsOtherContributor (a : Amendments) (text : List ℕ) : Type 0 where
+  pub whole : IsNoOld a.replaced_contributors text
+  pub stays : is_among a.removed_contributors text ≡ false
+
+-- a notice whose holder they don't name, where they set neither years nor prefix
+pub record IsOtherNotice (a : Amendments) (text : List ℕ) : Type 0 where
+  pub notice : NoticeText
+  pub read : notice_of text ≡ Some notice
+  pub whole : IsNoOld a.replaced_holders notice.holder
+  pub stays : is_among a.removed_holders notice.holder ≡ false
+  pub until : a.until ≡ None
+  pub prefix : a.prefix ≡ None

@@ -1,0 +1,22 @@
+//! Amendments: what a command changes in the licensing information of a file. Licences are replaced
+//! within expressions, holders and contributors as a whole, and notices get other years and another
+//! prefix.
+#![tactic(auto)]
+
+mod amend_laws;
+mod amending;
+mod amendments;
+mod replacements;
+mod replacing;
+mod sought;
+
+pub use amend_laws::{
+    amended_years_include_the_old, expressions_have_one_meaning, licences_are_their_pieces,
+    replaced_licences_keep_their_meaning, replacing_texts_are_plain,
+    second_amendments_change_nothing, the_same_is_said_by_the_same, unnamed_information_stays,
+    written_notices_are_read,
+};
+pub use amending::{amend_info, amend_one_licence, amend_one_notice};
+pub use amendments::{AmendRefusal, Amendments};
+pub use replacements::{Replacement, Replacements};
+pub use sought::may_change;

@@ -1,5 +1,0 @@
-use Rattle.reuse_notice.proofs.MeaningLemmas.{meaning_kept}
-use Rattle.reuse_notice.proofs.amend_laws.replaced_licences_keep_their_meaning.Goals as goal
-
-pub returns : goal.returns
-returns c = meaning_kept
