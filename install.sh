@@ -89,7 +89,7 @@ while [ ! -e "$above" ]; do above=$(dirname "$above"); done
 
 command -v rt > /dev/null || { echo "The Rattle kit isn't there: no command rt." >&2; exit 1; }
 logs=$(mktemp -d)
-declare -A running=() lanes=() proved=() told=()
+declare -A running=() lanes=() proved=() begun=()
 # (each check has a process group of its own, so that all of it ends with this script)
 set -m
 end_all() {
@@ -151,7 +151,8 @@ jobs_of() {
     most=$((most < room ? most : room))
     echo $((most > 1 ? most : 1))
 }
-# Finds how much is to prove of a crate and of the longest chain of crates on it, in bytes.
+# Finds how much is to prove of a crate, and of the longest chain of crates on it, in bytes of code:
+# a proof takes about as long as the code is.
 weigh() {
     local it most=0
     [ ! "${weights[$1]:-}" ] || return 0
@@ -160,7 +161,22 @@ weigh() {
             *" $1 "*) weigh "$it"; most=$((weights[$it] > most ? weights[$it] : most)) ;;
         esac
     done
-    weights[$1]=$((most + $(du -cb "$top/crates/$1"/{src,proofs} | tail -n 1 | cut -f 1)))
+    sizes[$1]=$(du -sb "$top/crates/$1/src" | cut -f 1)
+    weights[$1]=$((most + sizes[$1]))
+}
+# Says how far all of it is. (What a check tells of its functions stays at 0 while it goes through
+# them one by one.)
+say_how_far() {
+    local it count done=0 whole=0 at_work=
+    local so_far='s/^so far: ([1-9][0-9]* of [0-9]+) functions checked.*$/, \1 functions/p'
+    for it in "${names[@]}"; do
+        whole=$((whole + sizes[$it]))
+        [ ! "${proved[$it]:-}" ] || done=$((done + sizes[$it]))
+        [ "${running[$it]:-}" ] || continue
+        count=$(sed -nE "$so_far" "$logs/$it" | tail -n 1)
+        at_work+=", $it ($(((SECONDS - begun[$it]) / 60)) minutes$count)"
+    done
+    say "$((100 * done / whole))% of the code is proved; at work:${at_work#,}"
 }
 # The program that was proved, with that said in its version. As it is compiled it says nothing
 # about a proof, since it can be compiled without one. The line of a proof has the same length, and
@@ -181,7 +197,7 @@ stamp() {
 # The crates, and those of the repository that each stands on. Of the crates that can begin
 # together, that with the longest chain on it goes first.
 names=()
-declare -A below=() weights=()
+declare -A below=() weights=() sizes=()
 while IFS=: read -r crate words; do
     names+=("$crate")
     below[$crate]=
@@ -195,6 +211,7 @@ say "proving ${#crates[@]} crates on $processors processors;" \
     "the first time that takes about twenty minutes on four"
 # (half as many jobs again as there are processors, since a check of several ends with a job alone)
 lanes_at_most=$((processors + processors / 2))
+told=$SECONDS
 while [ ${#proved[@]} -lt ${#crates[@]} ]; do
     idle=$lanes_at_most
     for it in "${!running[@]}"; do idle=$((idle - lanes[$it])); done
@@ -210,25 +227,22 @@ while [ ${#proved[@]} -lt ${#crates[@]} ]; do
         [ $alone = 1 ] || beside=yes
         prove "$it" "${lanes[$it]}" "$beside" < /dev/null > "$logs/$it" 2>&1 &
         running[$it]=$!
-        told[$it]=$SECONDS
-        say "$it: begun"
+        begun[$it]=$SECONDS
     done
     sleep 0.2
     for it in "${!running[@]}"; do
-        if ! kill -0 "${running[$it]}" 2> /dev/null; then
-            failed=
-            wait "${running[$it]}" || failed=yes
-            unset "running[$it]"
-            [ ! "$failed" ] || { tail -n 30 "$logs/$it"; say "$it: NOT proved"; exit 1; }
-            proved[$it]=yes
-            say "$it: proved and built, ${#proved[@]} of ${#crates[@]} crates"
-        elif [ $((SECONDS - told[$it])) -ge 60 ]; then
-            told[$it]=$SECONDS
-            so_far='s/^so far: ([0-9]+ of [0-9]+) functions checked.*$/\1 functions/p'
-            count=$(sed -nE "$so_far" "$logs/$it" | tail -n 1)
-            say "$it: ${count:-at work}"
-        fi
+        ! kill -0 "${running[$it]}" 2> /dev/null || continue
+        failed=
+        wait "${running[$it]}" || failed=yes
+        unset "running[$it]"
+        [ ! "$failed" ] || { tail -n 30 "$logs/$it"; say "$it: NOT proved"; exit 1; }
+        proved[$it]=yes
+        say "$it: proved and built, ${#proved[@]} of ${#crates[@]} crates"
     done
+    if [ $((SECONDS - told)) -ge 30 ]; then
+        told=$SECONDS
+        say_how_far
+    fi
 done
 
 stamp
