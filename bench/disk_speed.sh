@@ -10,8 +10,8 @@ files=${1:-20000}
 build=$(mktemp -d)
 tree=$(mktemp -d /dev/shm/disk_speed.XXXXXX)
 trap 'rm -rf "$build" "$tree"' EXIT
-. "$(dirname "$0")/build.sh" disk_speed reuse_text reuse_change reuse_store reuse_system reuse_lock \
-  reuse_disk reuse_folder
+. "$(dirname "$0")/build.sh" disk_speed reuse_record reuse_text reuse_change reuse_store \
+  reuse_system reuse_lock reuse_disk reuse_folder
 
 . "$top/bench/python_tree.sh"
 make_tree "$tree/in" "$files"

@@ -4,6 +4,7 @@ ghost use Rattle.std.specs.Option.{option_copied, option_map};
 ghost use Rattle.reuse_text.specs.Text.{spliced};
 ghost use Rattle.reuse_change.specs.Digest.{IsDigestOf, IsSealOf, NothingHas, swapped};
 ghost use Rattle.reuse_change.specs.Change.{HoldsPart, IsBefore};
+ghost use Rattle.reuse_change.specs.Entry.{HasOwnDigest};
 
 use crate::{Digest, PathText, Seal};
 use reuse_text::{Bytes, splice};
@@ -254,14 +255,24 @@ impl Change {
         }
     }
 
+    /// Whether the digest that is recorded of a file that is made or removed is that of its bytes.
+    pub fn has_own_digest(&self) -> bool
+        ensures { IsTrue result ↔ HasOwnDigest self.now }
+    {
+        match self {
+            Change::Make { new, after, .. } => is_digest_of(*after, new.as_slice()),
+            Change::Drop { old, before, .. } => is_digest_of(*before, old.as_slice()),
+            Change::Splice { .. } => true,
+        }
+    }
+
     // Whether a file before the change has its digest, and so what the change makes of it.
     fn is_sealed_before(&self, file: Option<&[u8]>) -> bool
         requires { IsBeforeByRange self.now (option_copied file) }
         ensures { IsTrue result ↔ IsBefore self.now (option_copied file.entry) }
     {
         match self {
-            Change::Make { new, after, .. } => is_digest_of(*after, new.as_slice()),
-            Change::Drop { old, before, .. } => is_digest_of(*before, old.as_slice()),
+            Change::Make { .. } | Change::Drop { .. } => self.has_own_digest(),
             Change::Splice {
                 at,
                 old,
@@ -278,8 +289,7 @@ impl Change {
         ensures { IsTrue result ↔ IsAfter self.now (option_copied file.entry) }
     {
         match self {
-            Change::Make { new, after, .. } => is_digest_of(*after, new.as_slice()),
-            Change::Drop { old, before, .. } => is_digest_of(*before, old.as_slice()),
+            Change::Make { .. } | Change::Drop { .. } => self.has_own_digest(),
             Change::Splice {
                 at,
                 old,

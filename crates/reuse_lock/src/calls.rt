@@ -5,7 +5,7 @@ ghost use Rattle.std.specs.Option.{option_map};
 ghost use Rattle.std.specs.Path.{path_buf_bytes};
 ghost use Rattle.reuse_lock.specs.LockCall.LockCall.{PathCall, TryCall};
 
-use crate::record::{AskKind, Hold, LockAnswer, LockRecord};
+use crate::record::{Hold, LockAnswer, LockRecord};
 use std::alloc::Global;
 use std::fs::{self, File, TryLockError};
 use std::io;
@@ -20,17 +20,9 @@ pub fn absolute_path<R: Files<File = File> + AllocGlobal>(
 ) -> Option<PathBuf<Global>>
     ensures { noted.new.calls ≡ PathCall root.now (option_map path_buf_bytes result) ∷ noted.old.calls }
 {
-    match fs::canonicalize(rt, root) {
-        Ok(path) => {
-            let told = path.as_str().as_bytes();
-            noted.note(&AskKind::Path(true), root.as_bytes(), told);
-            Some(path)
-        }
-        Err(_) => {
-            noted.note(&AskKind::Path(false), root.as_bytes(), b"");
-            None
-        }
-    }
+    let told = fs::canonicalize(rt, root).ok();
+    noted.note(&(root, &told));
+    told
 }
 
 /// The folder at this path, if it is one that may be read. Anything else, as a pipe, isn't opened.
@@ -72,6 +64,13 @@ pub struct AskedFolder {
     pub error: Option<io::Error>,
 }
 
+/// Notes that the lock on the folder at this path was asked for.
+fn note_lock(noted: &mut LockRecord, path: &str, hold: Hold, answer: LockAnswer)
+    ensures { noted.new.calls ≡ TryCall path.now hold answer ∷ noted.old.calls }
+{
+    noted.note(&(path, hold, answer));
+}
+
 /// Opens the folder at this path, if that can be done, and asks for the lock on it.
 pub fn try_lock<R: Files<File = File>>(
     rt: &R,
@@ -84,8 +83,7 @@ pub fn try_lock<R: Files<File = File>>(
         (λ folder. result.1 ≢ LockAnswer.NotOpened) }
 {
     let Some(folder) = open_folder(rt, path).unwrap_or(None) else {
-        let kind = AskKind::Lock(hold, LockAnswer::NotOpened);
-        noted.note(&kind, path.as_bytes(), b"");
+        note_lock(noted, path, hold, LockAnswer::NotOpened);
         return (None, LockAnswer::NotOpened);
     };
     let tried = match hold {
@@ -94,7 +92,7 @@ pub fn try_lock<R: Files<File = File>>(
     };
     let error = error_of(&tried);
     let answer = answer_of(tried);
-    noted.note(&AskKind::Lock(hold, answer), path.as_bytes(), b"");
+    note_lock(noted, path, hold, answer);
     let folder = AskedFolder {
         _folder: folder,
         error,

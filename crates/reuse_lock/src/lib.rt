@@ -14,6 +14,7 @@ mod record;
 use calls::{AskedFolder, absolute_path, try_lock};
 pub use fault::LockFault;
 use record::{Hold, LockAnswer, LockRecord};
+use reuse_record::Record;
 use std::alloc::Global;
 use std::fs::File;
 use std::io;
@@ -58,7 +59,7 @@ impl LockedFolders {
     {
         LockedFolders {
             folders: Vec::new(alloc),
-            asked: LockRecord::new(),
+            asked: Record::new(),
         }
     }
 
