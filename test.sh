@@ -2,10 +2,10 @@
 # Passes all tests:
 # - the gate, `rt ci`: every proof, every must-fail edit and the program's run, from nothing;
 # - beside it the tests of calls (tests/calls.sh), which are compiled without proof;
-# - on the processors that it leaves idle every wrong body (tests/wrong_bodies.sh), also those that it
-#   doesn't try: those of a crate as soon as the crates below are proved;
-# - once the gate has passed, the scripts of tests/ that take the program (tests/all.sh), on what the
-#   gate built.
+# - on the processors that it leaves idle every wrong body (tests/wrong_bodies.sh), also those that
+#   it doesn't try: those of a crate as soon as the crates below are proved;
+# - once the gate has passed, the scripts of tests/ that take the program (tests/all.sh), on what
+#   the gate built.
 # Ends with the gate's status if that isn't 0, and with 1 if a test of calls or a script fails, or a
 # wrong body isn't refused by a goal.
 # A script that can't be run here, for want of a Debian package or of root, counts as skipped.
@@ -35,7 +35,7 @@ export RT_JOBS="${RT_JOBS:-$lanes}"
 # (what is beside the gate takes only what the gate leaves idle, since the crates are a long chain)
 nice -n 10 tests/calls.sh > "$room/calls" 2>&1 &
 calls=$!
-# With a DEADLINE the wrong bodies end then. (Without one `timeout` passes a signal on to all of them.)
+# With a DEADLINE the wrong bodies end then. (Without one `timeout` passes a signal on to them all.)
 seconds=0
 [ -z "${DEADLINE:-}" ] || seconds=$((DEADLINE - $(date +%s)))
 [ -z "${DEADLINE:-}" ] || ((seconds > 0)) || seconds=1

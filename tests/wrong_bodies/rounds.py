@@ -146,7 +146,7 @@ class Gate:
             shutil.copytree(made, f"{self.room}/{name}/out/rlib", copy_function=link_or_copy)
 
     def has_proved(self, names):
-        """Waits until the gate has proved these crates, or has ended, and returns whether it has."""
+        """Waits until the gate has proved these crates or has ended, and returns whether it has."""
         for it in names:
             while not self.proved[it].wait(1) and not self.ends.is_set():
                 pass

@@ -76,7 +76,7 @@ class Verdict:
         return f"the check ended with status {self.status}: {lines[0][:300]}"
 
     def judge(self, edits):
-        """Settles the edits of a round that are refused. The others are tried again, at last alone."""
+        """Settles the edits of a round that it refuses. Others are tried again, at last alone."""
         unread, unnamed = self.unread(), NO_FUNCTION.findall(self.said)
         guilty = [it for it in edits if any(it.holds(path, line) for path, line, _ in unread)]
         for edit in edits:
