@@ -6,9 +6,9 @@ use Rattle.std.proofs.lemmas.Bool.{false_from_ne_true}
 use Rattle.std.proofs.lemmas.Slice.Eq.{bytes_eq-Decides}
 use Rattle.reuse_command.specs.declared.request.Call.{Call}
 use Rattle.reuse_command.specs.declared.request.Request.{Request}
-use Rattle.reuse_arguments.specs.Asking.{call}
+use Rattle.reuse_arguments.specs.Asking.{Asked}
 use Rattle.reuse_arguments.specs.Choices.{change_status_of, format_of, is_dry_run}
-use Rattle.reuse_arguments.specs.CommandLine.{call_read, line_read, requested, session_read, texts_read}
+use Rattle.reuse_arguments.specs.CommandLine.{call_read, request_read, texts_read}
 use Rattle.reuse_arguments.specs.Found.{Rows}
 use Rattle.reuse_arguments.specs.LineFaults.{then_read, unread}
 use Rattle.reuse_arguments.specs.Requests.{made_or_seen}
@@ -19,11 +19,18 @@ use Rattle.reuse_arguments.specs.declared.line.OutputFormat.{OutputFormat}
 other : (name word : List ℕ) → name ≢ word → bytes_eq name word ≡ false
 other name word h = false_from_ne_true _ (λ is. h ((bytes_eq-Decides name word).0 is))
 
-pub session_else : (name : List ℕ) (found : Rows) (moment year : ℕ) → name ≢ codes "log" → name ≢ codes "show"
-    → session_read name found moment year ≡ then_read (call_read name found year)
+pub request_else : (name : List ℕ) (found : Rows) (moment year : ℕ) → name ≢ codes "log" → name ≢ codes "show"
+    → name ≢ codes "forget" → name ≢ codes "recover"
+    → request_read name found moment year ≡ then_read (call_read name found year)
     (λ asked. Ok (made_or_seen asked moment (is_dry_run found)))
-unfolding session_read
-session_else name found moment year log show = rw (other name (codes "log") log, other name (codes "show") show) refl
+unfolding request_read
+request_else name found moment year log show forget recover =
+    rw (
+      other name (codes "log") log,
+      other name (codes "show") show,
+      other name (codes "forget") forget,
+      other name (codes "recover") recover,
+    ) refl
 
 pub call_else : (name : List ℕ) (found : Rows) (year : ℕ) → name ≢ codes "annotate" → name ≢ codes "amend"
     → name ≢ codes "convert-dep5" → name ≢ codes "download" → name ≢ codes "undo" → name ≢ codes "redo"
@@ -46,23 +53,20 @@ pub texts_else : (name : List ℕ) (found : Rows) → name ≢ codes "download" 
 unfolding texts_read
 texts_else name found download = rw (other name (codes "download") download) refl
 
-pub requested_else : (root name : List ℕ) (found : Rows) (moment year : ℕ) → name ≢ codes "recover"
-    → name ≢ codes "forget"
-    → requested root name found moment year ≡ line_read root name found moment year
-unfolding requested
-requested_else root name found moment year recover forget = rw
-    (other name (codes "recover") recover, other name (codes "forget") forget) refl
-
 -- what is made or seen, as the words say
 pub made_of : (asked : Call) (moment : ℕ) (dry wanted : Bool) (request : Request) → dry ≡ wanted
     → request ≡ made_or_seen asked moment dry → made_or_seen asked moment wanted ≡ request
 made_of asked moment dry wanted request same is = ap (made_or_seen asked moment) (sym same) ∙ sym is
 
--- a call of these parts
-pub call_same : (root : List ℕ) (request : Request) (texts : Option (List ℕ)) (found : Rows) (format : OutputFormat)
+-- a line of these parts
+abbrev asked_of : List ℕ → Request → Option (List ℕ) → OutputFormat → ChangeStatus → Asked
+asked_of root request texts format status =
+    record { root = root; request = request; texts = texts; format = format; change_status = status }
+
+pub asked_same : (root : List ℕ) (request : Request) (texts : Option (List ℕ)) (found : Rows) (format : OutputFormat)
     (status : ChangeStatus) → format ≡ format_of found → status ≡ change_status_of found
-    → call (record { root = root; request = request; texts = texts; format = format_of found; change_status = change_status_of found }) ≡ call (record { root = root; request = request; texts = texts; format = format; change_status = status })
-call_same root request texts found format status a b =
-    ap (λ f. call
-    (record { root = root; request = request; texts = texts; format = f; change_status = change_status_of found })) (sym a)
-    ∙ ap (λ s. call (record { root = root; request = request; texts = texts; format = format; change_status = s })) (sym b)
+    → asked_of root request texts (format_of found) (change_status_of found)
+    ≡ asked_of root request texts format status
+asked_same root request texts found format status a b =
+    ap (λ f. asked_of root request texts f (change_status_of found)) (sym a)
+    ∙ ap (asked_of root request texts format) (sym b)

@@ -10,9 +10,9 @@ use Rattle.reuse_command.specs.declared.command.Command.{Command as SessionComma
 use Rattle.reuse_command.specs.declared.command.Command.TheVariants.{ConvertDep5, Download}
 use Rattle.reuse_command.specs.declared.request.Call.{Call}
 use Rattle.reuse_command.specs.declared.request.Call.TheVariants as calls
-use Rattle.reuse_command.specs.declared.request.Request.{Request as SessionRequest}
+use Rattle.reuse_command.specs.declared.request.Request.{Request}
 use Rattle.reuse_command.specs.declared.request.Request.TheVariants as requests
-use Rattle.reuse_arguments.specs.Asking.{Request, call, forget, recover, request_in}
+use Rattle.reuse_arguments.specs.Asking.{Asked, asked_in}
 use Rattle.reuse_arguments.specs.Choices.{change_status_of, format_of, is_dry_run, settings_of, usual_settings}
 use Rattle.reuse_arguments.specs.CommandWords.{amend_read, annotate_read}
 use Rattle.reuse_shown.specs.Dates.{IsYearOf}
@@ -41,11 +41,14 @@ call_read name found year =
     then then_read (step_read found) (λ number. Ok (calls.Revert number (flag found (codes "skip-moved"))))
     else Err (unread (codes "a subcommand that nothing reads"))
 
--- the history is looked at; else the call is made at this moment, or in a dry run it is previewed
-unfoldable pub session_read : List ℕ → Rows → ℕ → ℕ → Result SessionRequest Mistake
-session_read name found moment year =
+-- the history is looked at, or steps of it are forgotten, or what a stopped run left is rolled back; else the call is
+-- made at this moment, or in a dry run it is previewed
+unfoldable pub request_read : List ℕ → Rows → ℕ → ℕ → Result Request Mistake
+request_read name found moment year =
     if bytes_eq name (codes "log") then Ok requests.Log
     else if bytes_eq name (codes "show") then then_read (step_read found) (λ number. Ok (requests.Show number))
+    else if bytes_eq name (codes "forget") then then_read (steps_read found) (λ steps. Ok (requests.Forget steps))
+    else if bytes_eq name (codes "recover") then Ok (requests.Recover (flag found (codes "skip-moved")))
     else then_read (call_read name found year) (λ asked. Ok (made_or_seen asked moment (is_dry_run found)))
 
 -- the licences of a download are copied from this folder
@@ -54,40 +57,33 @@ texts_read name found =
     if bytes_eq name (codes "download") then then_read (texts_folder_read found) (λ folder. Ok (Some folder))
     else Ok None
 
--- a line that a session answers, in the tree under the folder
-unfoldable pub line_read : List ℕ → List ℕ → Rows → ℕ → ℕ → Result Request Mistake
-line_read root name found moment year =
-    then_read (session_read name found moment year) (λ request.
-    then_read (texts_read name found) (λ texts. Ok (call (record {
+-- what the subcommand of this name asks for in the tree under the folder, at this moment of this year
+unfoldable pub subcommand_read : List ℕ → List ℕ → Rows → ℕ → ℕ → Result Asked Mistake
+subcommand_read root name found moment year =
+    then_read (request_read name found moment year) (λ request.
+    then_read (texts_read name found) (λ texts. Ok (record {
       root = root;
       request = request;
       texts = texts;
       format = format_of found;
       change_status = change_status_of found;
-    }))))
-
--- what the subcommand of this name asks for in the tree under the folder, at this moment of this year
-unfoldable pub requested : List ℕ → List ℕ → Rows → ℕ → ℕ → Result Request Mistake
-requested root name found moment year =
-    if bytes_eq name (codes "recover") then Ok (recover root (flag found (codes "skip-moved")))
-    else if bytes_eq name (codes "forget") then then_read (steps_read found) (λ steps. Ok (forget root steps))
-    else line_read root name found moment year
+    })))
 
 -- what the whole line asks for: the root stands before the subcommand
-unfoldable pub request_read : Rows → Option (List ℕ × Rows) → ℕ → ℕ → Result Request Mistake
-request_read above None moment year = Err (unread (codes "no subcommand"))
-request_read above (Some sub) moment year = requested (root_of above) sub.0 sub.1 moment year
+unfoldable pub line_read : Rows → Option (List ℕ × Rows) → ℕ → ℕ → Result Asked Mistake
+line_read above None moment year = Err (unread (codes "no subcommand"))
+line_read above (Some sub) moment year = subcommand_read (root_of above) sub.0 sub.1 moment year
 
 -- what the words say, of which clap found this
 pub record IsSaid (above : Rows) (sub : Option (List ℕ × Rows)) (moment year : ℕ) (said : Said) : Type 0 where
   pub verbose : said.verbose ≡ flag above (codes "verbose")
   pub settings : said.settings ≡ settings_of above
   pub files_from : option_map string_bytes said.files_from ≡ files_from_of sub
-  pub asked : IsDueAs request_in (request_read above sub moment year) said.asked
+  pub line : IsDueAs asked_in (line_read above sub moment year) said.line
 
 -- words that are no line; nothing else is read of them
 abbrev pub no_line : LineFault → Said
-no_line fault = record { verbose = false; settings = usual_settings; files_from = None; asked = Err fault }
+no_line fault = record { verbose = false; settings = usual_settings; files_from = None; line = Err fault }
 
 -- what the words say in the year of the moment; an allocation failure may take its place
 abbrev pub Says : ArgMatches → ℕ → Said → Type 0

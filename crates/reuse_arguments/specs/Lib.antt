@@ -1,7 +1,6 @@
 pub mod AmendSteps
 pub mod AmendWords
 pub mod Asking
-pub mod ChangeStatuses
 pub mod Choices
 pub mod CommandLine
 pub mod CommandWords

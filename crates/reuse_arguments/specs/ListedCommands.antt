@@ -2,8 +2,6 @@
 use Rattle.std.specs.Prelude.{◌≡◌, ℕ, List, Option, None, Some, Result, Ok, Err, IfSome}
 use Rattle.reuse_arguments.specs.LineFaults.{mistake_of, unreadable}
 use Rattle.reuse_arguments.specs.Requests.{request_listed}
-use Rattle.reuse_arguments.specs.declared.line.Asked.{Asked}
-use Rattle.reuse_arguments.specs.declared.line.Asked.TheVariants as asked
 use Rattle.reuse_arguments.specs.declared.line.Line.{Line}
 use Rattle.reuse_arguments.specs.declared.line.LineFault.{LineFault}
 
@@ -15,8 +13,7 @@ IsWithList (Some file) line (Ok new) =
     (paths : List (List ℕ)) × (new ≡ record line { request = request_listed paths line.request })
 IsWithList (Some file) line (Err fault) = IfSome (mistake_of fault) (λ mistake. mistake ≡ unreadable file)
 
--- the same of what words ask for; only a line may have a list
-abbrev pub IsAskedWithList : Option (List ℕ) → Result Asked LineFault → Result Asked LineFault → Type 0
-IsAskedWithList file (Ok (asked.Line line)) (Ok (asked.Line new)) = IsWithList file line (Ok new)
-IsAskedWithList file (Ok (asked.Line line)) (Err fault) = IsWithList file line (Err fault)
-IsAskedWithList file due answer = answer ≡ due
+-- the same of words, which may be no line
+abbrev pub IsReadWithList : Option (List ℕ) → Result Line LineFault → Result Line LineFault → Type 0
+IsReadWithList file (Ok line) answer = IsWithList file line answer
+IsReadWithList file (Err fault) answer = answer ≡ Err fault

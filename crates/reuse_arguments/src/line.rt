@@ -1,10 +1,9 @@
 //! What a command line asks for.
 ghost use Rattle.std.specs.Prelude.{◌≡◌, Some, if◌then◌else◌};
-ghost use Rattle.reuse_arguments.specs.ChangeStatuses.{change_status_of};
 ghost use Rattle.reuse_arguments.specs.RefusalTexts.{line_fault_text};
 ghost use Rattle.reuse_arguments.specs.declared.line.ChangeStatus.TheVariants as statuses;
 
-use reuse_command::request::{Request, Steps};
+use reuse_command::request::Request;
 use reuse_notice::NoticeRefusal;
 use reuse_shown::shown_name::Names;
 use std::alloc::{AllocError, AllocFailed};
@@ -64,46 +63,6 @@ pub struct Line {
     pub texts: Option<String>,
     pub format: OutputFormat,
     pub change_status: ChangeStatus,
-}
-
-/// What words ask for.
-#[derive(Drop)]
-pub enum Asked {
-    /// What a session answers.
-    Line(Line),
-    /// To roll back what a stopped run left pending.
-    Recover(Recovery),
-    /// To take steps out of the history.
-    Forget(Forgetting),
-}
-
-impl Asked {
-    /// Whether a change is to end with status 1.
-    pub fn change_status(&self) -> ChangeStatus
-        ensures { result ≡ change_status_of self.now }
-    {
-        match self {
-            Asked::Line(line) => line.change_status,
-            Asked::Recover(_) | Asked::Forget(_) => ChangeStatus::Zero,
-        }
-    }
-}
-
-/// Where the pending step is to be rolled back, and how.
-#[derive(Drop)]
-pub struct Recovery {
-    /// The folder of the tree, relative to the working folder.
-    pub root: String,
-    /// Whether the paths that can't be rolled back are left as they are.
-    pub skip_moved: bool,
-}
-
-/// Where steps are to be taken out of the history, and which.
-#[derive(Drop)]
-pub struct Forgetting {
-    /// The folder of the tree, relative to the working folder.
-    pub root: String,
-    pub steps: Steps,
 }
 
 /// Why words are no line.

@@ -23,7 +23,7 @@ pub fn made_or_seen(call: Call, moment: Moment, dry_run: bool) -> Request
 pub fn call_of(request: &Request) -> Option<&Call> {
     match request {
         Request::Make(call, _) | Request::Preview(call) => Some(call),
-        Request::Log | Request::Show(_) => None,
+        Request::Log | Request::Show(_) | Request::Forget(_) | Request::Recover { .. } => None,
     }
 }
 
@@ -83,7 +83,9 @@ pub fn set_listed(request: &mut Request, listed: PathList)
     match request {
         Request::Make(call, _) => set_call_listed(call, listed),
         Request::Preview(call) => set_call_listed(call, listed),
-        Request::Log | Request::Show(_) => drop(listed),
+        Request::Log | Request::Show(_) | Request::Forget(_) | Request::Recover { .. } => {
+            drop(listed);
+        }
     }
 }
 

@@ -5,8 +5,8 @@ ghost use Rattle.clap.specs.Values.{kind_of};
 ghost use Rattle.clap.specs.declared.error.Error.{Error};
 ghost use Rattle.clap.specs.declared.parser.matches.ArgMatches.{ArgMatches};
 ghost use Rattle.std.specs.Option.{option_map};
-ghost use Rattle.reuse_arguments.specs.Asking.{request_in};
-ghost use Rattle.reuse_arguments.specs.CommandLine.{IsReadAs, IsRefused, Says, call_read, download_of, no_line, request_read, requested, session_read, texts_read};
+ghost use Rattle.reuse_arguments.specs.Asking.{asked_in};
+ghost use Rattle.reuse_arguments.specs.CommandLine.{IsReadAs, IsRefused, Says, call_read, download_of, line_read, no_line, request_read, subcommand_read, texts_read};
 ghost use Rattle.reuse_arguments.specs.Found.{found_in};
 ghost use Rattle.reuse_arguments.specs.LineFaults.{IsDue, IsDueAs, IsToldAs};
 
@@ -18,7 +18,7 @@ pub mod finder;
 mod found;
 mod unread_words;
 
-use crate::line::{Asked, Forgetting, Line, LineFault, Recovery};
+use crate::line::{Line, LineFault};
 use crate::request::made_or_seen;
 use crate::settings::Settings;
 use choices::{is_dry_run, read_change_status, read_format, read_settings};
@@ -45,7 +45,7 @@ pub struct Said {
     pub settings: Settings,
     /// The file that lists the files to be annotated or amended, where one is named.
     pub files_from: Option<String>,
-    pub asked: Result<Asked, LineFault>,
+    pub line: Result<Line, LineFault>,
 }
 
 impl Said {
@@ -57,7 +57,7 @@ impl Said {
             verbose: false,
             settings: Settings::usual(),
             files_from: None,
-            asked: Err(fault),
+            line: Err(fault),
         }
     }
 }
@@ -90,7 +90,7 @@ fn said_in(alloc: Global, matches: &ArgMatches<'_>, moment: Moment) -> Said
             verbose: flag(matches, "verbose"),
             settings: read_settings(matches),
             files_from,
-            asked: read_asked(alloc, matches, moment, year_of(moment)),
+            line: read_line(alloc, matches, moment, year_of(moment)),
         },
         Err(error) => Said::fault(LineFault::from(error)),
     }
@@ -120,59 +120,47 @@ fn fault_of(alloc: Global, error: &Error) -> Result<LineFault, AllocError>
     }
 }
 
-fn read_asked(
+fn read_line(
     alloc: Global,
     matches: &ArgMatches<'_>,
     moment: Moment,
     year: u16,
-) -> Result<Asked, LineFault>
+) -> Result<Line, LineFault>
     requires { year ≤ 9999 }
-    ensures { IsDueAs request_in
-        (request_read (found_in matches.now) (subcommand_rows_of matches.now) moment year) result }
+    ensures { IsDueAs asked_in
+        (line_read (found_in matches.now) (subcommand_rows_of matches.now) moment year) result }
 {
     let root = read_root(alloc, matches)?;
     match subcommand(matches) {
-        Some((name, inner)) => read_request(alloc, root, name, inner, moment, year),
+        Some((name, inner)) => read_subcommand(alloc, root, name, inner, moment, year),
         None => Err(unread(alloc, "no subcommand")?),
     }
 }
 
 /// What the subcommand asks for in the tree under this folder.
-fn read_request(
+fn read_subcommand(
     alloc: Global,
     root: String,
     name: &str,
     matches: &ArgMatches<'_>,
     moment: Moment,
     year: u16,
-) -> Result<Asked, LineFault>
+) -> Result<Line, LineFault>
     requires { year ≤ 9999 }
-    ensures { IsDueAs request_in (requested (string_bytes root) name.now (found_in matches.now) moment year) result }
+    ensures { IsDueAs asked_in (subcommand_read (string_bytes root) name.now (found_in matches.now) moment year) result }
 {
-    match name {
-        "recover" => Ok(Asked::Recover(Recovery {
-            root,
-            skip_moved: flag(matches, "skip-moved"),
-        })),
-        "forget" => {
-            let steps = read_steps(alloc, matches)?;
-            Ok(Asked::Forget(Forgetting { root, steps }))
-        }
-        _ => {
-            let request = read_session_request(alloc, name, matches, moment, year)?;
-            Ok(Asked::Line(Line {
-                root,
-                request,
-                texts: read_texts_folder(alloc, name, matches)?,
-                format: read_format(matches),
-                change_status: read_change_status(matches),
-            }))
-        }
-    }
+    let request = read_request(alloc, name, matches, moment, year)?;
+    Ok(Line {
+        root,
+        request,
+        texts: read_texts_folder(alloc, name, matches)?,
+        format: read_format(matches),
+        change_status: read_change_status(matches),
+    })
 }
 
 /// What a session is asked for.
-fn read_session_request(
+fn read_request(
     alloc: Global,
     name: &str,
     matches: &ArgMatches<'_>,
@@ -180,11 +168,15 @@ fn read_session_request(
     year: u16,
 ) -> Result<Request, LineFault>
     requires { year ≤ 9999 }
-    ensures { IsDue (session_read name.now (found_in matches.now) moment year) result }
+    ensures { IsDue (request_read name.now (found_in matches.now) moment year) result }
 {
     match name {
         "log" => Ok(Request::Log),
         "show" => Ok(Request::Show(read_step(alloc, matches)?)),
+        "forget" => Ok(Request::Forget(read_steps(alloc, matches)?)),
+        "recover" => Ok(Request::Recover {
+            skip_moved: flag(matches, "skip-moved"),
+        }),
         _ => {
             let call = read_call(alloc, name, matches, year)?;
             Ok(made_or_seen(call, moment, is_dry_run(matches)))

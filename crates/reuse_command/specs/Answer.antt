@@ -1,6 +1,7 @@
 -- What kind of refusal an answer tells, and when each may be told.
-use Rattle.std.specs.Prelude.{◌≡◌, ◌≢◌, ℕ, ◌<◌, Bool, false, List, ◌∷◌, Result, Ok, Err}
+use Rattle.std.specs.Prelude.{◌≡◌, ◌≢◌, ℕ, ◌<◌, Bool, false, List, [], ◌∷◌, None, Result, Ok, Err}
 use Rattle.reuse_store.specs.declared.store.Store.{Ghosts}
+use Rattle.reuse_command.specs.declared.reply.Recovered.{Recovered}
 use Rattle.reuse_command.specs.declared.reply.Response.{Response}
 use Rattle.reuse_command.specs.declared.reply.Response.TheVariants.{Changed, NothingChanged}
 use Rattle.reuse_command.specs.declared.failure.Failure.TheVariants.{Interrupted, Fault, Memory}
@@ -76,6 +77,10 @@ pub record RefusedAsRead {S A : Type 0} (store : Ghosts S) (old new : S) (answer
   pub clash : store.honest new → answer ≢ Err (Failed (Fault faults.Clash))
 
 -- ---- what each call may answer
+
+-- of a recovery where no step was pending
+abbrev pub nothing_recovered : Recovered
+nothing_recovered = record { number = None; changed = []; skipped = [] }
 
 -- no step is made, and none was begun: nothing changes, or a refusal is no failure
 abbrev pub IsNoStep : Result Response Refusal → Type 0

@@ -1,6 +1,7 @@
 //! What a session answers.
 ghost use Rattle.std.specs.Prelude.{◌≡◌, Some};
 ghost use Rattle.reuse_command.specs.declared.failure.Failure.TheVariants.{Memory};
+ghost use Rattle.reuse_command.specs.Answer.{nothing_recovered};
 ghost use Rattle.reuse_command.specs.RefusalTexts.{refusal_text};
 ghost use Rattle.reuse_command.specs.declared.reply.Refusal.TheVariants.{Failed};
 
@@ -9,13 +10,13 @@ use crate::command::Place;
 use crate::failure::{Failure, Fault};
 use crate::header_fault::HeaderFault;
 use crate::path_outcome::PathOutcomes;
-use reuse_change::{CommandName, Items, Moment, PathText};
+use reuse_change::{CommandName, EntryNumbers, Items, Moment, PathText};
 use reuse_dep5::Dep5Refusal;
 use reuse_header::StylesRefusal;
 use reuse_json::EntryChanges;
 use reuse_store::StoreFault;
 use reuse_text::Bytes;
-use std::alloc::{AllocError, AllocFailed};
+use std::alloc::{AllocError, AllocFailed, Global};
 use std::error::Error;
 use std::fmt;
 
@@ -70,6 +71,19 @@ pub struct Recovered {
     pub skipped: Paths,
 }
 
+impl Recovered {
+    /// No step was pending.
+    pub fn nothing(alloc: Global) -> Recovered
+        ensures { result ≡ nothing_recovered }
+    {
+        Recovered {
+            number: None,
+            changed: Paths::new(Vec::new(alloc)),
+            skipped: Paths::new(Vec::new(alloc)),
+        }
+    }
+}
+
 /// What a call did.
 #[derive(Debug, Drop)]
 pub enum Response {
@@ -91,6 +105,10 @@ pub enum Response {
     Shown(Shown),
     /// A step was taken back by a new one.
     Reverted(Reverted),
+    /// The steps of these numbers were taken out of the history, ascending, each once.
+    Forgotten(EntryNumbers),
+    /// What was pending was rolled back.
+    Recovered(Recovered),
 }
 
 /// Why a call was refused, or that it failed.

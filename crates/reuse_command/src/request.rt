@@ -36,6 +36,14 @@ pub enum Request {
     Make(Call, Moment),
     /// What the call would do.
     Preview(Call),
+    /// To take these steps out of the history. The tree stays.
+    Forget(Steps),
+    /// To roll back what a call that stopped left pending, before a session is opened. Once one is
+    /// open, nothing is pending.
+    Recover {
+        /// A path that can't be rolled back is left, and not refused.
+        skip_moved: bool,
+    },
     /// For the log.
     Log,
     /// To show the step of this number.

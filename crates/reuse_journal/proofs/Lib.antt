@@ -21,3 +21,4 @@ pub mod RecoveryDoubt
 pub mod RecoveryLaws
 pub mod Standings
 pub mod TakenBack
+pub mod SafeFiles

@@ -17,7 +17,7 @@ use Rattle.reuse_journal.specs.Carried.{SetsHead}
 use Rattle.reuse_journal.specs.History.{Memory}
 use Rattle.reuse_journal.specs.Journal.{Recorded, Journal, State}
 use Rattle.reuse_journal.specs.JournalFiles.{head_path, number_of}
-use Rattle.reuse_journal.specs.Losses.{IsSafeOn, AreSafeOn, AreInDoubt, StopsBackWithDoubt}
+use Rattle.reuse_journal.specs.Losses.{AreSafeOn, AreInDoubt, Earlier, IsSafe, StopsBackWithDoubt, beyond}
 use Rattle.reuse_journal.specs.Opening.{IsRead}
 use Rattle.reuse_journal.specs.Remembered.{Remembers}
 use Rattle.reuse_journal.specs.Standing.{Mutations, IsStanding, IsStep, IsUnderWay, InDoubt}
@@ -28,6 +28,7 @@ use Rattle.reuse_journal.proofs.FilesInDoubt.{none_pending}
 use Rattle.reuse_journal.proofs.HeadPuts.{head_keeps_tree, head_sets}
 use Rattle.reuse_journal.proofs.OpeningLemmas.{same_journal}
 use Rattle.reuse_journal.proofs.PendingRecovery.{under_way_still}
+use Rattle.reuse_journal.proofs.SafeFiles.{safe_tree}
 
 -- ---- one step leads from a journal to another
 
@@ -56,7 +57,7 @@ mutates_once Redo Undo step other old new a b = absurd (not_back_and_on other st
 mutates_once Undo Undo step other old new a b = (refl, same_front step other a.0 b.0 (sym a.1 ∙ b.1))
 mutates_once Redo Redo step other old new a b = (refl, same_front step other a.0 b.0 (sym a.1 ∙ b.1))
 
-module _ {S : Type 0} (store : Ghosts S) (earlier held next : State) where
+module _ {S : Type 0} (store : Ghosts S) (earlier : Earlier) (held next : State) where
   -- ---- what was only read
 
   pub files_in_doubt : (old : S) → AreInDoubt store earlier held next old → InDoubt held next (store.files old)
@@ -80,7 +81,7 @@ module _ {S : Type 0} (store : Ghosts S) (earlier held next : State) where
 
     -- where nothing is pending, they are one of the two
     pub reads_standing : (memory : Memory) (journal : Journal) → IsRead (store.files old) None memory journal → AreInDoubt store earlier held next old
-        → (IsStanding (store.files new) held × Remembers memory held.journal × AreSafeOn store earlier held new) ⊎ (IsStanding (store.files new) next × Remembers memory next.journal × AreSafeOn store held next new)
+        → (IsStanding (store.files new) held × Remembers memory held.journal × AreSafeOn store earlier held new) ⊎ (IsStanding (store.files new) next × Remembers memory next.journal × AreSafeOn store (beyond earlier held) next new)
     reads_standing memory journal read (inl stands) = inl (
       subst (λ files. IsStanding files held) same stands.0,
       subst (Remembers memory) (same_journal (undo_folder_of (store.files old)) journal held.journal None None read.keeps stands.0.journal).0 read.remembers,
@@ -97,23 +98,23 @@ module _ {S : Type 0} (store : Ghosts S) (earlier held next : State) where
 
   -- where a step is pending, it is under way in the files
   pub each_in_doubt : (old : S) (pending : Pending) (memory : Memory) (journal : Journal) → IsRead (store.files old) (Some pending) memory journal → AreInDoubt store earlier held next old
-      → Leaves store old (λ left. IsSafeOn earlier held left ⊎ InDoubt held next left)
+      → Leaves store old (λ left. IsSafe earlier held left ⊎ InDoubt held next left)
   each_in_doubt old pending memory journal read (inl stands) = absurd (none_pending (store.files old) held stands.0 pending memory journal read)
   each_in_doubt old pending memory journal read (inr (inl stands)) = absurd (none_pending (store.files old) next stands.0 pending memory journal read)
   each_in_doubt old pending memory journal read (inr (inr step)) = step.4
 
   -- ---- what is rolled back
 
-  pub standing_safe : (files : Files) → IsStanding files held → IsSafeOn earlier held files
-  standing_safe files stands = record { tree = stands.tree; opens = inl stands }
+  pub standing_safe : (files : Files) → IsStanding files held → IsSafe earlier held files
+  standing_safe files stands = inl (record { tree = stands.tree; opens = inl stands })
 
   module _ (direction : PendingDirection) (step : Recorded) (leads : IsStep direction step held next) where
     none_made : (tree : Files) → tree ≡ held.tree → SomeMade (direction_of direction) step.changes held.tree tree
     none_made tree same = subst (SomeMade (direction_of direction) step.changes held.tree) (sym same) (made_none (direction_of direction) step.changes held.tree)
 
     -- of all that may be left, some of the step's changes are made
-    pub some_made : (left : Files) → IsSafeOn earlier held left ⊎ InDoubt held next left → SomeMade (direction_of direction) step.changes held.tree (tree_of left)
-    some_made left (inl safe) = none_made (tree_of left) safe.tree
+    pub some_made : (left : Files) → IsSafe earlier held left ⊎ InDoubt held next left → SomeMade (direction_of direction) step.changes held.tree (tree_of left)
+    some_made left (inl safe) = none_made (tree_of left) (safe_tree earlier held left safe)
     some_made left (inr (inl stands)) = none_made (tree_of left) stands.tree
     some_made left (inr (inr (inl stands))) = subst (SomeMade (direction_of direction) step.changes held.tree) (sym stands.tree) (made_all (direction_of direction) step.changes held.tree next.tree leads.leads)
     some_made left (inr (inr (inr (turn, other, other_leads, under)))) =
@@ -146,7 +147,7 @@ module _ {S : Type 0} (store : Ghosts S) (earlier held next : State) where
       stops_in_doubt new (inr (done, tree, folder, (inr put, each))) = inl (
         settled done tree folder (store.files new) put,
         λ left is. ⊎_elim
-            (λ (e : left ≡ done). record { tree = ap tree_of e ∙ tree; opens = inr (inl (next, direction, step, leads, all_back done tree folder left e)) })
+            (λ (e : left ≡ done). inl (record { tree = ap tree_of e ∙ tree; opens = inr (inl (next, direction, step, leads, all_back done tree folder left e)) }))
             (λ (sets : Sets head_path (Some text) done left). standing_safe left (settled done tree folder left sets))
             (each left is),
       )

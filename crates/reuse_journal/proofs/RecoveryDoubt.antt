@@ -27,7 +27,7 @@ use Rattle.reuse_journal.specs.Carried.{IsRolledBack}
 use Rattle.reuse_journal.specs.History.{Memory}
 use Rattle.reuse_journal.specs.Journal.{Recorded, Journal, State}
 use Rattle.reuse_journal.specs.JournalFiles.{head_path, entry_path, entry_in, head_of, number_of, EntrySays, IsKeptIn, KeepsJournal}
-use Rattle.reuse_journal.specs.Losses.{AreInDoubt, AwaitsRecovery, AwaitsOrIs, IsOrRecoversTo, StopsBackWithDoubt, SurvivesInDoubt, SurvivesRecovery}
+use Rattle.reuse_journal.specs.Losses.{AreInDoubt, AwaitsOrIs, AwaitsRecovery, Earlier, IsOrRecoversTo, StopsBackWithDoubt, SurvivesInDoubt, SurvivesRecovery}
 use Rattle.reuse_journal.specs.Opening.{IsRead, NoFileAbove}
 use Rattle.reuse_journal.specs.Recovery.{AreFound, RecoversAt, RecoversTo, changes_besides}
 use Rattle.reuse_journal.specs.Remembered.{IsSameBut}
@@ -317,7 +317,7 @@ module _ (direction : PendingDirection) (step : Recorded) (held next : State) wh
       partly = record { made = some_on direction step held files to; ready = ready };
     }
 
-    module _ {S : Type 0} (store : Ghosts S) (earlier : State) (leads : IsStep direction step held next) (new : S) where
+    module _ {S : Type 0} (store : Ghosts S) (earlier : Earlier) (leads : IsStep direction step held next) (new : S) where
       doubt_left : AwaitsOrIs store direction step held new → Leaves store new (IsOrRecoversTo direction step held)
           → AreInDoubt store earlier held next new
       doubt_left (inl awaits) each = inr (inr (
@@ -332,13 +332,13 @@ module _ (direction : PendingDirection) (step : Recorded) (held next : State) wh
       ))
       doubt_left (inr (stands, have)) each = inl (
         stands,
-        λ left is. record {
+        λ left is. inl (record {
           tree = have left is;
           opens = ⊎_elim
               (λ (here : IsStanding left held). inl here)
               (λ (to : RecoversTo direction step held left). inr (inl (next, direction, step, leads, under_again left to)))
               (each left is);
-        },
+        }),
       )
 
       pub survives_in_doubt : (result : Result Recovered Refusal) → SurvivesRecovery store direction step held result new
@@ -353,7 +353,7 @@ module _ (direction : PendingDirection) (step : Recorded) (held next : State) wh
       survives_in_doubt (Err refusal) survived early = early tt
 
 -- what recovering files in doubt leaves
-module _ {S : Type 0} (store : Ghosts S) (earlier held next : State) (old new : S) (honest : store.honest new)
+module _ {S : Type 0} (store : Ghosts S) (earlier : Earlier) (held next : State) (old new : S) (honest : store.honest new)
     (pending : Pending) (memory : Memory) (journal : Journal)
     (read : IsRead (store.files old) (Some pending) memory journal)
     (result : Result Recovered Refusal) (early : IfErr result (λ refusal. IsEarly refusal → OnlyReads store old new))

@@ -1,5 +1,6 @@
 -- What a loss of power leaves of a tree and its journal.
-use Rattle.std.specs.Prelude.{◌≡◌, ◌⊎◌, List, ℕ, Some, Result, Ok, Err, MatchResult}
+use Rattle.std.specs.Prelude.{◌≡◌, ◌⊎◌, Bool, true, List, ℕ, Some, Result, Ok, Err, MatchResult}
+use Rattle.std.specs.List.{All}
 use Rattle.reuse_store.specs.Asked.{Leaves, IsSynced}
 use Rattle.reuse_change.specs.Entry.{LeadsBy, SomeMade}
 use Rattle.reuse_change.specs.Files.{Files, tree_of}
@@ -12,8 +13,9 @@ use Rattle.reuse_store.specs.declared.store.Store.{Ghosts}
 use Rattle.reuse_change.specs.declared.direction.Direction.{Direction}
 use Rattle.reuse_command.specs.Answer.{IsStop}
 use Rattle.reuse_journal.specs.Carried.{SetsHead, IsStopped}
-use Rattle.reuse_journal.specs.Journal.{Recorded, State}
-use Rattle.reuse_journal.specs.JournalFiles.{head_path}
+use Rattle.reuse_journal.specs.Journal.{Journal, Recorded, State}
+use Rattle.reuse_journal.specs.JournalFiles.{head_path, IsKeptIn}
+use Rattle.reuse_journal.specs.Numbered.{state_besides}
 use Rattle.reuse_journal.specs.Recovery.{RecoversTo}
 use Rattle.reuse_command.specs.declared.reply.Recovered.{Recovered}
 use Rattle.reuse_command.specs.declared.reply.Response.{Response}
@@ -34,25 +36,60 @@ pub record IsSafeOn (earlier held : State) (left : Files) : Type 0 where
       ⊎ ((direction : PendingDirection) × (step : Recorded) × IsStep direction step earlier held
       × IsUnderWay direction step earlier left)
 
+-- What a loss of power may open on beside a committed state: the one before it, where a step that led to it was stopped;
+-- and whether ones that differ by forgotten steps, since a forget was stopped.
+pub record Earlier : Type 0 where
+  pub state : State
+  pub forgetting : Bool
+
+-- the same of a state behind that one
+abbrev pub beyond : Earlier → State → Earlier
+beyond earlier held = record { state = held; forgetting = earlier.forgetting }
+
+-- the two states have one tree, and of one history each lacks some steps
+pub record DifferByForgotten (held other : State) : Type 0 where
+  pub whole : State
+  pub numbers : List ℕ
+  pub others : List ℕ
+  pub is_held : held ≡ state_besides numbers whole
+  pub is_other : other ≡ state_besides others whole
+
+-- the entries of all steps are in the folder
+abbrev pub HasEntries : Files → Journal → Type 0
+HasEntries folder journal = All (IsKeptIn folder) journal.done × All (IsKeptIn folder) journal.undone
+
+-- what is left is safe on a state that differs by forgotten steps, and has the entries of this one
+pub record IsSafeBeside (held : State) (left : Files) : Type 0 where
+  pub other : State
+  pub differ : DifferByForgotten held other
+  pub entries : HasEntries (undo_folder_of left) held.journal
+  pub earlier : State
+  pub safe : IsSafeOn earlier other left
+
+-- what is left is safe on the standing; or, if a forget was stopped, it may be so beside it
+abbrev pub IsSafe : Earlier → State → Files → Type 0
+IsSafe earlier held left =
+    IsSafeOn earlier.state held left ⊎ ((earlier.forgetting ≡ true) × IsSafeBeside held left)
+
 -- all that a loss of power may leave is safe on the standing
-abbrev pub AreSafeOn : {S : Type 0} → Ghosts S → State → State → S → Type 0
-AreSafeOn store earlier held new = Leaves store new (IsSafeOn earlier held)
+abbrev pub AreSafeOn : {S : Type 0} → Ghosts S → Earlier → State → S → Type 0
+AreSafeOn store earlier held new = Leaves store new (IsSafe earlier held)
 
 -- The files are in doubt between the standing and the next, and so is all that a loss of power may leave: each is safe
 -- on the standing that the files are; or the step between the two is under way in the files, and each is safe on the
 -- first, or in doubt between the two.
-abbrev pub AreInDoubt : {S : Type 0} → Ghosts S → (earlier held next : State) → S → Type 0
+abbrev pub AreInDoubt : {S : Type 0} → Ghosts S → Earlier → (held next : State) → S → Type 0
 AreInDoubt store earlier held next new =
     (IsStanding (store.files new) held × AreSafeOn store earlier held new)
-    ⊎ (IsStanding (store.files new) next × AreSafeOn store held next new)
+    ⊎ (IsStanding (store.files new) next × AreSafeOn store (beyond earlier held) next new)
     ⊎ ((direction : PendingDirection) × (step : Recorded) × IsStep direction step held next
     × IsUnderWay direction step held (store.files new)
-    × Leaves store new (λ left. IsSafeOn earlier held left ⊎ InDoubt held next left))
+    × Leaves store new (λ left. IsSafe earlier held left ⊎ InDoubt held next left))
 
 -- What a loss of power may leave after a call of a session that stood on the standing: behind a step what is there;
 -- where a step was stopped, the files are in doubt between the standing and such a next one, and so is all that may be
 -- left; and else it is safe on the standing, as it was before.
-abbrev pub Survives : {S : Type 0} → Ghosts S → (State → Type 0) → (earlier held : State) → Result Response Refusal → S
+abbrev pub Survives : {S : Type 0} → Ghosts S → (State → Type 0) → Earlier → State → Result Response Refusal → S
     → Type 0
 Survives store IsNext earlier held (Ok NothingChanged) new = AreSafeOn store earlier held new
 Survives store IsNext earlier held (Ok reply) new = IsSynced store new
@@ -60,20 +97,16 @@ Survives store IsNext earlier held (Err (Failed (Interrupted cause))) new =
     (next : State) × IsNext next × AreInDoubt store earlier held next new
 Survives store IsNext earlier held (Err refusal) new = AreSafeOn store earlier held new
 
--- the next standing is that after a step this way
-abbrev pub IsNextBy : PendingDirection → State → State → Type 0
-IsNextBy direction held next = (step : Recorded) × IsStep direction step held next
-
 -- ---- recovering
 
 -- Files in doubt were recovered. They are one of the two committed states, and all that may be left is safe on it; or
 -- that failed, and they are in doubt still.
-abbrev pub SurvivesInDoubt : {S : Type 0} → Ghosts S → (earlier held next : State) → Result Recovered Refusal → S
+abbrev pub SurvivesInDoubt : {S : Type 0} → Ghosts S → Earlier → (held next : State) → Result Recovered Refusal → S
     → Type 0
 SurvivesInDoubt store earlier held next result new =
     MatchResult result
     (λ recovered. (IsStanding (store.files new) held × AreSafeOn store earlier held new)
-    ⊎ (IsStanding (store.files new) next × AreSafeOn store held next new))
+    ⊎ (IsStanding (store.files new) next × AreSafeOn store (beyond earlier held) next new))
     (λ refusal. AreInDoubt store earlier held next new)
 
 -- all that may be left has one tree

@@ -16,6 +16,7 @@ use Rattle.reuse_journal.specs.JournalFiles.{head_path, number_of, IsKeptIn, Kee
 use Rattle.reuse_journal.specs.Opening.{NoFileAbove, IsFirstBad, IsStuckAt}
 use Rattle.reuse_journal.specs.Remembered.{IsSameBut}
 use Rattle.reuse_journal.specs.Standing.{IsStanding, IsTree}
+use Rattle.reuse_command.specs.Answer.{nothing_recovered}
 use Rattle.reuse_command.specs.declared.reply.Recovered.{Recovered}
 use Rattle.reuse_command.specs.declared.reply.Refusal.{Refusal}
 use Rattle.reuse_command.specs.declared.reply.Refusal.TheVariants.{BadJournal, Moved}
@@ -88,10 +89,6 @@ pub record TellsRecovery (skip_moved : Bool) (direction : PendingDirection) (ste
   pub changed : AreMade (direction_of direction) (tree_of files) step.changes told.changed
   pub skipped : AreStuck (direction_of direction) (tree_of files) step.changes told.skipped
   pub none : skip_moved ≡ false → told.skipped ≡ []
-
--- the answer where no step was pending
-abbrev pub nothing_recovered : Recovered
-nothing_recovered = record { number = None; changed = []; skipped = [] }
 
 -- what is answered and left: nothing, where no step was pending; and else the step is recovered
 abbrev pub RecoversFiles : Bool → (before after : Files) → Recovered → Type 0

@@ -13,7 +13,7 @@ ghost use Rattle.reuse_journal.specs.JournalFiles.{head_path, entry_path, number
 ghost use Rattle.reuse_journal.specs.Opening.{least, listed_entry, named, IsReadable, IsListedIn, IsFoundAt, IsLeastFound, NoFileAbove, IsFirstUnreadable, IsFirstBad, IsRead, IsSettled, IsStuckAt, MutationsToOpen, MutationsFor, OpensOn, StopsOpening};
 ghost use Rattle.reuse_journal.specs.Remembered.{head_room, listed_count, HasHeadText, IsSameBut, Remembers};
 ghost use Rattle.reuse_journal.specs.Standing.{IsStanding, IsUnderWay, InDoubt};
-ghost use Rattle.reuse_journal.specs.Losses.{AreSafeOn, AreInDoubt};
+ghost use Rattle.reuse_journal.specs.Losses.{AreSafeOn, AreInDoubt, Earlier, beyond};
 ghost use Rattle.reuse_change.specs.Tree.{undo_folder_of};
 ghost use Rattle.reuse_store.specs.declared.cause.Cause.{Cause};
 ghost use Rattle.reuse_store.specs.declared.cause.Cause.TheVariants as causes;
@@ -52,10 +52,10 @@ pub fn open_journal<S: Store>(alloc: Global, store: &mut S) -> Result<History, R
         (λ refusal. IsFailure refusal × InDoubt first second (S.files store.new)) }
     // Where all that a loss of power may leave is in doubt too, it is safe on that standing then,
     // or still in doubt.
-    ensures survives { S.honest store.new → (earlier held next : State) → AreInDoubt S.Store earlier held next store.old
+    ensures survives { S.honest store.new → (earlier : Earlier) → (held next : State) → AreInDoubt S.Store earlier held next store.old
         → MatchResult result (λ memory. (IsStanding (S.files store.new) held × Remembers memory held.journal
         × AreSafeOn S.Store earlier held store.new)
-        ⊎ (IsStanding (S.files store.new) next × Remembers memory next.journal × AreSafeOn S.Store held next store.new))
+        ⊎ (IsStanding (S.files store.new) next × Remembers memory next.journal × AreSafeOn S.Store (beyond earlier held) next store.new))
         (λ refusal. AreInDoubt S.Store earlier held next store.new) }
     // Where a step was rolled back the head is the very text of what is remembered.
     ensures texts { S.honest store.new
@@ -131,7 +131,7 @@ fn recover_pending<S: Store>(
         × (IsStanding (S.files store.new) first ⊎ IsUnderWay pending.direction step first (S.files store.new))) }
     ensures survives { S.honest store.new → (journal : Journal)
         → IsRead (S.files store.old) (Some pending) history.now journal
-        → (earlier held next : State) → AreInDoubt S.Store earlier held next store.old
+        → (earlier : Earlier) → (held next : State) → AreInDoubt S.Store earlier held next store.old
         → MatchResult result (λ done. IsStanding (S.files store.new) held
         × AreSafeOn S.Store earlier held store.new) (λ refusal. AreInDoubt S.Store earlier held next store.new) }
     ensures interrupted { S.honest store.new → (journal : Journal)

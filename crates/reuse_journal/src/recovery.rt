@@ -19,7 +19,7 @@ ghost use Rattle.reuse_command.specs.Answer.{HasCause, IsEarly, IsFailure, IsRol
 ghost use Rattle.reuse_journal.specs.Carried.{IsRolledBack, StopsBack};
 ghost use Rattle.reuse_journal.specs.Journal.{Journal, Recorded, State};
 ghost use Rattle.reuse_journal.specs.JournalFiles.{head_path};
-ghost use Rattle.reuse_journal.specs.Losses.{AreInDoubt, AwaitsRecovery, SurvivesInDoubt, SurvivesRecovery};
+ghost use Rattle.reuse_journal.specs.Losses.{AreInDoubt, AwaitsRecovery, Earlier, SurvivesInDoubt, SurvivesRecovery};
 ghost use Rattle.reuse_journal.specs.Losses.{HaveTree, MayHaveHead, StopsBackWithDoubt};
 ghost use Rattle.reuse_journal.specs.Opening.{IsFirstBad, IsStuckAt, IsRead};
 ghost use Rattle.reuse_journal.specs.Recovery.{ArePart, HasNonePending, RecoversFiles, StopsRecovering, RefusesRecovery, FindsNext, AreFound, changes_besides};
@@ -88,7 +88,7 @@ pub fn recover<S: Store>(
 
     // If all that a loss of power may leave is in doubt between two committed states too, it is
     // safe then on the one that recovering leaves. If that fails, it is still in doubt.
-    ensures survives { S.honest result.0 → (earlier held next : State) → AreInDoubt S.Store earlier held next store
+    ensures survives { S.honest result.0 → (earlier : Earlier) → (held next : State) → AreInDoubt S.Store earlier held next store
         → SurvivesInDoubt S.Store earlier held next result.1 result.0 }
     // The same of a step of which some paths can't be rolled back. Once it is recovered, a loss of
     // power leaves what is there. If that stops, recovering what is left leads to the same files.
@@ -127,7 +127,7 @@ fn recover_journal<S: Store>(
         → OnlyReads S.Store store.old store.new }
     ensures folder { S.honest store.new
         → IsSameBut head_path (undo_folder_of (S.files store.old)) (undo_folder_of (S.files store.new)) }
-    ensures survives { S.honest store.new → (earlier held next : State) → AreInDoubt S.Store earlier held next store.old
+    ensures survives { S.honest store.new → (earlier : Earlier) → (held next : State) → AreInDoubt S.Store earlier held next store.old
         → SurvivesInDoubt S.Store earlier held next result store.new }
     ensures lasting { S.honest store.new → (direction : PendingDirection) → (step : Recorded) → (held : State)
         → AwaitsRecovery S.Store direction step held store.old
@@ -139,11 +139,7 @@ fn recover_journal<S: Store>(
 {
     let (pending, history) = read_journal(alloc, store)?;
     match pending {
-        None => Ok(Recovered {
-            number: None,
-            changed: Paths::new(Vec::new(alloc)),
-            skipped: Paths::new(Vec::new(alloc)),
-        }),
+        None => Ok(Recovered::nothing(alloc)),
         Some(pending) => recover_step(alloc, store, pending, &history, skip_moved),
     }
 }

@@ -3,9 +3,12 @@ use Rattle.std.specs.Prelude.{◌≡◌, ℕ, List, [], ◌∷◌, ◌++◌, Boo
 use Rattle.reuse_change.specs.Change.{path_of}
 use Rattle.reuse_change.specs.declared.change.Change.{Change}
 use Rattle.reuse_change.specs.declared.change.Change.TheVariants.{Make, Drop, Splice}
+use Rattle.std.specs.Fmt.{decimal}
+use Rattle.std.specs.List.{flat_map}
 use Rattle.reuse_print.specs.RowLines.{AreRowLines, IsRowLine}
 use Rattle.reuse_command.specs.declared.path_outcome.PathOutcome.{PathOutcome}
 use Rattle.reuse_command.specs.declared.path_outcome.PathOutcome.TheVariants.{Changes, Unchanged, Skipped, Refused}
+use Rattle.reuse_command.specs.declared.reply.Recovered.{Recovered}
 use Rattle.reuse_command.specs.declared.reply.Response.{Response}
 use Rattle.reuse_command.specs.declared.reply.Response.TheVariants as responses
 use Rattle.reuse_command.specs.declared.reply.Response.TheVariants.{Opened, Changed, NothingChanged, Undone, Redone, Log, Preview}
@@ -54,14 +57,26 @@ abbrev pub IsShownText : Names → Shown → List ℕ → Type 0
 IsShownText names shown text =
     (line : List ℕ) × IsRowLine shown.row line × (text ≡ line ++ change_lines names shown.changes)
 
--- the paths at which a step was taken back
-abbrev pub changed_text : Names → List (List ℕ) → List ℕ
-changed_text names [] = codes "nothing changed" ++ 10 ∷ []
-changed_text names (path ∷ paths) = lines_of names (codes "changed") (path ∷ paths)
+-- a line for each path, or that there was none
+abbrev pub some_paths_text : Names → List ℕ → List (List ℕ) → List ℕ
+some_paths_text names word [] = codes "nothing changed" ++ 10 ∷ []
+some_paths_text names word (path ∷ paths) = lines_of names word (path ∷ paths)
 
--- what a revert is printed as: these, and then the paths that were left
+-- what a revert is printed as: the paths at which a step was taken back, and then those that were left
 abbrev pub reverted_text : Names → Reverted → List ℕ
-reverted_text names reverted = changed_text names reverted.changed ++ lines_of names (codes "skipped") reverted.skipped
+reverted_text names reverted = some_paths_text names (codes "changed") reverted.changed ++ lines_of names (codes "skipped") reverted.skipped
+
+-- what a recovery is printed as: the paths that were rolled back, and then those that were left
+abbrev pub recovered_text : Names → Recovered → List ℕ
+recovered_text names recovered = some_paths_text names (codes "set back") recovered.changed ++ lines_of names (codes "skipped") recovered.skipped
+
+-- what forgetting is printed as: a line for each number, or that there was none
+abbrev pub forgotten_line : ℕ → List ℕ
+forgotten_line number = codes "forgot " ++ decimal number ++ 10 ∷ []
+
+abbrev pub forgotten_text : List ℕ → List ℕ
+forgotten_text [] = codes "nothing changed" ++ 10 ∷ []
+forgotten_text (number ∷ numbers) = flat_map forgotten_line (number ∷ numbers)
 
 -- what a reply is printed as; that a session was opened is not told
 abbrev pub IsResponseText : Names → Response → List ℕ → Type 0
@@ -74,6 +89,8 @@ IsResponseText names (Log rows) text = AreRowLines rows text
 IsResponseText names (Preview path_outcomes) text = text ≡ path_outcome_lines names path_outcomes
 IsResponseText names (responses.Shown shown) text = IsShownText names shown text
 IsResponseText names (responses.Reverted reverted) text = text ≡ reverted_text names reverted
+IsResponseText names (responses.Forgotten numbers) text = text ≡ forgotten_text numbers
+IsResponseText names (responses.Recovered recovered) text = text ≡ recovered_text names recovered
 
 -- whether a path would change
 abbrev pub would_change : PathOutcome → Bool
@@ -91,3 +108,5 @@ path_count (Log rows) = 0
 path_count (Preview path_outcomes) = count_by would_change path_outcomes
 path_count (responses.Shown shown) = 0
 path_count (responses.Reverted reverted) = length reverted.changed
+path_count (responses.Forgotten numbers) = 0
+path_count (responses.Recovered recovered) = length recovered.changed

@@ -1,13 +1,14 @@
 //! The lines that an answer is printed as.
 ghost use Rattle.std.specs.Prelude.{◌≡◌, OnOk, count_by};
 ghost use Rattle.std.specs.Io.KnownBytes.{Appends};
-ghost use Rattle.reuse_print.specs.Lines.{line_of, lines_of, path_outcome_line, path_outcome_lines, would_change, change_lines, kind_word, path_count, IsResponseText, IsShownText, changed_text, reverted_text};
+ghost use Rattle.std.specs.List.{flat_map};
+ghost use Rattle.reuse_print.specs.Lines.{line_of, lines_of, path_outcome_line, path_outcome_lines, would_change, change_lines, kind_word, path_count, IsResponseText, IsShownText, forgotten_line, forgotten_text, recovered_text, reverted_text, some_paths_text};
 ghost use Rattle.reuse_shown.specs.JoinedTexts.{AppendsSome};
 
 use crate::rows::{print_row, print_rows};
 use reuse_change::{Change, PathText};
 use reuse_command::path_outcome::PathOutcome;
-use reuse_command::reply::{Response, Reverted, Shown};
+use reuse_command::reply::{Recovered, Response, Reverted, Shown};
 use reuse_shown::shown_name::{Names, print_name};
 use std::io::{self, Write};
 
@@ -52,6 +53,8 @@ pub fn print_response<W: Write>(out: &mut W, names: Names, reply: &Response) -> 
         ),
         Response::Shown(shown) => print_shown(out, names, shown),
         Response::Reverted(reverted) => print_reverted(out, names, reverted),
+        Response::Forgotten(numbers) => print_forgotten(out, numbers.as_slice()),
+        Response::Recovered(recovered) => print_recovered(out, names, recovered),
         Response::Opened => Ok(()),
     }
 }
@@ -117,18 +120,58 @@ pub fn kind_word(change: &Change) -> &'static str
 fn print_reverted<W: Write>(out: &mut W, names: Names, reverted: &Reverted) -> io::Result<()>
     ensures { OnOk result (Appends (W.contents out.old) (W.contents out.new) (reverted_text names reverted.now)) }
 {
-    print_reverted_paths(out, names, reverted.changed.as_slice())?;
+    print_some_paths(out, names, "changed", reverted.changed.as_slice())?;
     print_paths(out, names, "skipped", reverted.skipped.as_slice())
 }
 
-fn print_reverted_paths<W: Write>(out: &mut W, names: Names, paths: &[PathText]) -> io::Result<()>
-    ensures { OnOk result (Appends (W.contents out.old) (W.contents out.new) (changed_text names paths.now)) }
+/// Prints what a recovery did: the paths that were rolled back, and then those that were left.
+fn print_recovered<W: Write>(out: &mut W, names: Names, recovered: &Recovered) -> io::Result<()>
+    ensures { OnOk result (Appends (W.contents out.old) (W.contents out.new) (recovered_text names recovered.now)) }
+{
+    print_some_paths(out, names, "set back", recovered.changed.as_slice())?;
+    print_paths(out, names, "skipped", recovered.skipped.as_slice())
+}
+
+/// Prints a line for each path, or that nothing changed.
+fn print_some_paths<W: Write>(
+    out: &mut W,
+    names: Names,
+    word: &str,
+    paths: &[PathText],
+) -> io::Result<()>
+    ensures { OnOk result (Appends (W.contents out.old) (W.contents out.new) (some_paths_text names word.now paths.now)) }
 {
     if paths.is_empty() {
         writeln!(out, "nothing changed")
     } else {
-        print_paths(out, names, "changed", paths)
+        print_paths(out, names, word, paths)
     }
+}
+
+/// Prints a line for each number, or that nothing changed.
+fn print_forgotten<W: Write>(out: &mut W, numbers: &[u32]) -> io::Result<()>
+    ensures { OnOk result (Appends (W.contents out.old) (W.contents out.new) (forgotten_text numbers.now)) }
+{
+    if numbers.is_empty() {
+        writeln!(out, "nothing changed")
+    } else {
+        print_numbers(out, numbers)
+    }
+}
+
+fn print_numbers<W: Write>(out: &mut W, numbers: &[u32]) -> io::Result<()>
+    ensures { OnOk result (Appends (W.contents out.old) (W.contents out.new) (flat_map forgotten_line numbers.now)) }
+{
+    for number in numbers {
+        print_number(out, *number)?;
+    }
+    Ok(())
+}
+
+fn print_number<W: Write>(out: &mut W, number: u32) -> io::Result<()>
+    ensures { OnOk result (Appends (W.contents out.old) (W.contents out.new) (forgotten_line number)) }
+{
+    writeln!(out, "forgot {number}")
 }
 
 /// How many paths a response reports that changed, or that would change.
@@ -141,7 +184,12 @@ pub fn path_count(reply: &Response) -> usize
         }
         Response::Preview(path_outcomes) => change_count(path_outcomes.as_slice()),
         Response::Reverted(reverted) => reverted.changed.as_slice().len(),
-        Response::NothingChanged | Response::Log(_) | Response::Shown(_) | Response::Opened => 0,
+        Response::Recovered(recovered) => recovered.changed.as_slice().len(),
+        Response::NothingChanged
+        | Response::Log(_)
+        | Response::Shown(_)
+        | Response::Opened
+        | Response::Forgotten(_) => 0,
     }
 }
 

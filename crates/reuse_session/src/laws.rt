@@ -31,7 +31,8 @@ ghost use Rattle.reuse_journal.specs.InTurn.{LeadsInTurn};
 ghost use Rattle.reuse_journal.specs.Journal.{Recorded, State, Replays};
 ghost use Rattle.reuse_journal.specs.JournalFiles.{IsFree};
 ghost use Rattle.reuse_session.specs.session.Machine.{IsUnbroken, Snapshots, redone, undone};
-ghost use Rattle.reuse_session.specs.session.Model.{AreOf, Gives, IsByTrees};
+ghost use Rattle.reuse_session.specs.session.Model.{AreOf, Gives, IsByTrees, TakesFromTheEnds};
+ghost use Rattle.reuse_session.specs.session.Forgetting.{alone, IsWithoutOldest, numbers_of, snapshots_besides};
 ghost use Rattle.reuse_journal.specs.Opening.{IsFirstBad, IsStuckAt, CanOpenOn};
 ghost use Rattle.reuse_plan.specs.Outcome.{edits_of, outcome_of};
 ghost use Rattle.reuse_session.specs.session.Previews.{PreviewsReplay};
@@ -323,7 +324,8 @@ pub fn steps_follow_path_outcomes()
 
 /// Where no step is missing from its history, the model gives one answer to a request that names no
 /// step by its number, and is in one state then: an undo goes back to the tree before the last step,
-/// and a redo on to that after the next. No step is missing then either.
+/// and a redo on to that after the next. No step is missing then either, unless steps are forgotten
+/// that are neither the oldest done nor the last undone.
 pub fn model_gives_one_answer()
     ensures one { (state : Snapshots) (request : Request) (first second : Result Response Refusal) (next other : Snapshots) → IsUnbroken state → IsByTrees request
         → Gives state request first next → Gives state request second other → (first ≡ second) × (next ≡ other) }
@@ -332,5 +334,13 @@ pub fn model_gives_one_answer()
     ensures redone { (state next : Snapshots) (when : ℕ) (answer : Result Response Refusal) → IsUnbroken state
         → Gives state (requests.Make calls.Redo when) answer next → AreOf (redone state state.future) answer next }
     ensures unbroken { (state next : Snapshots) (request : Request) (answer : Result Response Refusal)
-        → IsUnbroken state → Gives state request answer next → IsUnbroken next }
+        → IsUnbroken state → TakesFromTheEnds request state → Gives state request answer next → IsUnbroken next }
+{}
+
+/// What the model forgets. Of a state that some files hold, forgetting the oldest steps that are
+/// done leaves the state that lacks these; forgetting all leaves no step.
+pub fn forgotten_steps_are_gone()
+    ensures oldest { (files : Files) (numbers : List ℕ) (state next : Snapshots) → HoldState files state
+        → IsWithoutOldest numbers state next → snapshots_besides numbers state ≡ next }
+    ensures all { (state : Snapshots) → snapshots_besides (numbers_of state) state ≡ alone state }
 {}

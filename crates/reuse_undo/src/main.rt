@@ -3,7 +3,7 @@
 
 ghost use Rattle.std.specs.Prelude.{◌≡◌, if◌then◌else◌, string_bytes, true};
 ghost use Rattle.std.specs.Option.{option_map};
-ghost use Rattle.reuse_arguments.specs.ListedCommands.{IsAskedWithList};
+ghost use Rattle.reuse_arguments.specs.ListedCommands.{IsReadWithList};
 ghost use Rattle.reuse_shown.specs.declared.shown_name.Names.TheVariants as names;
 
 mod laws;
@@ -13,14 +13,14 @@ mod run;
 use print::report::{tell_outcome, tell_words};
 use print::status::{Ending, exit_status};
 use reuse_arguments::file_list::with_list;
-use reuse_arguments::line::{Asked, LineFault};
+use reuse_arguments::line::{Line, LineFault};
 use reuse_arguments::words::finder::Clap;
 use reuse_arguments::words::{Said, words_to_command};
 use reuse_session::Moment;
 use reuse_shown::error_output::ErrorOutput;
 use reuse_shown::shown_name::Names;
 use run::carried_out::CarriedOut;
-use run::locked::{Extras, forget_folder, recover_folder, run_line};
+use run::locked::{Extras, run_line};
 use std::alloc::Global;
 use std::env;
 use std::fs::File;
@@ -56,23 +56,17 @@ fn said_in<R: Env + AllocGlobal>(rt: &R, alloc: Global, moment: Moment) -> Said 
     }
 }
 
-/// What was asked for, with the list of files that the line names.
-fn whole_asked<R: Files + Input>(rt: &R, alloc: Global, said: Said) -> Result<Asked, LineFault>
-    ensures { IsAskedWithList (option_map string_bytes said.files_from) said.asked result }
+/// The line that was said, with the list of files that it names.
+fn whole_line<R: Files + Input>(rt: &R, alloc: Global, said: Said) -> Result<Line, LineFault>
+    ensures { IsReadWithList (option_map string_bytes said.files_from) said.line result }
 {
     let Said {
         verbose: _,
         settings: _,
         files_from,
-        asked,
+        line,
     } = said;
-    match asked? {
-        Asked::Line(line) => Ok(Asked::Line(with_list(rt, alloc, line, files_from)?)),
-        asked => {
-            drop(files_from);
-            Ok(asked)
-        }
-    }
+    with_list(rt, alloc, line?, files_from)
 }
 
 /// Which streams are terminals.
@@ -99,20 +93,16 @@ impl Terminals {
     }
 }
 
-/// Carries out what was asked for, and reports what came of it.
-fn run_asked<R: Runtime + Files<File = File> + AllocGlobal>(
+/// Carries out a line, and reports what came of it.
+fn run_and_tell<R: Runtime + Files<File = File> + AllocGlobal>(
     rt: &R,
     errors: &ErrorOutput<'_, R>,
     alloc: Global,
-    asked: Asked,
+    line: Line,
     extras: Extras,
 ) -> Ending {
-    let on_change = asked.change_status();
-    let carried_out = match asked {
-        Asked::Line(line) => run_line(rt, alloc, line, extras),
-        Asked::Recover(recovery) => recover_folder(rt, alloc, recovery, extras),
-        Asked::Forget(forgetting) => forget_folder(rt, alloc, forgetting, extras),
-    };
+    let on_change = line.change_status;
+    let carried_out = run_line(rt, alloc, line, extras);
     tell_outcome(errors, &carried_out, extras.notes);
     let CarriedOut {
         ending,
@@ -131,8 +121,8 @@ fn run_program<R: Runtime + Files<File = File> + AllocGlobal>(
     let said = said_in(rt, alloc, moment);
     let errors = ErrorOutput::new(rt, alloc, Names::on(terminals.errors));
     let extras = terminals.extras(&said);
-    match whole_asked(rt, alloc, said) {
-        Ok(asked) => run_asked(rt, &errors, alloc, asked, extras),
+    match whole_line(rt, alloc, said) {
+        Ok(line) => run_and_tell(rt, &errors, alloc, line, extras),
         Err(fault) => {
             let is_told = tell_words(rt, &errors, &fault, extras.notes);
             Ending::NoLine { fault, is_told }

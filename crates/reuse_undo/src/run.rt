@@ -1,4 +1,4 @@
-//! Runs what a line asks for: locks the folder, opens a session on it, makes its one call.
+//! Runs what a line asks for: locks the folder, and answers its one request there.
 //!
 //! No other run works on the tree meanwhile. What can't be kept as it was, such as a file's owner,
 //! is found before the call is begun. A call is answered, refused, or stopped with what is to be
@@ -10,9 +10,7 @@ pub(crate) mod carried_out;
 pub(crate) mod damage;
 pub(crate) mod denial;
 pub(crate) mod diagnostics;
-mod forgetting;
 mod line;
 pub(crate) mod locked;
 mod on_folder;
-mod recovering;
 mod texts;

@@ -4,7 +4,9 @@ pub mod DrivenEvents
 pub mod Driving
 pub mod FolderLemmas
 pub mod Following
+pub mod ForgetAnswers
 pub mod Forgetting
+pub mod ForgottenDoubt
 pub mod ForgottenFiles
 pub mod ForgottenSteps
 pub mod ForgottenTrees
@@ -28,5 +30,6 @@ pub mod SafeAnswers
 pub mod SafeDriving
 pub mod StepPathOutcomes
 pub mod StepsByNumber
+pub mod ClosedRecovery
 pub mod CountedCalls
 pub mod Unbroken

@@ -1,5 +1,5 @@
 -- Forgetting: steps are taken out of the history, and the tree stays.
-use Rattle.std.specs.Prelude.{◌≡◌, ◌≢◌, ◌⊎◌, ◌↔◌, ◌==◌, ◌||◌, ◌<◌, ◌≤◌, ◌+◌, ℕ, Bool, not, List, [], ◌∷◌, ◌++◌, length, map, reverse, find, Option, Some, None, Result, Ok, Err, IfOk, IfErr}
+use Rattle.std.specs.Prelude.{◌≡◌, ◌≢◌, ◌⊎◌, ◌↔◌, ◌==◌, ◌||◌, ◌<◌, ◌≤◌, ◌+◌, ℕ, Bool, true, not, List, [], ◌∷◌, ◌++◌, length, map, reverse, filter, find, take, Option, Some, None, Result, Ok, Err, IfOk, IfErr}
 use Rattle.std.specs.List.{All, Contains, list_any}
 use Rattle.std.specs.List.Sorted.{IsStrictlyIncreasing}
 use Rattle.std.specs.FinMap.{get}
@@ -12,7 +12,7 @@ use Rattle.reuse_session.specs.session.Calls.{files_of, folder_of}
 use Rattle.reuse_journal.specs.History.{Memory}
 use Rattle.reuse_journal.specs.Journal.{Recorded, Journal, State}
 use Rattle.reuse_journal.specs.JournalFiles.{head_path, entry_path, number_of, IsFree}
-use Rattle.reuse_journal.specs.Losses.{IsSafeOn, AreSafeOn}
+use Rattle.reuse_journal.specs.Losses.{AreSafeOn, AreInDoubt, Earlier, IsSafe}
 use Rattle.reuse_session.specs.session.Machine.{Kept, Snapshots}
 use Rattle.reuse_session.specs.session.Session.{store_of, memory_of, StandsOn}
 use Rattle.reuse_journal.specs.Remembered.{listed_count, head_room, HasHeadText}
@@ -20,8 +20,10 @@ use Rattle.reuse_journal.specs.Standing.{IsStanding}
 use Rattle.reuse_command.specs.declared.reply.Refusal.{Refusal}
 use Rattle.reuse_command.specs.declared.failure.Failure.TheVariants as failures
 use Rattle.reuse_command.specs.declared.reply.Refusal.TheVariants as refusals
+use Rattle.reuse_command.specs.declared.request.Steps.{Steps}
+use Rattle.reuse_command.specs.declared.request.Steps.TheVariants.{All as AllSteps, Numbers}
 use Rattle.reuse_session.specs.declared.session.Session.{Session}
-use Rattle.reuse_journal.specs.Numbered.{memory_besides, state_besides}
+use Rattle.reuse_journal.specs.Numbered.{is_one_of, memory_besides, state_besides}
 
 -- ---- numbers
 
@@ -41,6 +43,11 @@ has_step journal number = list_any (λ (step : Recorded). number_of step == numb
 abbrev pub numbers_in : Journal → List ℕ
 numbers_in journal = map number_of (reverse journal.done) ++ map number_of (reverse journal.undone)
 
+-- the numbers that are asked for, of a journal
+abbrev pub asked_numbers : Steps → Journal → List ℕ
+asked_numbers AllSteps journal = numbers_in journal
+asked_numbers (Numbers numbers) journal = numbers
+
 -- the first of the numbers that no step has
 abbrev pub first_absent : Journal → List ℕ → Option ℕ
 first_absent journal numbers = find (λ number. not (has_step journal number)) numbers
@@ -55,6 +62,45 @@ Forgets numbers old (Err (refusals.NoSuchStep number)) new =
 Forgets numbers old (Err refusal) new = ⊥
 
 -- ---- the machine
+
+-- the numbers of all its steps
+abbrev pub numbers_of : Snapshots → List ℕ
+numbers_of state = map (λ (kept : Kept). kept.label.number) (reverse state.past)
+    ++ map (λ (kept : Kept). kept.label.number) (reverse state.future)
+
+abbrev pub numbers_asked : Steps → Snapshots → List ℕ
+numbers_asked AllSteps state = numbers_of state
+numbers_asked (Numbers numbers) state = numbers
+
+-- whether one of its steps has the number
+abbrev pub has_kept : Snapshots → ℕ → Bool
+has_kept state number = list_any (λ (kept : Kept). kept.label.number == number) state.past || list_any (λ (kept : Kept). kept.label.number == number) state.future
+
+-- the first of the numbers that none has
+abbrev pub first_unkept : Snapshots → List ℕ → Option ℕ
+first_unkept state numbers = find (λ number. not (has_kept state number)) numbers
+
+-- the copies without those of these numbers
+abbrev pub kept_besides : List ℕ → List Kept → List Kept
+kept_besides numbers steps = filter (λ (kept : Kept). not (is_one_of numbers kept.label.number)) steps
+
+-- the state without the steps of these numbers: the other steps keep their copies
+abbrev pub snapshots_besides : List ℕ → Snapshots → Snapshots
+snapshots_besides numbers state = record {
+  tree = state.tree;
+  past = kept_besides numbers state.past;
+  future = kept_besides numbers state.future;
+  used = state.used;
+}
+
+-- what the machine answers to forgetting, and its state then: each number is that of a step, and they are gone; or the
+-- first that isn't is refused, and all stays
+abbrev pub ForgetsTo : List ℕ → Snapshots → Result (List ℕ) Refusal → Snapshots → Type 0
+ForgetsTo numbers state (Ok forgotten) next =
+    (first_unkept state numbers ≡ None) × AreInOrder numbers forgotten × (next ≡ snapshots_besides numbers state)
+ForgetsTo numbers state (Err (refusals.NoSuchStep number)) next =
+    (first_unkept state numbers ≡ Some number) × (next ≡ state)
+ForgetsTo numbers state (Err refusal) next = ⊥
 
 -- the numbers are those of the oldest trees that are kept, and the next state is the same without these trees
 pub record IsWithoutOldest (numbers : List ℕ) (state next : Snapshots) : Type 0 where
@@ -118,6 +164,7 @@ pub record LeavesForgetting {S : Type 0} (store : Ghosts S) (numbers : List ℕ)
   pub doubt : store.honest (store_of new) → (held : State) → StandsOn store.files old held
       → IfErr result (λ refusal. IsStop refusal → IsStanding (files_of store new) held
       ⊎ IsStanding (files_of store new) (state_besides numbers held))
+  pub order : IfErr result (λ refusal. IsStop refusal → (ordered : List ℕ) × AreInOrder numbers ordered)
   pub late : IfErr result (λ refusal. IsStop refusal → store.mutations (store_of old) < store.mutations (store_of new))
   -- it takes at most a head of the entries that are left, and asks for one put, and for at most one removal for each
   -- number
@@ -130,21 +177,23 @@ pub record LeavesForgetting {S : Type 0} (store : Ghosts S) (numbers : List ℕ)
   pub free : store.honest (store_of new) → IsFree (folder_of store old) → IsFree (folder_of store new)
 
 -- What a loss of power may leave after forgetting, of what was safe on the standing: behind it each is the standing
--- without the steps; where it stops each is that, or safe on the standing before it; and else all is as it was.
-abbrev pub SurvivesForgetting : {S : Type 0} → Ghosts S → List ℕ → (earlier held : State) → Result (List ℕ) Refusal → S
+-- without the steps; where it stops each is that, or safe on the standing before it, and the files are one of the two;
+-- and else all is as it was.
+abbrev pub SurvivesForgetting : {S : Type 0} → Ghosts S → List ℕ → Earlier → State → Result (List ℕ) Refusal → S
     → Type 0
 SurvivesForgetting store numbers earlier held (Ok []) new = AreSafeOn store earlier held new
 SurvivesForgetting store numbers earlier held (Ok (number ∷ more)) new =
     Leaves store new (λ left. IsStanding left (state_besides numbers held))
 SurvivesForgetting store numbers earlier held (Err (refusals.Failed (failures.Interrupted cause))) new =
-    Leaves store new (λ left. IsSafeOn earlier held left ⊎ IsStanding left (state_besides numbers held))
+    Leaves store new (λ left. IsSafe earlier held left ⊎ IsStanding left (state_besides numbers held))
+    × AreInDoubt store (record { state = earlier.state; forgetting = true }) held (state_besides numbers held) new
 SurvivesForgetting store numbers earlier held (Err refusal) new = AreSafeOn store earlier held new
 
 -- so it is from whatever standing all that might be left before was safe on
 abbrev pub SurvivesToForget : {S : Type 0} → Ghosts S → List ℕ → Result (List ℕ) Refusal → Session S → Session S
     → Type 0
 SurvivesToForget store numbers result old new =
-    store.honest (store_of new) → (earlier held : State) → StandsOn store.files old held
+    store.honest (store_of new) → (earlier : Earlier) (held : State) → StandsOn store.files old held
     → AreSafeOn store earlier held (store_of old)
     → SurvivesForgetting store numbers earlier held result (store_of new)
 
@@ -168,3 +217,14 @@ PutsAndRemoves text paths before after = (mid : Files) × Sets head_path (Some t
 abbrev pub PutsAndRemovesSome : List ℕ → List (List ℕ) → (before after : Files) → Type 0
 PutsAndRemovesSome text paths before after =
     (mid : Files) × Sets head_path (Some text) before mid × RemovesSome paths mid after
+
+-- where that stops: the files are as they were, and in what may be left the head is put or not; or it is put, and some
+-- of the paths may be removed then
+abbrev pub StopsWithRemovals : {S : Type 0} → Ghosts S → List ℕ → List (List ℕ) → (old new : S) → Type 0
+StopsWithRemovals store text paths old new =
+    ((store.files new ≡ store.files old)
+    × Leaves store new (λ left. store.may_be old left
+    ⊎ ((kept : Files) × store.may_be old kept × Sets head_path (Some text) kept left)))
+    ⊎ ((count : ℕ) × PutsAndRemoves text (take count paths) (store.files old) (store.files new)
+    × Leaves store new (λ left. store.may_be old left
+    ⊎ ((kept : Files) × store.may_be old kept × PutsAndRemovesSome text paths kept left)))

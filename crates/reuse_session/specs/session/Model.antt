@@ -1,7 +1,7 @@
 -- What the model answers to a request, and the state in which it is then. What a step changed it tells by the trees
 -- before it and after it, so that a show, an undo, a redo and a revert go by some changes that lead from the one to the
 -- other. Where no step is missing, an undo and a redo by any such changes give one answer. All else is one answer.
-use Rattle.std.specs.Prelude.{◌≡◌, ◌⊎◌, ℕ, Bool, List, [], ◌∷◌, Result, Ok, Err}
+use Rattle.std.specs.Prelude.{◌≡◌, ◌⊎◌, ℕ, Bool, List, [], ◌∷◌, ◌++◌, Result, Ok, Err}
 use Rattle.std.specs.List.{All}
 use Rattle.reuse_change.specs.Entry.{paths_of, CanBeMade, IsFirstStuck, LeadsBy}
 use Rattle.reuse_change.specs.Files.{Files}
@@ -11,10 +11,12 @@ use Rattle.reuse_change.specs.declared.direction.Direction.{Direction}
 use Rattle.reuse_change.specs.declared.direction.Direction.TheVariants as go
 use Rattle.reuse_journal.specs.Journal.{end_of, reply_of}
 use Rattle.reuse_plan.specs.PathOutcomes.{ArePathOutcomesOf}
+use Rattle.reuse_session.specs.session.Forgetting.{ForgetsTo, numbers_asked, snapshots_besides}
 use Rattle.reuse_session.specs.session.Machine.{Connects, Kept, Snapshots, Step, ran_by, rows_of, run_path_outcomes}
 use Rattle.reuse_session.specs.session.Requests.{as_answer}
 use Rattle.reuse_session.specs.session.RevertCalls.{changed_later, left_of}
 use Rattle.reuse_session.specs.session.Showing.{LedBy, ShowsAt}
+use Rattle.reuse_command.specs.Answer.{nothing_recovered}
 use Rattle.reuse_command.specs.declared.command.Command.{Command}
 use Rattle.reuse_command.specs.declared.command.Command.TheVariants.{Revert}
 use Rattle.reuse_session.specs.declared.events.Event.{Event}
@@ -138,8 +140,12 @@ PreviewsTo state (calls.Revert number skip_moved) answer = PreviewsBack state nu
 -- asked this in the state, the model gives the answer and is in the next state then
 abbrev pub Gives : Snapshots → Request → Result Response Refusal → Snapshots → Type 0
 Gives state (requests.Make call when) answer next = MakesTo state call when answer next
+Gives state (requests.Forget steps) answer next = (forgotten : Result (List ℕ) Refusal)
+    × (answer ≡ as_answer responses.Forgotten forgotten) × ForgetsTo (numbers_asked steps state) state forgotten next
 Gives state (requests.Preview call) answer next = (path_outcomes : Result (List PathOutcome) Refusal)
     × (answer ≡ as_answer responses.Preview path_outcomes) × PreviewsTo state call path_outcomes × (next ≡ state)
+Gives state (requests.Recover skip_moved) answer next =
+    (answer ≡ Ok (responses.Recovered nothing_recovered)) × (next ≡ state)
 Gives state requests.Log answer next = (answer ≡ Ok (responses.Log (rows_of state))) × (next ≡ state)
 Gives state (requests.Show number) answer next = (shown : Result Shown Refusal)
     × (answer ≡ as_answer responses.Shown shown) × ShowsBy state number shown × (next ≡ state)
@@ -148,8 +154,16 @@ Gives state (requests.Show number) answer next = (shown : Result Shown Refusal)
 abbrev pub IsByTrees : Request → Type 0
 IsByTrees (requests.Make (calls.Revert number skip_moved) when) = ⊥
 IsByTrees (requests.Preview (calls.Revert number skip_moved)) = ⊥
+IsByTrees (requests.Forget steps) = ⊥
 IsByTrees (requests.Show number) = ⊥
 IsByTrees request = Unit {0}
+
+-- the request takes no step out of the history but the oldest that are done and the last that are undone
+abbrev pub TakesFromTheEnds : Request → Snapshots → Type 0
+TakesFromTheEnds (requests.Forget steps) state = (oldest : List Kept) × (last : List Kept)
+    × (state.past ≡ (snapshots_besides (numbers_asked steps state) state).past ++ oldest)
+    × (state.future ≡ (snapshots_besides (numbers_asked steps state) state).future ++ last)
+TakesFromTheEnds request state = Unit {0}
 
 -- ---- events
 

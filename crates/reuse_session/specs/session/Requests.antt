@@ -6,11 +6,12 @@ use Rattle.reuse_change.specs.Files.{Files, Clashes}
 use Rattle.reuse_change.specs.Tree.{undo_folder_of}
 use Rattle.reuse_store.specs.declared.store.Store.{Ghosts}
 use Rattle.reuse_change.specs.declared.direction.Direction.TheVariants as go
-use Rattle.reuse_command.specs.Answer.{IsEarly, IsStop, HasCause, HasClash, IsNoClash, RefusedAsRead, TellsNoFault}
+use Rattle.reuse_command.specs.Answer.{IsEarly, IsStop, HasCause, HasClash, IsNoClash, RefusedAsRead, TellsNoFault, nothing_recovered}
 use Rattle.reuse_session.specs.session.Calls.{files_of, folder_of, IsCall}
 use Rattle.reuse_journal.specs.Journal.{Recorded, State, Undoes, Redoes, rows_in}
 use Rattle.reuse_journal.specs.JournalFiles.{head_path, entry_path, number_of, IsFree}
-use Rattle.reuse_journal.specs.Losses.{AreSafeOn, Survives}
+use Rattle.reuse_journal.specs.Losses.{AreSafeOn, Survives, Earlier}
+use Rattle.reuse_session.specs.session.Forgetting.{asked_numbers, Forgets, IsSameButGone, SurvivesForgetting}
 use Rattle.reuse_session.specs.session.Previews.{run_path_outcomes_on, PreviewsReplay}
 use Rattle.reuse_session.specs.session.RevertCalls.{IsAfterRevert, Reverts, changed_or_none, touched_later}
 use Rattle.reuse_session.specs.session.Session.{store_of, is_broken, IsKept, IsReplay, IsRun, Runs, StandsOn}
@@ -19,7 +20,7 @@ use Rattle.reuse_session.specs.session.Showing.{IsUnused, ShowsIn}
 use Rattle.reuse_journal.specs.Standing.{InDoubt, IsStanding}
 use Rattle.reuse_command.specs.declared.command.Command.TheVariants.{Revert}
 use Rattle.reuse_command.specs.declared.failure.Failure.{Failure}
-use Rattle.reuse_command.specs.declared.failure.Failure.TheVariants.{Interrupted, Memory}
+use Rattle.reuse_command.specs.declared.failure.Failure.TheVariants.{Fault, Interrupted, Memory}
 use Rattle.reuse_command.specs.declared.path_outcome.PathOutcome.{PathOutcome}
 use Rattle.reuse_command.specs.declared.reply.Refusal.{Refusal}
 use Rattle.reuse_command.specs.declared.reply.Refusal.TheVariants.{Broken, Failed, NoSuchStep}
@@ -33,14 +34,19 @@ use Rattle.reuse_command.specs.declared.request.Request.{Request}
 use Rattle.reuse_command.specs.declared.request.Request.TheVariants as requests
 use Rattle.reuse_session.specs.declared.session.Session.{Session}
 
--- what changes nothing: a preview, a log, or a step that is shown
+-- what changes nothing: a preview, a log, or a step that is shown; and a recovery, since nothing is pending
 abbrev pub IsReading : Request → Type 0
 IsReading (requests.Make call when) = ⊥
+IsReading (requests.Forget steps) = ⊥
 IsReading request = Unit {0}
 
--- how a request may fail: what only reads never stops, and a log fails for an allocation failure alone
+-- how a request may fail: what only reads never stops, forgetting fails early and a log at all for an allocation
+-- failure alone, and a recovery doesn't
 abbrev pub MayFail : Request → Failure → Type 0
 MayFail (requests.Make call when) failure = Unit {0}
+MayFail (requests.Forget steps) (Fault fault) = ⊥
+MayFail (requests.Forget steps) failure = Unit {0}
+MayFail (requests.Recover skip_moved) failure = ⊥
 MayFail requests.Log Memory = Unit {0}
 MayFail requests.Log failure = ⊥
 MayFail (requests.Preview call) (Interrupted cause) = ⊥
@@ -85,8 +91,13 @@ Makes (calls.Revert number skip_moved) when old answer new =
 -- the same of a request; what only reads leaves the state
 abbrev pub LeadsTo : Request → State → Result Response Refusal → State → Type 0
 LeadsTo (requests.Make call when) old answer new = Makes call when old answer new
+LeadsTo (requests.Forget steps) old answer new = (forgotten : Result (List ℕ) Refusal)
+    × (answer ≡ as_answer responses.Forgotten forgotten)
+    × Forgets (asked_numbers steps old.journal) old forgotten new
 LeadsTo (requests.Preview call) old answer new = (path_outcomes : Result (List PathOutcome) Refusal)
     × (answer ≡ as_answer responses.Preview path_outcomes) × Previews call old path_outcomes × (new ≡ old)
+LeadsTo (requests.Recover skip_moved) old answer new =
+    (answer ≡ Ok (responses.Recovered nothing_recovered)) × (new ≡ old)
 LeadsTo requests.Log old answer new = (answer ≡ Ok (responses.Log (rows_in old.journal))) × (new ≡ old)
 LeadsTo (requests.Show number) old answer new = (shown : Result Shown Refusal)
     × (answer ≡ as_answer responses.Shown shown) × ShowsIn old.journal number shown × (new ≡ old)
@@ -100,14 +111,21 @@ IsAfterCall calls.Undo when old new = IsReplay go.Backward old new
 IsAfterCall calls.Redo when old new = IsReplay go.Forward old new
 IsAfterCall (calls.Revert number skip_moved) when old new = IsAfterRevert number skip_moved when old new
 
--- the state is that after a request that makes a step
+-- the state is that after a request that makes a step, or takes some out of the history
 abbrev pub IsAfter : Request → State → State → Type 0
 IsAfter (requests.Make call when) old new = IsAfterCall call when old new
+IsAfter (requests.Forget steps) old new =
+    (forgotten : List ℕ) × Forgets (asked_numbers steps old.journal) old (Ok forgotten) new
 IsAfter request old new = ⊥
 
--- a request that stopped leaves files in doubt between the state before it and that after it
+-- forgetting that stopped leaves the state before it or that after it; and else files are in doubt between the two
+abbrev pub IsLeftBetween : Request → State → State → Files → Type 0
+IsLeftBetween (requests.Forget steps) old new files = IsStanding files old ⊎ IsStanding files new
+IsLeftBetween request old new files = InDoubt old new files
+
+-- what a request leaves that stopped
 abbrev pub IsStopped : Request → State → Files → Type 0
-IsStopped request old files = (new : State) × IsAfter request old new × InDoubt old new files
+IsStopped request old files = (new : State) × IsAfter request old new × IsLeftBetween request old new files
 
 -- What a request is answered and leaves. One that failed early leaves the state.
 abbrev pub Meets : Request → State → Result Response Refusal → Files → Type 0
@@ -127,10 +145,11 @@ HasCallClash (requests.Make (calls.Revert number skip_moved) when) old files =
     HasClash (Clashes files (entry_path (old.journal.used + 1))) (Clashes files head_path)
 HasCallClash (requests.Make calls.Undo when) old files = HasClash ⊥ (Clashes files head_path)
 HasCallClash (requests.Make calls.Redo when) old files = HasClash ⊥ (Clashes files head_path)
+HasCallClash (requests.Forget steps) old files = HasClash ⊥ (Clashes files head_path)
 HasCallClash request old files = IsNoClash
 
 -- Of the journal's files none but these holds something else: a run and a revert put the next entry and the head, an
--- undo and a redo the head. What only reads leaves every file.
+-- undo and a redo the head, and forgetting puts the head and removes entries. What only reads leaves every file.
 abbrev pub KeepsFolder : Request → State → Files → Files → Type 0
 KeepsFolder (requests.Make (calls.Run command) when) old before after =
     IsSameButTwo (entry_path (old.journal.used + 1)) head_path (undo_folder_of before) (undo_folder_of after)
@@ -140,19 +159,29 @@ KeepsFolder (requests.Make calls.Undo when) old before after =
     IsSameBut head_path (undo_folder_of before) (undo_folder_of after)
 KeepsFolder (requests.Make calls.Redo when) old before after =
     IsSameBut head_path (undo_folder_of before) (undo_folder_of after)
+KeepsFolder (requests.Forget steps) old before after =
+    IsSameButGone (asked_numbers steps old.journal) (undo_folder_of before) (undo_folder_of after)
 KeepsFolder request old before after = after ≡ before
+
+-- Refused before it has put anything, what makes no step leaves every file.
+abbrev pub StaysEarly : Request → Result Response Refusal → Files → Files → Type 0
+StaysEarly (requests.Make call when) answer before after = Unit {0}
+StaysEarly request answer before after = IfErr answer (λ refusal. IsEarly refusal → after ≡ before)
 
 -- the answer as that of a run, by which paths changed
 abbrev pub as_step : Result Response Refusal → Result Response Refusal
 as_step (Ok (responses.Reverted reverted)) = Ok (changed_or_none reverted.changed)
 as_step answer = answer
 
--- After a loss of power, at any moment of a call, what is left is the state before it or that after it. What only reads
--- leaves what was safe.
-abbrev pub SurvivesRequest : {S : Type 0} → Ghosts S → Request → (earlier held : State) → Result Response Refusal → S
+-- After a loss of power, at any moment of a call or of forgetting, what is left is the state before it or that after it.
+-- What only reads leaves what was safe.
+abbrev pub SurvivesRequest : {S : Type 0} → Ghosts S → Request → Earlier → State → Result Response Refusal → S
     → Type 0
 SurvivesRequest store (requests.Make call when) earlier held answer new =
     Survives store (IsAfterCall call when held) earlier held (as_step answer) new
+SurvivesRequest store (requests.Forget steps) earlier held answer new = (forgotten : Result (List ℕ) Refusal)
+    × (answer ≡ as_answer responses.Forgotten forgotten)
+    × SurvivesForgetting store (asked_numbers steps held.journal) earlier held forgotten new
 SurvivesRequest store request earlier held answer new = AreSafeOn store earlier held new
 
 -- how a session answers a request
@@ -162,13 +191,14 @@ pub record IsAnswered {S : Type 0} (store : Ghosts S) (request : Request) (answe
   -- unless it fails, the answer and the state that is left are those of the request
   pub exact : store.honest (store_of new) → (held : State) → StandsOn store.files old held
       → TellsNoFault answer → (left : State) × StandsOn store.files new left × LeadsTo request held answer left
-  -- one that failed early, or was refused, leaves the state, and one that stopped files in doubt
+  -- one that failed early, or was refused, leaves the state, and one that stopped that or the next, or files in doubt
   pub stands : store.honest (store_of new) → (held : State) → StandsOn store.files old held
       → IfErr answer (λ refusal. IsEarly refusal → StandsOn store.files new held)
+  pub unchanged : store.honest (store_of new) → StaysEarly request answer (files_of store old) (files_of store new)
   pub doubt : store.honest (store_of new) → (held : State) → StandsOn store.files old held
       → IfErr answer (λ refusal. IsStop refusal → IsStopped request held (files_of store new))
   pub fails : IfErr answer (IfFailed (MayFail request))
-  pub survives : store.honest (store_of new) → (earlier held : State) → StandsOn store.files old held
+  pub survives : store.honest (store_of new) → (earlier : Earlier) (held : State) → StandsOn store.files old held
       → AreSafeOn store earlier held (store_of old) → SurvivesRequest store request earlier held answer (store_of new)
   -- what only reads reads alone
   pub reads_only : IsReading request → OnlyReads store (store_of old) (store_of new)

@@ -1,36 +1,46 @@
 -- Runs with stops: what a driven session answers and leaves, whichever calls of the store fail.
-use Rattle.std.specs.Prelude.{◌≡◌, ◌⊎◌, ◌≤◌, ◌<◌, ℕ, Bool, true, false, List, [], ◌∷◌, Option, Some, None, Result, Ok, Err, IfErr}
+use Rattle.std.specs.Prelude.{◌≡◌, ◌≢◌, ◌⊎◌, ◌≤◌, ◌<◌, ◌||◌, ◌&&◌, ℕ, Bool, true, false, not, List, [], ◌∷◌, map, Option, Some, None, Result, Ok, Err, IfErr}
+use Rattle.std.specs.List.{All}
+use Rattle.std.specs.FinMap.{get}
 use Rattle.reuse_change.specs.Files.{Files}
 use Rattle.reuse_store.specs.declared.store.Store.{Ghosts}
-use Rattle.reuse_command.specs.Answer.{HasCause}
+use Rattle.reuse_command.specs.Answer.{HasCause, nothing_recovered}
 use Rattle.reuse_journal.specs.Journal.{State}
 use Rattle.reuse_journal.specs.Losses.{AreSafeOn, AreInDoubt}
-use Rattle.reuse_session.specs.session.Machine.{Snapshots}
+use Rattle.reuse_session.specs.session.Machine.{Kept, Snapshots}
 use Rattle.reuse_session.specs.session.Model.{Gives}
-use Rattle.reuse_session.specs.session.Requests.{MayFail}
+use Rattle.reuse_session.specs.session.Requests.{MayFail, as_step}
 use Rattle.reuse_session.specs.session.Session.{HoldsSnapshots}
 use Rattle.reuse_journal.specs.Standing.{IsStanding, InDoubt}
 use Rattle.reuse_session.specs.declared.events.Event.{Event}
 use Rattle.reuse_session.specs.declared.events.Event.TheVariants as event
 use Rattle.reuse_command.specs.declared.request.Request.{Request}
+use Rattle.reuse_command.specs.declared.request.Request.TheVariants as requests
+use Rattle.reuse_command.specs.declared.reply.Recovered.{Recovered}
 use Rattle.reuse_command.specs.declared.reply.Response.{Response}
-use Rattle.reuse_command.specs.declared.reply.Response.TheVariants.{Opened}
+use Rattle.reuse_command.specs.declared.reply.Response.TheVariants.{Changed, Forgotten, Opened, Recovered as ItRecovered, Redone, Undone}
 use Rattle.reuse_command.specs.declared.reply.Refusal.{Refusal}
 use Rattle.reuse_command.specs.declared.failure.Failure.TheVariants.{Interrupted}
 use Rattle.reuse_command.specs.declared.reply.Refusal.TheVariants.{Broken, Failed}
 
 -- Where a run is: whether a session is open, the state of the machine, and, where a call stopped since the last
--- opening, the state after its step, which may have been reached or not.
+-- opening, the state after its step, which may have been reached or not. And whether forgetting was stopped, and nothing
+-- was changed since: then a loss of power may leave the history with the steps or without them.
 pub record Point : Type 0 where
   pub is_open : Bool
   pub state : Snapshots
   pub next : Option Snapshots
+  pub forgetting : Bool
 
-abbrev pub open_at : Snapshots → Point
-open_at state = record { is_open = true; state = state; next = None }
+abbrev pub open_at : Bool → Snapshots → Point
+open_at forgetting state = record { is_open = true; state = state; next = None; forgetting = forgetting }
 
 abbrev pub closed : Point → Point
-closed point = record { is_open = false; state = point.state; next = point.next }
+closed point = record point { is_open = false }
+
+-- where a run starts
+abbrev pub start_at : Snapshots → Point
+start_at state = closed (open_at false state)
 
 -- a step that stopped is kept or left out, which the next opening finds
 abbrev pub IsReached : Point → Snapshots → Type 0
@@ -38,9 +48,22 @@ IsReached point state = (point.state ≡ state) ⊎ (point.next ≡ Some state)
 
 -- An opening goes on from the state, or from that after the step that stopped. Where it fails it is left out.
 abbrev pub Reopens : Result Response Refusal → Point → Point → Type 0
-Reopens (Ok Opened) old new = (state : Snapshots) × IsReached old state × (new ≡ open_at state)
+Reopens (Ok Opened) old new =
+    (state : Snapshots) × IsReached old state × (new ≡ open_at old.forgetting state)
 Reopens (Err (Failed failure)) old new = new ≡ closed old
 Reopens answer old new = ⊥
+
+-- by the answer a step was made, or some were taken out of the history, and what stands behind it is lasting
+abbrev pub is_lasting : Result Response Refusal → Bool
+is_lasting (Ok (Changed paths)) = true
+is_lasting (Ok (Undone paths)) = true
+is_lasting (Ok (Redone paths)) = true
+is_lasting (Ok (Forgotten (number ∷ numbers))) = true
+is_lasting answer = false
+
+abbrev pub forgets : Request → Bool
+forgets (requests.Forget steps) = true
+forgets request = false
 
 -- A request to an open session. One that was interrupted closes it, and its step is kept or left out; one that failed
 -- earlier is left out; and every other is answered as by the model.
@@ -48,15 +71,46 @@ abbrev pub Continues : Request → Result Response Refusal → Point → Point �
 Continues request (Err (Failed (Interrupted cause))) old new =
     MayFail request (Interrupted cause)
     × (given : Result Response Refusal) × (next : Snapshots) × Gives old.state request given next
-    × (new ≡ record { is_open = false; state = old.state; next = Some next })
+    × (new ≡ record { is_open = false; state = old.state; next = Some next; forgetting = forgets request || old.forgetting })
 Continues request (Err (Failed failure)) old new = MayFail request failure × (new ≡ old)
-Continues request answer old new = (next : Snapshots) × Gives old.state request answer next × (new ≡ open_at next)
+Continues request answer old new = (next : Snapshots) × Gives old.state request answer next
+    × (new ≡ open_at (not (is_lasting (as_step answer)) && old.forgetting) next)
 
--- while no session is open, all but an opening is refused as broken
+-- the numbers of the steps that are done, the newest first
+abbrev pub done_numbers : Snapshots → List ℕ
+done_numbers state = map (λ (kept : Kept). kept.label.number) state.past
+
+-- what a recovery reports of the step between two states: its number, which is done in one of them and not in the other,
+-- and some paths at which their trees differ; no path is left
+pub record ReportsStep (state next : Snapshots) (told : Recovered) : Type 0 where
+  pub number : ℕ
+  pub is_number : told.number ≡ Some number
+  pub between : (done_numbers next ≡ number ∷ done_numbers state) ⊎ (done_numbers state ≡ number ∷ done_numbers next)
+  pub changed : All (λ path. get state.tree path ≢ get next.tree path) told.changed
+  pub skipped : told.skipped ≡ []
+
+-- that nothing was pending, at the state or at that after the step that stopped; or that this step was, which is rolled
+-- back then
+abbrev pub ReportsRecovery : Point → Recovered → Snapshots → Type 0
+ReportsRecovery old told state = ((told ≡ nothing_recovered) × IsReached old state)
+    ⊎ ((next : Snapshots) × (old.next ≡ Some next) × (state ≡ old.state) × ReportsStep state next told)
+
+-- A recovery while no session is open. Where it fails it is left out.
+abbrev pub Recovers : Result Response Refusal → Point → Point → Type 0
+Recovers (Ok (ItRecovered told)) old new =
+    (state : Snapshots) × ReportsRecovery old told state × (new ≡ closed (open_at old.forgetting state))
+Recovers (Err (Failed failure)) old new = new ≡ old
+Recovers answer old new = ⊥
+
+-- while no session is open, all but an opening and a recovery is refused as broken
+abbrev pub AnswersClosed : Request → Result Response Refusal → Point → Point → Type 0
+AnswersClosed (requests.Recover skip_moved) answer old new = Recovers answer old new
+AnswersClosed request answer old new = (answer ≡ Err Broken) × (new ≡ old)
+
 abbrev pub AnswersEvent : Bool → Event → Result Response Refusal → Point → Point → Type 0
 AnswersEvent is_open event.Reopen answer old new = Reopens answer old new
 AnswersEvent true (event.Ask request) answer old new = Continues request answer old new
-AnswersEvent false (event.Ask request) answer old new = (answer ≡ Err Broken) × (new ≡ old)
+AnswersEvent false (event.Ask request) answer old new = AnswersClosed request answer old new
 
 -- the events are answered so, one after the other, and lead from one point to the other
 abbrev pub RunsWithStops : List Event → List (Result Response Refusal) → Point → Point → Type 0
@@ -86,10 +140,12 @@ AreLeft files state (Some next) = (first : State) × (second : State) × HoldsSn
     × HoldsSnapshots second next × InDoubt first second files
 
 -- What a loss of power may leave then: the files hold the state, and all that may be left is safe on its standing; or
--- they, and all that may be left, are in doubt between it and the next.
-abbrev pub MayBeFound : {S : Type 0} → Ghosts S → S → Snapshots → Option Snapshots → Type 0
-MayBeFound store new state None = (earlier : State) × (held : State) × HoldsSnapshots held state
-    × IsStanding (store.files new) held × AreSafeOn store earlier held new
-MayBeFound store new state (Some next) =
+-- they, and all that may be left, are in doubt between it and the next. Where forgetting was stopped, it may also be
+-- safe on a standing with the same tree, whose history differs by forgotten steps.
+abbrev pub MayBeFound : {S : Type 0} → Ghosts S → S → Snapshots → Option Snapshots → (forgetting : Bool) → Type 0
+MayBeFound store new state None forgetting = (earlier : State) × (held : State) × HoldsSnapshots held state
+    × IsStanding (store.files new) held
+    × AreSafeOn store (record { state = earlier; forgetting = forgetting }) held new
+MayBeFound store new state (Some next) forgetting =
     (earlier : State) × (first : State) × (second : State) × HoldsSnapshots first state × HoldsSnapshots second next
-    × AreInDoubt store earlier first second new
+    × AreInDoubt store (record { state = earlier; forgetting = forgetting }) first second new

@@ -1,17 +1,17 @@
 //! A session answers a request: the one place that says which call it is.
-ghost use Rattle.std.specs.Prelude.{◌≡◌, ◌↔◌, true};
+ghost use Rattle.std.specs.Prelude.{◌≡◌, ◌↔◌, true, IfErr, IfOk};
 ghost use Rattle.reuse_session.specs.session.Requests.{as_answer};
 
 use crate::session::Session;
-use reuse_change::Moment;
+use reuse_change::{EntryNumbers, Moment};
 use reuse_command::path_outcome::PathOutcomes;
-use reuse_command::reply::{Answer, Refusal, Response, Reverted, Rows, Shown};
-use reuse_command::request::{Call, Request};
+use reuse_command::reply::{Answer, Recovered, Refusal, Response, Reverted, Rows, Shown};
+use reuse_command::request::{Call, Request, Steps};
 use reuse_store::Store;
 use std::alloc::Global;
 
 impl<S: Store + Drop> Session<S> {
-    ghost use Rattle.reuse_command.specs.Answer.{TellsNoFault};
+    ghost use Rattle.reuse_command.specs.Answer.{TellsNoFault, nothing_recovered};
     ghost use Rattle.reuse_journal.specs.Journal.{State};
     ghost use Rattle.reuse_session.specs.session.Requests.{IsAnswered, ReadsOnlyWithCause, Previews};
     ghost use Rattle.reuse_session.specs.session.Session.{store_of, is_broken, StandsOn};
@@ -23,9 +23,28 @@ impl<S: Store + Drop> Session<S> {
         match request {
             Request::Make(call, when) => self.make(alloc, call, *when),
             Request::Preview(call) => preview_answer(self.preview_call(alloc, call)),
+            Request::Forget(steps) => match steps {
+                Steps::All => forgotten_answer(self.forget_all(alloc)),
+                Steps::Numbers(numbers) => {
+                    forgotten_answer(self.forget(alloc, numbers.as_slice()))
+                }
+            },
+            Request::Recover { skip_moved: _ } => recovered_answer(self.recovered(alloc)),
             Request::Log => log_answer(self.log(alloc)),
             Request::Show(number) => shown_answer(self.show(alloc, *number)),
         }
+    }
+
+    // Nothing is pending once a session is open.
+    fn recovered(&self, alloc: Global) -> Result<Recovered, Refusal>
+        ensures broken { (result ≡ Err Refusal.Broken) ↔ (is_broken self.now ≡ true) }
+        ensures nothing { IfOk result (λ recovered. recovered ≡ nothing_recovered) }
+        ensures refusal { IfErr result (λ refusal. refusal ≡ Refusal.Broken) }
+    {
+        if self.broken {
+            return Err(Refusal::Broken);
+        }
+        Ok(Recovered::nothing(alloc))
     }
 
     // Makes a call.
@@ -92,6 +111,25 @@ fn preview_answer(answer: Result<PathOutcomes, Refusal>) -> Answer
 {
     match answer {
         Ok(path_outcomes) => Ok(Response::Preview(path_outcomes)),
+        Err(refusal) => Err(refusal),
+    }
+}
+
+fn forgotten_answer(answer: Result<EntryNumbers, Refusal>) -> Answer
+    ensures { result ≡ as_answer Response.Forgotten answer }
+{
+    match answer {
+        Ok(numbers) => Ok(Response::Forgotten(numbers)),
+        Err(refusal) => Err(refusal),
+    }
+}
+
+/// What a recovery answers, as an answer to a request.
+pub fn recovered_answer(answer: Result<Recovered, Refusal>) -> Answer
+    ensures { result ≡ as_answer Response.Recovered answer }
+{
+    match answer {
+        Ok(recovered) => Ok(Response::Recovered(recovered)),
         Err(refusal) => Err(refusal),
     }
 }

@@ -8,7 +8,7 @@ ghost use Rattle.std.specs.List.{Contains};
 ghost use Rattle.std.specs.List.Sorted.{IsStrictlyIncreasing};
 ghost use Rattle.reuse_store.specs.Asked.{Leaves, IsLater};
 ghost use Rattle.reuse_change.specs.Files.{Files, Clashes, tree_of};
-ghost use Rattle.reuse_session.specs.session.Forgetting.{AreInOrder, PutsAndRemoves, PutsAndRemovesSome, Removes, RemovesSome};
+ghost use Rattle.reuse_session.specs.session.Forgetting.{AreInOrder, PutsAndRemoves, PutsAndRemovesSome, Removes, RemovesSome, StopsWithRemovals};
 ghost use Rattle.reuse_journal.specs.Numbered.{memory_besides};
 ghost use Rattle.reuse_journal.specs.History.{head_listing};
 ghost use Rattle.reuse_journal.specs.Remembered.{head_room, listed_count};
@@ -28,7 +28,7 @@ use std::alloc::{AllocError, Global};
 impl<S: Store + Drop> Session<S> {
     ghost use Rattle.reuse_command.specs.Answer.{IsEarly, IsFailure, TellsNoFault};
     ghost use Rattle.reuse_session.specs.session.Calls.{IsCall};
-    ghost use Rattle.reuse_session.specs.session.Forgetting.{AreInOrder, Forgets, IsForgetRefusal, IsWithoutOldest, LeavesForgetting, SurvivesToForget, alone, numbers_in};
+    ghost use Rattle.reuse_session.specs.session.Forgetting.{AreInOrder, Forgets, IsForgetRefusal, IsWithoutOldest, LeavesForgetting, SurvivesToForget, alone, numbers_in, snapshots_besides};
     ghost use Rattle.reuse_journal.specs.Numbered.{all_numbers, first_unlisted, memory_besides, state_besides};
     ghost use Rattle.reuse_journal.specs.Journal.{State};
     ghost use Rattle.reuse_session.specs.session.Machine.{Snapshots};
@@ -52,9 +52,11 @@ impl<S: Store + Drop> Session<S> {
         ensures exact { S.honest (store_of self.new) → (held : State) → StandsOn S.files self.old held
             → TellsNoFault result → (left : State) × StandsOn S.files self.new left
             × Forgets numbers.now held result left }
-        // Where they are the oldest that are done, the session stands at the state of the machine
-        // that lacks its oldest trees.
-        ensures machine { S.honest (store_of self.new) → (state next : Snapshots) → StandsAt S.files self.old state
+        // The session stands at the state of the machine without these steps. If they are the
+        // oldest that are done, that lacks its oldest trees.
+        ensures machine { S.honest (store_of self.new) → (state : Snapshots) → StandsAt S.files self.old state
+            → OnOk result (StandsAt S.files self.new (snapshots_besides numbers.now state)) }
+        ensures oldest { S.honest (store_of self.new) → (state next : Snapshots) → StandsAt S.files self.old state
             → IsWithoutOldest numbers.now state next → OnOk result (StandsAt S.files self.new next) }
         // The same, whatever the store: what is remembered, and the numbers.
         ensures forgotten { IfOk result (λ forgotten. AreInOrder numbers.now forgotten
@@ -231,12 +233,11 @@ fn put_and_remove<S: Store>(
         ⊎ ((count : ℕ) × PutsAndRemoves text.now (take count paths.now) (S.files store.old) (S.files store.new))) }
     // After a loss of power, if nothing but the journal was in doubt before: once it is done, the
     // head is there, and some of the paths are removed; and where it stops, what might be there
-    // before, or with that.
+    // before, or with the head, and behind it with some of the removals.
     ensures lasting { S.honest store.new → HaveTree S.Store store.old (tree_of (S.files store.old))
         → OnOk result (Leaves S.Store store.new (PutsAndRemovesSome text.now paths.now (S.files store.old))) }
     ensures doubt { S.honest store.new → HaveTree S.Store store.old (tree_of (S.files store.old))
-        → OnErr result (Leaves S.Store store.new (λ left. S.may_be store.old left
-        ⊎ ((kept : Files) × S.may_be store.old kept × PutsAndRemovesSome text.now paths.now kept left))) }
+        → OnErr result (StopsWithRemovals S.Store text.now paths.now store.old store.new) }
     ensures clash { S.honest store.new → result ≡ Err Cause.Clash → Clashes (S.files store.old) head_path }
     ensures moved { result ≢ Err Cause.Moved }
     ensures device { IsErrOf result Cause.Device → S.failures store.old < S.failures store.new }

@@ -6,8 +6,8 @@ pub mod DiffLemmas
 pub mod DrawnLemmas
 pub mod DrawnLines
 pub mod PreviewedLemmas
-pub mod ForgettingLemmas
 pub mod ModelLemmas
+pub mod RecoveryLemmas
 pub mod SafeCalls
 pub mod TextLemmas
 pub mod TreeDiffLemmas

@@ -24,8 +24,8 @@ use Rattle.reuse_command.specs.declared.request.Request.{Request}
 pub record CarriesOut {S O : Type 0} (store : Ghosts S) (contents : O → List ℕ) (has_failed : O → Bool)
     (request : Request) (options : PrintOptions) (old new : S) (before after : O)
     (result : Result ℕ Fault) : Type 0 where
-  -- from any files, where the store is honest: what is reported is the session's answer, and the files are as it left
-  -- them
+  -- from any files, where the store is honest: what is reported is the answer to the request, and the files are as it
+  -- left them
   pub exact : store.honest new → ReportsAnswer options
       (λ answer. RequestLeaves (store.files old) request answer (store.files new))
       (contents before) (contents after) result
@@ -41,10 +41,10 @@ pub record CarriesOut {S O : Type 0} (store : Ghosts S) (contents : O → List �
       × AreLeft (store.files new) end.state end.next
   -- So it is with all that a loss of power may leave: from files of which it may leave no more than what is told of the
   -- point where the run with stops was, to files of which it may leave no more than what is told of the point at its end.
-  pub survives : store.honest new → (start : Point) → MayBeFound store old start.state start.next
+  pub survives : store.honest new → (start : Point) → MayBeFound store old start.state start.next start.forgetting
       → (end : Point) × ReportsAnswer options
       (λ answer. AnswersAfterStop request answer start end) (contents before) (contents after) result
-      × MayBeFound store new end.state end.next
+      × MayBeFound store new end.state end.next end.forgetting
   -- where a dry run's diff is wanted it stands behind the lines: the diff of the tree as it is, and of that which the
   -- call would leave
   pub drawn : store.honest new → (held : State) → IsStanding (store.files old) held → options.format ≡ Diff

@@ -9,21 +9,24 @@ use Rattle.reuse_journal.specs.JournalFiles.{head_path}
 use Rattle.reuse_session.specs.session.Machine.{Snapshots}
 use Rattle.reuse_session.specs.session.Model.{Gives}
 use Rattle.reuse_journal.specs.Opening.{IsFirstBad, IsStuckAt, OpensOn, StopsOpening}
-use Rattle.reuse_session.specs.session.Requests.{HasCallClash, KeepsFolder, Meets}
+use Rattle.reuse_session.specs.session.Requests.{HasCallClash, KeepsFolder, Meets, StaysEarly, as_answer}
 use Rattle.reuse_journal.specs.Remembered.{IsSameBut}
 use Rattle.reuse_journal.specs.Standing.{IsStanding, InDoubt}
 use Rattle.reuse_session.specs.session.Stops.{HoldState, AreLeft}
 use Rattle.reuse_command.specs.declared.failure.Failure.TheVariants as failures
+use Rattle.reuse_command.specs.declared.reply.Recovered.{Recovered}
 use Rattle.reuse_command.specs.declared.reply.Refusal.{Refusal}
 use Rattle.reuse_command.specs.declared.reply.Refusal.TheVariants as refusals
 use Rattle.reuse_command.specs.declared.reply.Response.{Response}
 use Rattle.reuse_command.specs.declared.reply.Response.TheVariants as responses
 use Rattle.reuse_command.specs.declared.request.Request.{Request}
+use Rattle.reuse_command.specs.declared.request.Request.TheVariants as requests
 use Rattle.reuse_print.specs.declared.fault.Fault.{Fault}
 use Rattle.reuse_print.specs.declared.fault.Fault.TheVariants as faults
 use Rattle.reuse_arguments.specs.declared.line.PrintOptions.{PrintOptions}
 use Rattle.reuse_print.specs.Lines.{path_count}
 use Rattle.reuse_print.specs.Outputs.{AddsFront, AddsSome}
+use Rattle.reuse_undo.specs.run.Recoveries.{RecoveryLeaves}
 use Rattle.reuse_undo.specs.print.Responses.{IsPrintedText, is_refused, IsDrawnPreview, WouldBeMade}
 
 -- ---- from any files
@@ -52,14 +55,22 @@ pub record IsMade (before : Files) (request : Request) (answer : Result Response
   pub made : (found : State) × (opened : Files) × OpensOn before found opened × Meets request found answer after
       × IfErr answer (HasCallClash request found opened)
       × IsSameBut head_path (undo_folder_of before) (undo_folder_of opened) × KeepsFolder request found opened after
+      × StaysEarly request answer opened after
   -- of files in doubt that is one of the two
   pub recovers : (first second : State) → InDoubt first second before → AnswersOn request first answer after
       ⊎ AnswersOn request second answer after
 
 -- a session's answer to the request, or its opening's refusal, and the files then
-abbrev pub RequestLeaves : Files → Request → Result Response Refusal → Files → Type 0
-RequestLeaves before request answer after = ((refusal : Refusal) × (answer ≡ Err refusal)
+abbrev pub SessionLeaves : Files → Request → Result Response Refusal → Files → Type 0
+SessionLeaves before request answer after = ((refusal : Refusal) × (answer ≡ Err refusal)
     × IsUnopened before refusal after) ⊎ IsMade before request answer after
+
+-- The same of any request: no session is opened for a recovery, since none can be while a path of the pending step is
+-- stuck.
+abbrev pub RequestLeaves : Files → Request → Result Response Refusal → Files → Type 0
+RequestLeaves before (requests.Recover skip_moved) answer after = (recovered : Result Recovered Refusal)
+    × (answer ≡ as_answer responses.Recovered recovered) × RecoveryLeaves skip_moved before recovered after
+RequestLeaves before request answer after = SessionLeaves before request answer after
 
 -- ---- from a state of the model
 

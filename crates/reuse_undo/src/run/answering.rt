@@ -48,7 +48,11 @@ pub fn answer<R: Files<File = File> + AllocGlobal + Clock + Env + Print + Eprint
 ) -> (DiskStore<R>, CallEnding, Counts) {
     match asking.request {
         Request::Make(call, _) => make(folder, alloc, asking, call),
-        Request::Preview(_) | Request::Log | Request::Show(_) => {
+        Request::Preview(_)
+        | Request::Log
+        | Request::Show(_)
+        | Request::Forget(_)
+        | Request::Recover { .. } => {
             let (folder, outcome, counts) = answer_at_once(folder, alloc, asking);
             (folder, Ok(outcome), counts)
         }

@@ -57,6 +57,8 @@ impl RequestKind {
             Request::Make(Call::Redo, _) => RequestKind::Redo,
             Request::Make(Call::Revert { .. }, _) => RequestKind::Revert,
             Request::Preview(Call::Revert { .. }) => RequestKind::PreviewRevert,
+            Request::Forget(_) => RequestKind::Forget,
+            Request::Recover { .. } => RequestKind::Recover,
             Request::Preview(_) | Request::Log | Request::Show(_) => RequestKind::Look,
         }
     }
@@ -111,27 +113,14 @@ impl Diagnostics {
         line: &Line,
         begun: Option<u32>,
     ) -> Diagnostics {
-        let kind = RequestKind::of(&line.request);
-        let mut diagnostics = Diagnostics::of(rt, alloc, line.root.as_str(), kind, begun);
-        diagnostics.texts = match &line.texts {
-            Some(folder) => String::from_str(alloc, folder.as_str()).ok(),
-            None => None,
-        };
-        diagnostics
-    }
-
-    /// The same before a request of this kind in this root.
-    pub fn of<R: Files + AllocGlobal + Clone + Drop>(
-        rt: &R,
-        alloc: Global,
-        root: &str,
-        kind: RequestKind,
-        begun: Option<u32>,
-    ) -> Diagnostics {
+        let root = line.root.as_str();
         Diagnostics {
-            kind,
+            kind: RequestKind::of(&line.request),
             root: String::from_str(alloc, root).ok(),
-            texts: None,
+            texts: match &line.texts {
+                Some(folder) => String::from_str(alloc, folder.as_str()).ok(),
+                None => None,
+            },
             above: journal_above(rt, alloc, root),
             begun,
             is_rolled_back: false,
@@ -198,7 +187,7 @@ impl Diagnostics {
     }
 
     /// Adds what is found after any request.
-    pub fn look_at_folder<R: Files<File = File> + AllocGlobal + Clone + Drop>(
+    fn look_at_folder<R: Files<File = File> + AllocGlobal + Clone + Drop>(
         &mut self,
         rt: &R,
         alloc: Global,

@@ -1,18 +1,15 @@
 //! Carries out on a store what a line asks for.
-ghost use Rattle.std.specs.Prelude.{◌≡◌, ◌≤◌, ◌<◌, None, IfOk, IfErr, IfSome, IsSomeAnd};
+ghost use Rattle.std.specs.Prelude.{◌≡◌, None, IfOk, IfErr, IfSome, IsSomeAnd};
 ghost use Rattle.reuse_store.specs.Asked.{OnlyReads};
 ghost use Rattle.reuse_change.specs.Files.{Files, tree_of};
-ghost use Rattle.reuse_command.specs.Answer.{HasCause};
-ghost use Rattle.reuse_journal.specs.Journal.{State};
-ghost use Rattle.reuse_journal.specs.Standing.{IsStanding};
-ghost use Rattle.reuse_session.specs.session.Stops.{Point, MayBeFound};
-ghost use Rattle.reuse_undo.specs.run.AfterStops.{AnswersAfterStop};
+ghost use Rattle.reuse_undo.specs.run.AfterStops.{AnswersAfterStop, OpensToAnswer};
+ghost use Rattle.reuse_undo.specs.run.Called.{IsCalled};
 ghost use Rattle.reuse_undo.specs.run.CarriedOut.{CarriesOut};
-ghost use Rattle.reuse_undo.specs.run.Drawn.{LeadsAsPreviewed, LeadsAsPreviewedAccepted, IsDiffOfCall, IsTreeDiff};
-ghost use Rattle.reuse_session.specs.session.Requests.{HasCallClash, IsAnswered, IsReading};
-ghost use Rattle.reuse_undo.specs.run.RunLine.{IfNoDiff, RequestLeaves};
-ghost use Rattle.reuse_undo.specs.print.Responses.{IsAccepted, IsDiffOf, IsDrawnPreview, IsNoDiff};
-ghost use Rattle.reuse_undo.specs.print.WriterFaults.{IsOfDiff, IsUndrawn};
+ghost use Rattle.reuse_undo.specs.run.Drawn.{LeadsAsPreviewed, LeadsAsPreviewedAccepted, IsTreeDiff};
+ghost use Rattle.reuse_session.specs.session.Requests.{IsAnswered};
+ghost use Rattle.reuse_undo.specs.run.RunLine.{RequestLeaves, SessionLeaves};
+ghost use Rattle.reuse_undo.specs.print.Responses.{IsAccepted, IsNoDiff};
+ghost use Rattle.reuse_undo.specs.print.WriterFaults.{IsOfDiff};
 
 mod drawn;
 mod planned;
@@ -25,13 +22,13 @@ pub use printed::is_refused;
 use reuse_arguments::line::{OutputFormat, PrintOptions};
 use reuse_print::fault::Fault;
 use reuse_print::output::Sink;
-use reuse_session::{Answer, Counts, Request, Session};
+use reuse_session::{Answer, Counts, Request, Session, recover, recovered_answer};
 use reuse_store::Store;
 use std::alloc::Global;
 
-/// Opens a session on the store, makes the one call that is asked for, and writes the lines of its
-/// answer. The store is given back, how many paths it reports as changed, and what the call
-/// counted; where it can't be written, what the call changed stands.
+/// Answers the request that is asked for on the store, and writes the lines of the answer. The store
+/// is given back, how many paths it reports as changed, and what the call counted; where it can't
+/// be written, what the request changed stands.
 pub fn run_request<S: Store + Drop, O: Sink>(
     alloc: Global,
     request: &Request,
@@ -51,30 +48,35 @@ pub fn run_request<S: Store + Drop, O: Sink>(
     }
 }
 
-// Opens a session on the store, and makes the call. Where the line wants a diff and would be
-// carried out, the diff of what would change is made too.
+// Answers the request. For a recovery no session is opened: none can be while a path of the pending
+// step is stuck.
 fn call<S: Store + Drop>(
     alloc: Global,
     store: S,
     request: &Request,
     options: PrintOptions,
 ) -> (S, Answer, Result<Vec<u8>, Fault>, Counts)
-    ensures carries { S.honest result.0 → RequestLeaves (S.files store) request.now result.1 (S.files result.0) }
-    ensures survives { S.honest result.0 → (start : Point) → MayBeFound S.Store store start.state start.next
-        → (end : Point) × AnswersAfterStop request.now result.1 start end
-        × MayBeFound S.Store result.0 end.state end.next }
-    ensures reads_only { S.honest result.0 → IsReading request.now → (held : State) → IsStanding (S.files store) held
-        → OnlyReads S.Store store result.0 }
-    ensures fault { IfErr result.1 (HasCause (S.failures store < S.failures result.0)) }
-    ensures clash { S.honest result.0 → (held : State) → IsStanding (S.files store) held
-        → IfErr result.1 (HasCallClash request.now held (S.files store)) }
-    ensures diff { IfOk result.1 (λ response. IsDiffOf options response result.2) }
-    ensures drawn { S.honest result.0 → (held : State) → IsStanding (S.files store) held
-        → IfOk result.1 (λ response. IsDrawnPreview options response
-        → IfOk result.2 (λ text. IsDiffOfCall request.now held text.items)) }
-    ensures undrawn { IfNoDiff result.2 (IsUndrawn S.Store store result.0) }
-    ensures failures { S.failures store ≤ S.failures result.0 }
-    ensures was_honest { S.honest result.0 → S.honest store }
+    ensures { IsCalled S.Store RequestLeaves AnswersAfterStop request.now options store result.0 result.1 result.2 }
+{
+    match request {
+        Request::Recover { skip_moved } => {
+            let (store, answer) = recover(alloc, store, *skip_moved);
+            let answer = recovered_answer(answer);
+            (store, answer, Ok(Vec::new(alloc)), Counts::none(alloc))
+        }
+        _ => call_session(alloc, store, request, options),
+    }
+}
+
+// Opens a session on the store, and makes the call. Where the line wants a diff and would be
+// carried out, the diff of what would change is made too.
+fn call_session<S: Store + Drop>(
+    alloc: Global,
+    store: S,
+    request: &Request,
+    options: PrintOptions,
+) -> (S, Answer, Result<Vec<u8>, Fault>, Counts)
+    ensures { IsCalled S.Store SessionLeaves OpensToAnswer request.now options store result.0 result.1 result.2 }
 {
     match Session::open(alloc, store) {
         Ok(opened) => {

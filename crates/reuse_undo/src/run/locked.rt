@@ -3,22 +3,19 @@
 use crate::run::answering::{Asking, CallEnding, answer};
 use crate::run::carried_out::{CarriedOut, rolled_back_step};
 use crate::run::denial::Denial;
-use crate::run::diagnostics::{Diagnostics, RequestKind, begun_step};
-use crate::run::on_folder::{forget_on_folder, recover_on_folder};
+use crate::run::diagnostics::{Diagnostics, begun_step};
 use crate::run::texts::find_texts;
-use reuse_arguments::line::{Forgetting, Line, PrintOptions, Recovery};
+use reuse_arguments::line::{Line, PrintOptions};
 use reuse_arguments::request::{ids_of, with_texts};
 use reuse_arguments::settings::Settings;
 use reuse_folder::DiskStore;
 use reuse_lock::{RootLock, lock_root};
 use reuse_print::fault::Fault;
-use reuse_print::output::Output;
-use reuse_session::{LicenceTexts, Request, Steps};
-use reuse_shown::progress::{ClearedOutput, Progress};
+use reuse_session::{LicenceTexts, Request};
+use reuse_shown::progress::Progress;
 use reuse_shown::shown_name::Names;
 use std::alloc::{AllocError, Global};
 use std::fs::File;
-use std::io;
 use std::rt::{Clock, Env, Files};
 
 /// What is reported beside the answer or the fault, how names are shown on standard output, and how
@@ -98,6 +95,24 @@ fn is_denied<R: Files<File = File> + AllocGlobal + Clone + Drop>(
     !extras.settings.trusts_journal && folder.is_journal_of_other(alloc)
 }
 
+/// The step that is pending, where it is noted that it is rolled back. A recovery prints which files
+/// of it were, so there it is noted with the other notes alone.
+fn step_to_note<R: Files<File = File> + AllocGlobal + Clone + Drop>(
+    alloc: Global,
+    folder: &mut DiskStore<R>,
+    request: &Request,
+    extras: Extras,
+) -> Option<u32> {
+    let begun = begun_step(alloc, folder)?;
+    if let Request::Recover { .. } = request {
+        folder.expect_rollback();
+        if !extras.notes {
+            return None;
+        }
+    }
+    Some(begun)
+}
+
 fn work_with<R: Files<File = File> + AllocGlobal + Clock + Env + Print + Eprint + Clone + Drop>(
     rt: &R,
     alloc: Global,
@@ -115,7 +130,7 @@ fn work_with<R: Files<File = File> + AllocGlobal + Clock + Env + Print + Eprint 
         drop(texts);
         return CarriedOut::denied(Denial::JournalOfAnother);
     }
-    let begun = begun_step(alloc, &mut folder);
+    let begun = step_to_note(alloc, &mut folder, &line.request, extras);
     let mut diagnostics = found_before(rt, alloc, &line, begun, extras.notes);
     let options = PrintOptions {
         format: line.format,
@@ -185,182 +200,5 @@ fn found_after<R: Files<File = File> + AllocGlobal + Clone + Drop>(
             drop(folder);
             diagnostics
         }
-    }
-}
-
-/// Rolls the pending step of a folder back.
-pub fn recover_folder<R: Files<File = File> + AllocGlobal + Clock + Print + Eprint + Clone + Drop>(
-    rt: &R,
-    alloc: Global,
-    recovery: Recovery,
-    extras: Extras,
-) -> CarriedOut {
-    let Recovery { root, skip_moved } = recovery;
-    let work = JournalWork::Recover { skip_moved };
-    work_on_journal(rt, alloc, root.as_str(), work, extras)
-}
-
-/// Takes steps out of the history of a folder.
-pub fn forget_folder<R: Files<File = File> + AllocGlobal + Clock + Print + Eprint + Clone + Drop>(
-    rt: &R,
-    alloc: Global,
-    forgetting: Forgetting,
-    extras: Extras,
-) -> CarriedOut {
-    let Forgetting { root, steps } = forgetting;
-    let work = JournalWork::Forget(&steps);
-    work_on_journal(rt, alloc, root.as_str(), work, extras)
-}
-
-/// What is done to the journal of a folder by no request of a session.
-#[derive(Clone, Copy)]
-enum JournalWork<'a> {
-    /// What a stopped run left is rolled back. The paths that can't be may be left.
-    Recover { skip_moved: bool },
-    /// These steps are taken out of the history.
-    Forget(&'a Steps),
-}
-
-impl JournalWork<'_> {
-    fn kind(self) -> RequestKind {
-        match self {
-            JournalWork::Recover { .. } => RequestKind::Recover,
-            JournalWork::Forget(_) => RequestKind::Forget,
-        }
-    }
-}
-
-/// Does that to the journal of the folder at this path.
-fn work_on_journal<R: Files<File = File> + AllocGlobal + Clock + Print + Eprint + Clone + Drop>(
-    rt: &R,
-    alloc: Global,
-    root: &str,
-    work: JournalWork<'_>,
-    extras: Extras,
-) -> CarriedOut {
-    match opened_at(rt, alloc, root, extras) {
-        Ok(Ok(folder)) => work_opened(rt, alloc, folder, root, work, extras),
-        Ok(Err(fault)) => CarriedOut::fault(fault),
-        Err(denial) => CarriedOut::denied(denial),
-    }
-}
-
-/// The folder at this path, locked, whose journal may be opened.
-fn opened_at<R: Files<File = File> + AllocGlobal + Clone + Drop>(
-    rt: &R,
-    alloc: Global,
-    root: &str,
-    extras: Extras,
-) -> Result<Result<DiskStore<R>, Fault>, Denial> {
-    match locked_at(rt, alloc, root, extras.settings) {
-        Ok(mut folder) => {
-            if is_denied(alloc, &mut folder, extras) {
-                Err(Denial::JournalOfAnother)
-            } else {
-                Ok(Ok(folder))
-            }
-        }
-        Err(fault) => Ok(Err(fault)),
-    }
-}
-
-fn locked_at<R: Files<File = File> + AllocGlobal + Clone + Drop>(
-    rt: &R,
-    alloc: Global,
-    root: &str,
-    settings: Settings,
-) -> Result<DiskStore<R>, Fault> {
-    let lock = lock_root(rt, alloc, root)?;
-    Ok(folder_at(rt, lock, settings)?)
-}
-
-fn work_opened<R: Files<File = File> + AllocGlobal + Clock + Print + Eprint + Clone + Drop>(
-    rt: &R,
-    alloc: Global,
-    mut folder: DiskStore<R>,
-    root: &str,
-    work: JournalWork<'_>,
-    extras: Extras,
-) -> CarriedOut {
-    // A recovery prints which files were rolled back. So its step is noted with the other notes
-    // alone.
-    let pending = begun_step(alloc, &mut folder);
-    if let (JournalWork::Recover { .. }, Some(_)) = (work, pending) {
-        folder.expect_rollback();
-    }
-    let begun = match work {
-        JournalWork::Recover { .. } if !extras.notes => None,
-        _ => pending,
-    };
-    let diagnostics = found_of(rt, alloc, root, work.kind(), begun, extras.notes);
-    let (folder, outcome) = work_aloud(rt, alloc, folder, work, extras);
-    came_of(rt, alloc, folder, begun, diagnostics, outcome)
-}
-
-/// Does it, and prints what became of it.
-fn work_aloud<R: Files<File = File> + AllocGlobal + Clock + Print + Eprint + Clone + Drop>(
-    rt: &R,
-    alloc: Global,
-    folder: DiskStore<R>,
-    work: JournalWork<'_>,
-    extras: Extras,
-) -> (DiskStore<R>, Result<usize, Fault>) {
-    let progress = match rt.clone() {
-        Ok(rt) => Progress::new(rt, extras.progress),
-        Err(error) => return (folder, Err(Fault::from(error))),
-    };
-    let mut out = Output::new(ClearedOutput::new(&progress, io::writer(rt)));
-    let answered = match work {
-        JournalWork::Recover { skip_moved } => recover_on_folder(
-            folder,
-            &progress,
-            alloc,
-            skip_moved,
-            extras.names,
-            &mut out,
-        ),
-        JournalWork::Forget(steps) => forget_on_folder(folder, &progress, alloc, steps, &mut out),
-    };
-    progress.clear();
-    answered
-}
-
-fn found_of<R: Files + AllocGlobal + Clone + Drop>(
-    rt: &R,
-    alloc: Global,
-    root: &str,
-    kind: RequestKind,
-    begun: Option<u32>,
-    notes: bool,
-) -> Option<Diagnostics> {
-    if notes {
-        Some(Diagnostics::of(rt, alloc, root, kind, begun))
-    } else {
-        None
-    }
-}
-
-/// What came of it, with what is found in the folder afterwards.
-fn came_of<R: Files<File = File> + AllocGlobal + Clone + Drop>(
-    rt: &R,
-    alloc: Global,
-    mut folder: DiskStore<R>,
-    begun: Option<u32>,
-    diagnostics: Option<Diagnostics>,
-    outcome: Result<usize, Fault>,
-) -> CarriedOut {
-    let rolled_back = rolled_back_step(begun, folder.rolled_back());
-    let diagnostics = match diagnostics {
-        Some(mut diagnostics) => {
-            diagnostics.look_at_folder(rt, alloc, &mut folder, &outcome);
-            Some(diagnostics)
-        }
-        None => None,
-    };
-    drop(folder);
-    CarriedOut {
-        ending: Ok(outcome),
-        rolled_back,
-        diagnostics,
     }
 }

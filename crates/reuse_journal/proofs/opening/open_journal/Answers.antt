@@ -8,7 +8,7 @@ use Rattle.reuse_journal.specs.JournalFiles.{head_of, head_path, entry_path, Hea
 use Rattle.reuse_command.specs.declared.reply.Refusal.{Refusal}
 use Rattle.reuse_command.specs.declared.failure.Failure.TheVariants.{Interrupted}
 use Rattle.reuse_command.specs.declared.reply.Refusal.TheVariants.{BadJournal, Moved, Failed}
-use Rattle.reuse_journal.specs.Losses.{AreSafeOn, AreInDoubt}
+use Rattle.reuse_journal.specs.Losses.{AreInDoubt, AreSafeOn, Earlier, beyond}
 use Rattle.reuse_store.specs.declared.store.Store.{Ghosts}
 use Rattle.reuse_store.specs.Asked.{OnlyReads}
 use Rattle.reuse_store.proofs.AskedLemmas.{reads_more, later_reads, later_more}
@@ -34,10 +34,10 @@ no_refusal : {A : Type 0} (x : A) (refusal : Refusal) → ◌≡◌ {A = Result 
 no_refusal x refusal e = absurd (cc)
 
 -- one of the standings is remembered, and all that may be left is safe on it
-abbrev OpensSafely : {S : Type 0} → Ghosts S → (earlier held next : State) → S → Memory → Type 0
+abbrev OpensSafely : {S : Type 0} → Ghosts S → Earlier → (held next : State) → S → Memory → Type 0
 OpensSafely store earlier held next new memory =
     (IsStanding (store.files new) held × Remembers memory held.journal × AreSafeOn store earlier held new)
-    ⊎ (IsStanding (store.files new) next × Remembers memory next.journal × AreSafeOn store held next new)
+    ⊎ (IsStanding (store.files new) next × Remembers memory next.journal × AreSafeOn store (beyond earlier held) next new)
 
 pub returns-in_err-pending : goal.returns-in_err-pending
 returns-in_err-pending g c =
@@ -128,7 +128,7 @@ module _ (g : Over) (c : After-recover_pending g) (honest : g.S.Store.honest c.r
       read_pending first second _ c.in-Some.pending c.in_ok-pending.history read_before.0 read_after (subst (InDoubt first second) (sym same_files) doubt)
 
   -- reading the journal left what may be left in doubt
-  mid_in_doubt : (earlier held next : State) → AreInDoubt g.S.Store earlier held next c.args.store.now → AreInDoubt g.S.Store earlier held next c.read_journal.new.store
+  mid_in_doubt : (earlier : Earlier) (held next : State) → AreInDoubt g.S.Store earlier held next c.args.store.now → AreInDoubt g.S.Store earlier held next c.read_journal.new.store
   mid_in_doubt earlier held next = doubt_stays g.S.Store earlier held next c.args.store.now c.read_journal.new.store c.read_journal.ensures.reads (c.recover_pending.ensures.later.was_honest honest)
 
   -- a standing has nothing pending

@@ -11,7 +11,7 @@ use Rattle.reuse_change.specs.Entry.{IsEntry, SomeMade, ArePartlyMade, CanBeRoll
 use Rattle.reuse_tree.specs.Head.{direction_of, IsGoodHead}
 use Rattle.reuse_journal.specs.History.{head_listing}
 use Rattle.reuse_journal.specs.JournalFiles.{head_path, entry_path, head_of, number_of, EntrySays}
-use Rattle.reuse_journal.specs.Losses.{AreSafeOn, AreInDoubt, StopsBackWithDoubt}
+use Rattle.reuse_journal.specs.Losses.{AreInDoubt, AreSafeOn, Earlier, StopsBackWithDoubt}
 use Rattle.reuse_journal.specs.Opening.{IsRead}
 use Rattle.reuse_journal.specs.Remembered.{IsSameBut}
 use Rattle.reuse_journal.specs.Standing.{IsStanding, IsUnderWay}
@@ -118,7 +118,7 @@ module _ (g : Over) (c : After-roll_back g) (honest : g.S.Store.honest c.roll_ba
       c.roll_back.ensures.refusal
 
   -- what may be left is safe on the standing from before the step, or is still in doubt
-  survived : (earlier held next : State) → AreInDoubt g.S.Store earlier held next c.args.store.now
+  survived : (earlier : Earlier) (held next : State) → AreInDoubt g.S.Store earlier held next c.args.store.now
       → MatchResult c.roll_back.result (λ done. IsStanding (g.S.Store.files c.roll_back.new.store) held × AreSafeOn g.S.Store earlier held c.roll_back.new.store) (λ refusal. AreInDoubt g.S.Store earlier held next c.roll_back.new.store)
   survived earlier held next doubt =
       let store = g.S.Store in

@@ -1,11 +1,11 @@
-use Rattle.std.proofs.Common.{◌≡◌, inl, inr, ⊎_elim, false, None, Some, sym, subst, rules}
+use Rattle.std.proofs.Common.{◌≡◌, inl, inr, ⊎_elim, false, None, Some, sym, subst}
 use Rattle.reuse_journal.specs.Journal.{Journal}
 use Rattle.reuse_command.proofs.OnlyReading.{is_refused, read_early}
 use Rattle.reuse_journal.proofs.OpeningDoubt.{doubt_stays, reads_standing, refused_in_doubt}
 use Rattle.reuse_journal.proofs.RecoveryDoubt.{awaits_still, recovers_in_doubt, refused_on_the_way}
 use Rattle.reuse_change.specs.Tree.{undo_folder_of}
 use Rattle.reuse_journal.specs.JournalFiles.{number_of}
-use Rattle.reuse_journal.specs.Losses.{AreSafeOn}
+use Rattle.reuse_journal.specs.Losses.{AreSafeOn, beyond}
 use Rattle.reuse_journal.specs.Opening.{IsRead, IsStuckAt}
 use Rattle.reuse_journal.specs.Remembered.{Remembers}
 use Rattle.reuse_journal.specs.Standing.{IsStanding}
@@ -20,7 +20,7 @@ returns-in-None-clause-recovered g c honest =
     let reads = c.read_journal.ensures.reads in
     let r = c.in_ok-pending.ensures.ok honest in
     let read : IsRead (g.S.Store.files c.args.store.now) None c.in_ok-pending.history r.0 = subst (λ p. IsRead (g.S.Store.files c.args.store.now) p c.in_ok-pending.history r.0) c.in-None.is r.1 in
-    inl (r.0, record { above = (read.no_reuse, read.no_undo); keeps = read.keeps }, search rules, reads.files honest)
+    inl (r.0, record { above = (read.no_reuse, read.no_undo); keeps = read.keeps }, c.nothing.ensures, reads.files honest)
 
 -- the journal was read, and the files stayed up to there
 module _ (g : Over) (c : After-recover_step g) (honest : g.S.Store.honest c.recover_step.new.store) where
@@ -76,7 +76,7 @@ returns-in-None-clause-survives g c honest earlier held next doubt =
     ⊎_elim
     (λ (first : IsStanding (store.files new) held × Remembers memory held.journal
     × AreSafeOn store earlier held new). inl (first.0, first.2))
-    (λ (second : IsStanding (store.files new) next × Remembers memory next.journal × AreSafeOn store held next new). inr
+    (λ (second : IsStanding (store.files new) next × Remembers memory next.journal × AreSafeOn store (beyond earlier held) next new). inr
     (second.0, second.2))
     (reads_standing store earlier held next c.args.store.now new c.read_journal.ensures.reads honest memory r.0 read
     doubt)

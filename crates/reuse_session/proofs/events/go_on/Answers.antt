@@ -13,26 +13,26 @@ use Rattle.reuse_session.proofs.lemmas.session.SafeDriving.{goes_on_safely, clos
 use Rattle.reuse_session.proofs.events.go_on.Goals as goal
 
 pub returns-then-is_interrupted-clause-continues : goal.returns-then-is_interrupted-clause-continues
-returns-then-is_interrupted-clause-continues g c honest state at =
+returns-then-is_interrupted-clause-continues g c honest state forgetting at =
     let store = g.S.Store in
     let same = c.into_store.ensures in
     let was = c.is_interrupted.ensures.0 c.if-is_interrupted.true in
     let request = c.args.request.now in
     let answer = c.answer-answer.result in
     let left = stops store request answer c.args.session c.answer-answer.new.self c.answer-answer.ensures (subst store.honest same honest) state at was.0 was.1 in
-    closes store.files request answer state c.into_store.result was.0 was.1 c.answer-answer.ensures.fails
+    closes store.files request answer state forgetting c.into_store.result was.0 was.1 c.answer-answer.ensures.fails
     (left.0, left.1, left.2, subst (λ (f : Files). AreLeft f state (Some left.1)) (sym (ap store.files same)) left.3)
 
 pub returns-then-is_interrupted-clause-survives : goal.returns-then-is_interrupted-clause-survives
-returns-then-is_interrupted-clause-survives g c honest state safely =
+returns-then-is_interrupted-clause-survives g c honest state forgetting safely =
     let store = g.S.Store in
     let request = c.args.request.now in
     let answer = c.answer-answer.result in
     let same = c.into_store.ensures in
     let was = c.is_interrupted.ensures.0 c.if-is_interrupted.true in
-    let goes = goes_safely store request answer c.args.session c.answer-answer.new.self c.answer-answer.ensures (subst store.honest same honest) state safely in
-    subst (λ left. (new : Point) × Continues request answer (open_at state) new × IsSafelyAt store (Closed left) new) (sym same)
-    (closes_safely store request answer state c.answer-answer.new.self was.0 was.1 c.answer-answer.ensures.fails goes)
+    let goes = goes_safely store request answer c.args.session c.answer-answer.new.self c.answer-answer.ensures (subst store.honest same honest) state forgetting safely in
+    subst (λ left. (new : Point) × Continues request answer (open_at forgetting state) new × IsSafelyAt store (Closed left) new) (sym same)
+    (closes_safely store request answer state forgetting c.answer-answer.new.self was.0 was.1 c.answer-answer.ensures.fails goes)
 
 pub returns-then-is_interrupted-clause-clash : goal.returns-then-is_interrupted-clause-clash
 returns-then-is_interrupted-clause-clash g c honest state at free = c.answer-answer.ensures.unclashed (subst g.S.Store.honest c.into_store.ensures honest) at.held at.stands free
@@ -54,18 +54,18 @@ pub returns-then-is_interrupted-clause-was_honest : goal.returns-then-is_interru
 returns-then-is_interrupted-clause-was_honest g c honest = c.answer-answer.ensures.call.later.was_honest (subst g.S.Store.honest c.into_store.ensures honest)
 
 pub returns-clause-continues : goal.returns-clause-continues
-returns-clause-continues g c honest state at =
+returns-clause-continues g c honest state forgetting at =
     let store = g.S.Store in
     let request = c.args.request.now in
     let answer = c.answer-answer.result in
     let old = c.args.session in
     let new = c.answer-answer.new.self in
-    goes_on store.files request answer state new (follows store request answer old new c.answer-answer.ensures honest state at) (stands store request answer old new c.answer-answer.ensures honest state at)
+    goes_on store.files request answer state forgetting new (follows store request answer old new c.answer-answer.ensures honest state at) (stands store request answer old new c.answer-answer.ensures honest state at)
     c.answer-answer.ensures.fails (λ cause is. false≢true (sym c.if-is_interrupted.false ∙ c.is_interrupted.ensures.1 (cause, is)))
 
 pub returns-clause-survives : goal.returns-clause-survives
-returns-clause-survives g c honest state safely =
+returns-clause-survives g c honest state forgetting safely =
     let store = g.S.Store in
-    goes_on_safely store state c.answer-answer.new.self c.args.request.now c.answer-answer.result
-    (goes_safely store c.args.request.now c.answer-answer.result c.args.session c.answer-answer.new.self c.answer-answer.ensures honest state safely) c.answer-answer.ensures.fails
+    goes_on_safely store state forgetting c.answer-answer.new.self c.args.request.now c.answer-answer.result
+    (goes_safely store c.args.request.now c.answer-answer.result c.args.session c.answer-answer.new.self c.answer-answer.ensures honest state forgetting safely) c.answer-answer.ensures.fails
     (λ cause is. false≢true (sym c.if-is_interrupted.false ∙ c.is_interrupted.ensures.1 (cause, is)))

@@ -29,6 +29,8 @@ one state (requests.Preview calls.Undo) first second next other whole is a b =
 one state (requests.Preview calls.Redo) first second next other whole is a b =
     (a.1 ∙ ap (as_answer responses.Preview) (redo_previewed state whole a.0 a.2 ∙ sym (redo_previewed state whole b.0 b.2)) ∙ sym b.1, a.3 ∙ sym b.3)
 one state (requests.Preview (calls.Revert number skip_moved)) first second next other whole is a b = absurd is
+one state (requests.Forget steps) first second next other whole is a b = absurd is
+one state (requests.Recover skip_moved) first second next other whole is a b = (a.0 ∙ sym b.0, a.1 ∙ sym b.1)
 one state requests.Log first second next other whole is a b = (a.0 ∙ sym b.0, a.1 ∙ sym b.1)
 one state (requests.Show number) first second next other whole is a b = absurd is
 
@@ -37,5 +39,5 @@ returns c = record {
   one = one;
   undone = λ state next when answer whole gives. back_to_copy state whole answer next gives;
   redone = λ state next when answer whole gives. on_to_copy state whole answer next gives;
-  unbroken = λ state next request answer whole gives. stays_unbroken state whole request answer next gives;
+  unbroken = λ state next request answer whole ends gives. stays_unbroken state whole request answer next ends gives;
 }

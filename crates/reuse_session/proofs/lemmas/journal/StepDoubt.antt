@@ -1,11 +1,11 @@
 -- What a loss of power leaves of a step that is carried out.
-use Rattle.std.proofs.Common.{◌≡◌, ◌⊎◌, inl, inr, ⊎_elim, ℕ, ◌+◌, ◌<◌, List, Option, Some, None, Result, Ok, Err, refl, sym, ap, subst, ◌∙◌, arith}
+use Rattle.std.proofs.Common.{◌≡◌, ◌⊎◌, inl, inr, ⊎_elim, ℕ, ◌+◌, ◌<◌, ◌≤◌, List, [], ◌∷◌, Option, Some, None, Result, Ok, Err, refl, sym, ap, subst, ◌∙◌, arith}
 use Rattle.std.specs.FinMap.{get}
 use Rattle.std.specs.List.{All}
 use Rattle.reuse_store.specs.Asked.{Leaves, IsSynced, OnlyReads}
 use Rattle.reuse_change.specs.Entry.{IsEntry, LeadsBy, SomeMade, ArePartlyMade}
 use Rattle.reuse_change.specs.Files.{Files, AreFiles, tree_of}
-use Rattle.reuse_tree.specs.Head.{direction_of, listed_direction, IsGoodHead}
+use Rattle.reuse_tree.specs.Head.{direction_of, listed_direction, IsGoodHead, IsSoundHead}
 use Rattle.reuse_change.specs.Tree.{undo_folder_of, Sets}
 use Rattle.reuse_tree.specs.declared.journal.head.Pending.{Pending}
 use Rattle.reuse_tree.specs.declared.journal.head.PendingDirection.{PendingDirection}
@@ -19,7 +19,7 @@ use Rattle.reuse_change.proofs.Walk.{leads_once}
 use Rattle.reuse_journal.specs.Carried.{SetsHead, IsStopped}
 use Rattle.reuse_journal.specs.Journal.{Recorded, Journal, State, reply_of}
 use Rattle.reuse_journal.specs.JournalFiles.{head_path, entry_path, entry_in, head_of, number_of, EntrySays, IsKeptIn, KeepsJournal}
-use Rattle.reuse_journal.specs.Losses.{IsSafeOn, AreSafeOn, AreInDoubt, StopsWithDoubt, Survives}
+use Rattle.reuse_journal.specs.Losses.{IsSafe, IsSafeBeside, IsSafeOn, AreSafeOn, AreInDoubt, StopsWithDoubt, Survives, Earlier}
 use Rattle.reuse_command.specs.Answer.{IsEarly, IsStop}
 use Rattle.reuse_journal.specs.Remembered.{IsSameBut}
 use Rattle.reuse_command.specs.declared.reply.Response.{Response}
@@ -30,20 +30,11 @@ use Rattle.reuse_command.specs.declared.reply.Refusal.TheVariants.{Failed}
 use Rattle.reuse_journal.specs.Standing.{IsTree, IsStanding, IsStep, IsUnderWay}
 use Rattle.reuse_journal.proofs.JournalReading.{file_in_folder}
 use Rattle.reuse_session.proofs.lemmas.session.Replaying.{first_of_all}
+use Rattle.reuse_journal.proofs.HeadMutations.{each_listed}
 use Rattle.reuse_journal.proofs.HeadPuts.{head_sets, head_keeps_tree, sets_again}
-use Rattle.reuse_journal.proofs.JournalLemmas.{entry_in_folder, same_but_in_folder, keeps_beside_any, keeps_with_head, kept_beside, kept_moved, keeps_settled, kept_stays}
+use Rattle.reuse_journal.proofs.JournalLemmas.{entry_in_folder, same_but_in_folder, keeps_beside_any, keeps_with_head, kept_beside, keeps_settled, kept_stays}
+use Rattle.reuse_journal.proofs.SafeFiles.{one_count, one_tree, safe_entries, safe_tree}
 use Rattle.reuse_journal.proofs.Standings.{after_entry, still_tree, under_way}
-
--- what is safe on a standing has the entries of its journal
-pub safe_entries : (earlier held : State) (left : Files) → IsSafeOn earlier held left → All (IsKeptIn (undo_folder_of left)) held.journal.done × All (IsKeptIn (undo_folder_of left)) held.journal.undone
-safe_entries earlier held left safe =
-    ⊎_elim (λ (standing : IsStanding left held). (standing.journal.done, standing.journal.undone))
-    (λ rest. ⊎_elim
-    (λ (on : (next : State) × (direction : PendingDirection) × (step : Recorded) × IsStep direction step held next × IsUnderWay direction step held left). let under = on.4 in (under.journal.done, under.journal.undone))
-    (λ (to : (direction : PendingDirection) × (step : Recorded) × IsStep direction step earlier held × IsUnderWay direction step earlier left).
-    let under = to.3 in kept_moved (undo_folder_of left) earlier.journal held.journal _ to.0 to.1 under.journal under.kept (to.2).mutations)
-    rest)
-    safe.opens
 
 -- a step that was done or undone is kept where all are
 pub kept_next : (direction : Direction) (step : Recorded) (held second : State) (folder : Files) → IsStep (listed_direction direction) step held second → All (IsKeptIn folder) held.journal.done × All (IsKeptIn folder) held.journal.undone → IsKeptIn folder step
@@ -133,8 +124,8 @@ module _ (earlier held second : State) (step : Recorded) (was left : Files) (is_
           let journal = keeps (record { entry = number_of other; direction = Redo }) here.journal (omega arith) in
           (Redo, other, goes, then_under Redo here journal (kept_next go.Forward other earlier held (undo_folder_of left) goes (journal.done, journal.undone)))
 
-  pub safe_with_entry : IsSafeOn earlier held left
-  safe_with_entry =
+  safe_on_with_entry : IsSafeOn earlier held left
+  safe_on_with_entry =
       ⊎_elim (λ (standing : IsStanding was held). record { tree = tree_then; opens = inl (after_entry was left held standing room sets.elsewhere) })
       (λ rest. ⊎_elim
       (λ (on : (next : State) × (direction : PendingDirection) × (other : Recorded) × IsStep direction other held next × IsUnderWay direction other held was). on_then on.0 on.1 on.2 on.3 on.4)
@@ -142,51 +133,81 @@ module _ (earlier held second : State) (step : Recorded) (was left : Files) (is_
       rest)
       safe.opens
 
+module _ (earlier : Earlier) (held second : State) (step : Recorded) (was left : Files) (is_new : IsStep Do step held second) (room : held.journal.used < 999_999) (good : IsTree held.tree) (sound : IsSoundHead (head_of held.journal None))
+    (file : Option (List ℕ)) (says : EntrySays file (entry_in step)) (sets : Sets (entry_path (held.journal.used + 1)) file was left) where
+  -- beside it too: of the other history the step is as new
+  beside_with_entry : IsSafeBeside held was → IsSafeBeside held left
+  beside_with_entry beside =
+      let other = beside.other in
+      let tree = one_tree held other beside.differ in
+      let used = one_count held other beside.differ in
+      let is_new_there : IsStep Do step other (record { tree = second.tree; journal = record { done = step ∷ other.journal.done; undone = []; used = other.journal.used + 1 } }) = record {
+        leads = subst (λ t. LeadsBy (direction_of Do) step.changes t second.tree) (sym tree) is_new.leads;
+        mutations = (is_new.mutations.0 ∙ ap (λ n. n + 1) (sym used), refl);
+      } in
+      let folder = (same_but_in_folder was left (entry_path (held.journal.used + 1)) (entry_in_folder (held.journal.used + 1)) sets.elsewhere).0 in
+      let low = each_listed (λ n. (1 ≤ n) × (n < held.journal.used + 1)) held.journal None sound.given_out in
+      record {
+        other = other;
+        differ = beside.differ;
+        entries = (
+          λ k d within. kept_beside (undo_folder_of was) (undo_folder_of left) _ (held.journal.used + 1) (low.0 k d within) (omega arith) (omega arith) folder (beside.entries.0 k d within),
+          λ k d within. kept_beside (undo_folder_of was) (undo_folder_of left) _ (held.journal.used + 1) (low.1 k d within) (omega arith) (omega arith) folder (beside.entries.1 k d within),
+        );
+        earlier = beside.earlier;
+        safe = safe_on_with_entry beside.earlier other (record { tree = second.tree; journal = record { done = step ∷ other.journal.done; undone = []; used = other.journal.used + 1 } }) step was left is_new_there
+            (subst (λ n. n < 999_999) (sym used) room) (subst IsTree (sym tree) good) beside.safe file says (subst (λ n. Sets (entry_path (n + 1)) file was left) (sym used) sets);
+      }
+
+  pub safe_with_entry : IsSafe earlier held was → IsSafe earlier held left
+  safe_with_entry (inl safe) = inl (safe_on_with_entry earlier.state held second step was left is_new room good safe file says sets)
+  safe_with_entry (inr (forgetting, beside)) = inr (forgetting, beside_with_entry beside)
+
 -- ---- what a call leaves then
 
 -- a refusal before anything is pending
-pub survives_early : {S : Type 0} (store : Ghosts S) (IsNext : State → Type 0) (earlier held : State) (new : S) (refusal : Refusal) → IsEarly refusal → AreSafeOn store earlier held new → Survives store IsNext earlier held (Err refusal) new
+pub survives_early : {S : Type 0} (store : Ghosts S) (IsNext : State → Type 0) (earlier : Earlier) (held : State) (new : S) (refusal : Refusal) → IsEarly refusal → AreSafeOn store earlier held new → Survives store IsNext earlier held (Err refusal) new
 survives_early store IsNext earlier held new (Failed (Interrupted cause)) early safe = absurd early
 survives_early store IsNext earlier held new refusal early safe = safe
 
-pub survives_stop : {S : Type 0} (store : Ghosts S) (IsNext : State → Type 0) (earlier held next : State) (new : S) (refusal : Refusal) → (IsEarly refusal → AreSafeOn store earlier held new) → IsNext next → (IsStop refusal → AreInDoubt store earlier held next new)
+pub survives_stop : {S : Type 0} (store : Ghosts S) (IsNext : State → Type 0) (earlier : Earlier) (held next : State) (new : S) (refusal : Refusal) → (IsEarly refusal → AreSafeOn store earlier held new) → IsNext next → (IsStop refusal → AreInDoubt store earlier held next new)
     → Survives store IsNext earlier held (Err refusal) new
 survives_stop store IsNext earlier held next new (Failed (Interrupted cause)) early is doubt = (next, is, doubt tt)
 survives_stop store IsNext earlier held next new refusal early is doubt = early tt
 
 -- by another word for the next standing
-pub survives_weaker : {S : Type 0} (store : Ghosts S) (IsNext IsOther : State → Type 0) (earlier held : State) (new : S) (result : Result Response Refusal) → ((next : State) → IsNext next → IsOther next) → Survives store IsNext earlier held result new
+pub survives_weaker : {S : Type 0} (store : Ghosts S) (IsNext IsOther : State → Type 0) (earlier : Earlier) (held : State) (new : S) (result : Result Response Refusal) → ((next : State) → IsNext next → IsOther next) → Survives store IsNext earlier held result new
     → Survives store IsOther earlier held result new
 survives_weaker store IsNext IsOther earlier held new (Ok NothingChanged) weaker survives = survives
 survives_weaker store IsNext IsOther earlier held new (Ok reply) weaker survives = survives
 survives_weaker store IsNext IsOther earlier held new (Err (Failed (Interrupted cause))) weaker survives = (survives.0, weaker survives.0 survives.1, survives.2)
 survives_weaker store IsNext IsOther earlier held new (Err refusal) weaker survives = survives
 
-pub survives_replay : {S : Type 0} (store : Ghosts S) (IsNext : State → Type 0) (earlier held : State) (new : S) (direction : Direction) (paths : List (List ℕ)) (reply : Response) → reply ≡ reply_of direction paths → IsSynced store new → Survives store IsNext earlier held (Ok reply) new
+pub survives_replay : {S : Type 0} (store : Ghosts S) (IsNext : State → Type 0) (earlier : Earlier) (held : State) (new : S) (direction : Direction) (paths : List (List ℕ)) (reply : Response) → reply ≡ reply_of direction paths → IsSynced store new → Survives store IsNext earlier held (Ok reply) new
 survives_replay store IsNext earlier held new go.Forward paths reply is synced = subst (λ r. Survives store IsNext earlier held (Ok r) new) (sym is) synced
 survives_replay store IsNext earlier held new go.Backward paths reply is synced = subst (λ r. Survives store IsNext earlier held (Ok r) new) (sym is) synced
 
 -- what was synced is safe on what stands there
-pub synced_is_safe : {S : Type 0} (store : Ghosts S) (earlier held : State) (new : S) → IsStanding (store.files new) held → IsSynced store new → AreSafeOn store earlier held new
-synced_is_safe store earlier held new standing synced left is = subst (IsSafeOn earlier held) (sym (synced left is)) (record { tree = standing.tree; opens = inl standing })
+pub synced_is_safe : {S : Type 0} (store : Ghosts S) (earlier : Earlier) (held : State) (new : S) → IsStanding (store.files new) held → IsSynced store new → AreSafeOn store earlier held new
+synced_is_safe store earlier held new standing synced left is = inl (subst (IsSafeOn earlier.state held) (sym (synced left is)) (record { tree = standing.tree; opens = inl standing }))
 
 -- what only read leaves it safe
-pub reads_are_safe : {S : Type 0} (store : Ghosts S) (earlier held : State) (old new : S) → OnlyReads store old new → AreSafeOn store earlier held old → AreSafeOn store earlier held new
+pub reads_are_safe : {S : Type 0} (store : Ghosts S) (earlier : Earlier) (held : State) (old new : S) → OnlyReads store old new → AreSafeOn store earlier held old → AreSafeOn store earlier held new
 reads_are_safe store earlier held old new reads safe left is = safe left (reads.may left is)
 
 -- ---- a step that is carried out
 
-module _ {S : Type 0} (store : Ghosts S) (old new : S) (direction : PendingDirection) (step : Recorded) (earlier held second : State) (standing : IsStanding (store.files old) held) (kept : IsKeptIn (undo_folder_of (store.files old)) step) (is_step : IsStep direction step held second) (good : IsEntry step.changes) (are : AreFiles (store.files new))
+module _ {S : Type 0} (store : Ghosts S) (old new : S) (direction : PendingDirection) (step : Recorded) (earlier : Earlier) (held second : State) (standing : IsStanding (store.files old) held) (kept : IsKeptIn (undo_folder_of (store.files old)) step) (is_step : IsStep direction step held second) (good : IsEntry step.changes) (are : AreFiles (store.files new))
     (pending settled : List ℕ) (pending_head : IsGoodHead pending (head_of held.journal (Some (record { entry = number_of step; direction = direction })))) (settled_head : IsGoodHead settled (head_of second.journal None)) where
   under : (after : Files) → IsStopped (direction_of direction) step.changes pending (store.files old) after → IsUnderWay direction step held after
   under after out = under_way (store.files old) after direction step held second standing kept is_step pending pending_head out
 
   -- the pending head is put on what is safe
-  safe_with_head : (was left : Files) → IsSafeOn earlier held was → IsKeptIn (undo_folder_of was) step → Sets head_path (Some pending) was left → IsSafeOn earlier held left
+  safe_with_head : (was left : Files) → IsSafe earlier held was → IsKeptIn (undo_folder_of was) step → Sets head_path (Some pending) was left → IsSafe earlier held left
   safe_with_head was left safe has sets =
-      let tree : tree_of left ≡ held.tree = head_keeps_tree was left (Some pending) sets ∙ safe.tree in
+      let tree : tree_of left ≡ held.tree = head_keeps_tree was left (Some pending) sets ∙ safe_tree earlier held was safe in
       let in_folder = head_sets was left (Some pending) sets in
-      record {
+      inl (record {
         tree = tree;
         opens = inr (inl (
           second,
@@ -197,7 +218,7 @@ module _ {S : Type 0} (store : Ghosts S) (old new : S) (direction : PendingDirec
               (keeps_with_head (undo_folder_of was) (undo_folder_of left) held.journal (Some (record { entry = number_of step; direction = direction })) pending (safe_entries earlier held was safe) in_folder pending_head)
               (kept_stays (undo_folder_of was) (undo_folder_of left) step pending has in_folder) tree,
         ));
-      }
+      })
 
   -- all changes are made, and the pending head stands or the last one
   module _ (done : Files) (leads : LeadsBy (direction_of direction) step.changes (tree_of (store.files old)) (tree_of done)) (first : SetsHead pending (store.files old) done) (good_second : IsTree second.tree) where
@@ -226,8 +247,8 @@ module _ {S : Type 0} (store : Ghosts S) (old new : S) (direction : PendingDirec
     doubt_at_last (inr sets) lefts = inr (inl (
       made_standing (store.files new) sets,
       λ left may. ⊎_elim
-          (λ (is : left ≡ done). subst (IsSafeOn held second) (sym is) (record { tree = made_tree; opens = inr (inr (direction, step, is_step, made_under)) }))
-          (λ (last : Sets head_path (Some settled) done left). let stands = made_standing left last in record { tree = stands.tree; opens = inl stands })
+          (λ (is : left ≡ done). inl (subst (IsSafeOn held second) (sym is) (record { tree = made_tree; opens = inr (inr (direction, step, is_step, made_under)) })))
+          (λ (last : Sets head_path (Some settled) done left). let stands = made_standing left last in inl (record { tree = stands.tree; opens = inl stands }))
           (lefts left may),
     ))
 
@@ -241,7 +262,7 @@ module _ {S : Type 0} (store : Ghosts S) (old new : S) (direction : PendingDirec
   -- where it stops the files are in doubt, and all that may be left
   pub stops_in_doubt : AreSafeOn store earlier held old → Leaves store old (λ left. IsKeptIn (undo_folder_of left) step) → StopsWithDoubt store (direction_of direction) step.changes pending settled old new → AreInDoubt store earlier held second new
   stops_in_doubt safe has (inl (files, lefts)) =
-      let safe_left : Leaves store new (IsSafeOn earlier held) = λ left is. ⊎_elim (λ was. safe left was)
+      let safe_left : Leaves store new (IsSafe earlier held) = λ left is. ⊎_elim (λ was. safe left was)
       (λ (made : (was : Files) × store.may_be old was × Sets head_path (Some pending) was left). safe_with_head made.0 left (safe made.0 made.1) (has made.0 made.1) made.2) (lefts left is) in
       ⊎_elim (λ (same : store.files new ≡ store.files old). inl (subst (λ f. IsStanding f held) (sym same) standing, safe_left))
       (λ (sets : Sets head_path (Some pending) (store.files old) (store.files new)).

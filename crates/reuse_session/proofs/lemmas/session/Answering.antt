@@ -10,12 +10,12 @@ use Rattle.reuse_change.specs.declared.change.Change.{Change}
 use Rattle.reuse_json.specs.declared.entry.Entry.{Entry}
 use Rattle.reuse_store.specs.declared.store.Store.{Ghosts}
 use Rattle.reuse_store.specs.declared.cause.Cause.{Cause}
-use Rattle.reuse_command.specs.Answer.{IsBrokenOrMemory, IsEarly, IsStop, IsNoClash, IsRunAnswer, HasClash, RefusedAsRead, TellsNoFault}
+use Rattle.reuse_command.specs.Answer.{IsBrokenOrMemory, IsEarly, IsStop, IsNoClash, IsRunAnswer, HasClash, RefusedAsRead, TellsNoFault, nothing_recovered}
 use Rattle.reuse_session.specs.session.Calls.{files_of, folder_of, IsCall, LeavesRun}
 use Rattle.reuse_journal.specs.Journal.{Recorded, State, rows_in}
 use Rattle.reuse_journal.specs.JournalFiles.{head_path, entry_in, entry_path, number_of, EntrySays, IsFree}
-use Rattle.reuse_journal.specs.Losses.{AreSafeOn}
-use Rattle.reuse_session.specs.session.Requests.{IsReading, MayFail, IfFailed, as_answer, LeadsTo, HasCallClash, KeepsFolder, SurvivesRequest, as_step, IsAnswered, ReadsOnlyWithCause}
+use Rattle.reuse_journal.specs.Losses.{AreSafeOn, Earlier}
+use Rattle.reuse_session.specs.session.Requests.{IsReading, MayFail, IfFailed, as_answer, LeadsTo, HasCallClash, KeepsFolder, StaysEarly, SurvivesRequest, as_step, IsAnswered, ReadsOnlyWithCause}
 use Rattle.reuse_session.specs.session.RevertCalls.{IsAfterRevert, LeavesRevert, as_run, touched_later}
 use Rattle.reuse_session.specs.session.Session.{store_of, is_broken, memory_of, IsKept, StandsOn, StopsAfterRun}
 use Rattle.reuse_journal.specs.Remembered.{IsSameButTwo, Remembers}
@@ -28,6 +28,7 @@ use Rattle.reuse_command.specs.declared.reply.Refusal.{Refusal}
 use Rattle.reuse_command.specs.declared.reply.Refusal.TheVariants.{Broken, NoSuchStep, Failed}
 use Rattle.reuse_command.specs.declared.reply.Response.{Response}
 use Rattle.reuse_command.specs.declared.reply.Response.TheVariants as responses
+use Rattle.reuse_command.specs.declared.reply.Recovered.{Recovered}
 use Rattle.reuse_command.specs.declared.reply.Reverted.{Reverted}
 use Rattle.reuse_command.specs.declared.reply.Row.{Row}
 use Rattle.reuse_command.specs.declared.request.Call.{Call}
@@ -65,24 +66,35 @@ call_as_answer store reply (Err refusal) old new call = record { refused = call.
 
 -- ---- what only reads
 
-safe_look : {S : Type 0} (store : Ghosts S) (request : Request) (earlier held : State) (answer : Result Response Refusal) (new : S) → IsReading request → AreSafeOn store earlier held new
+safe_look : {S : Type 0} (store : Ghosts S) (request : Request) (earlier : Earlier) (held : State) (answer : Result Response Refusal) (new : S) → IsReading request → AreSafeOn store earlier held new
     → SurvivesRequest store request earlier held answer new
 safe_look store (requests.Make call when) earlier held answer new look safe = absurd look
+safe_look store (requests.Forget steps) earlier held answer new look safe = absurd look
 safe_look store (requests.Preview call) earlier held answer new look safe = safe
+safe_look store (requests.Recover skip_moved) earlier held answer new look safe = safe
 safe_look store requests.Log earlier held answer new look safe = safe
 safe_look store (requests.Show number) earlier held answer new look safe = safe
 
 clash_look : (request : Request) (held : State) (files : Files) (refusal : Refusal) → IsReading request → IsNoClash refusal → HasCallClash request held files refusal
 clash_look (requests.Make call when) held files refusal look none = absurd look
+clash_look (requests.Forget steps) held files refusal look none = absurd look
 clash_look (requests.Preview call) held files refusal look none = none
+clash_look (requests.Recover skip_moved) held files refusal look none = none
 clash_look requests.Log held files refusal look none = none
 clash_look (requests.Show number) held files refusal look none = none
 
 folder_look : (request : Request) (held : State) (before after : Files) → IsReading request → after ≡ before → KeepsFolder request held before after
 folder_look (requests.Make call when) held before after look same = absurd look
+folder_look (requests.Forget steps) held before after look same = absurd look
 folder_look (requests.Preview call) held before after look same = same
+folder_look (requests.Recover skip_moved) held before after look same = same
 folder_look requests.Log held before after look same = same
 folder_look (requests.Show number) held before after look same = same
+
+unchanged_look : (request : Request) (answer : Result Response Refusal) (before after : Files) → IsReading request → after ≡ before → StaysEarly request answer before after
+unchanged_look (requests.Make call when) answer before after look same = tt
+unchanged_look request (Ok reply) before after look same = tt
+unchanged_look request (Err refusal) before after look same = λ early. same
 
 -- a look that isn't a log fails early
 pub fails_early : (request : Request) → ((refusal : Refusal) → IsEarly refusal → IfFailed (MayFail request) refusal) → {A : Type 0} (answer : Result A Refusal) → IfErr answer IsEarly → IfErr answer (IfFailed (MayFail request))
@@ -115,6 +127,20 @@ log_leads files session held (Err Broken) stands broken is kinds told = absurd (
 log_leads files session held (Err (Failed Memory)) stands broken is kinds told = absurd told
 log_leads files session held (Err refusal) stands broken is kinds told = absurd kinds
 
+-- of an open session a recovery is refused only once that was interrupted, and else answers that nothing was pending
+pub broken_alone : {A : Type 0} (answer : Result A Refusal) → IfErr answer (λ refusal. refusal ≡ Broken) → IfErr answer IsBrokenOrMemory
+broken_alone (Ok value) is = tt
+broken_alone (Err refusal) is = subst IsBrokenOrMemory (sym is) tt
+
+pub recover_fails : (skip_moved : Bool) (answer : Result Recovered Refusal) → IfErr answer (λ refusal. refusal ≡ Broken) → IfErr answer (IfFailed (MayFail (requests.Recover skip_moved)))
+recover_fails skip_moved (Ok recovered) is = tt
+recover_fails skip_moved (Err refusal) is = subst (IfFailed (MayFail (requests.Recover skip_moved))) (sym is) tt
+
+pub recover_leads : {S : Type 0} (files : S → Files) (session : Session S) (held : State) (skip_moved : Bool) (answer : Result Recovered Refusal) → StandsOn files session held → (answer ≡ Err Broken → is_broken session ≡ true)
+    → IfOk answer (λ recovered. recovered ≡ nothing_recovered) → IfErr answer (λ refusal. refusal ≡ Broken) → LeadsTo (requests.Recover skip_moved) held (as_answer responses.Recovered answer) held
+recover_leads files session held skip_moved (Ok recovered) stands broken is kinds = (ap (λ r. Ok (responses.Recovered r)) is, refl)
+recover_leads files session held skip_moved (Err refusal) stands broken is kinds = absurd (false≢true (sym stands.whole ∙ broken (ap (λ r. Err r) kinds)))
+
 module _ {S A : Type 0} (store : Ghosts S) (request : Request) (look : IsReading request) (reply : A → Response) (answer : Result A Refusal) (old new : Session S) (reads_with_cause : ReadsOnlyWithCause store answer old new)
     (broken : answer ≡ Err Broken ↔ (is_broken old ≡ true)) (fails : IfErr answer (IfFailed (MayFail request)))
     (exact : store.honest (store_of new) → (held : State) → StandsOn store.files old held → TellsNoFault answer → LeadsTo request held (as_answer reply answer) held)
@@ -137,6 +163,7 @@ module _ {S A : Type 0} (store : Ghosts S) (request : Request) (look : IsReading
       broken = broken_as_answer reply answer _ broken;
       exact = λ honest held stands told. (held, still_stands store answer old new held reads_with_cause honest stands, exact honest held stands (told_as_answer reply answer told));
       stands = λ honest held stands. early_stands (as_answer reply answer) held (still_stands store answer old new held reads_with_cause honest stands);
+      unchanged = λ honest. unchanged_look request (as_answer reply answer) (files_of store old) (files_of store new) look (reads_with_cause.reads.files honest);
       doubt = λ honest held stands. no_stop _ answer reads_with_cause.unstopped;
       fails = err_as_answer reply answer _ fails;
       survives = λ honest earlier held stands safe. safe_look store request earlier held (as_answer reply answer) (store_of new) look (reads_are_safe store earlier held (store_of old) (store_of new) reads_with_cause.reads safe);

@@ -1,5 +1,5 @@
 -- Many events, one after the other, and the machine beside them.
-use Rattle.std.proofs.Common.{◌≡◌, ⊎_elim, ℕ, ◌+◌, ◌<◌, ◌≤◌, true, List, [], ◌∷◌, ◌++◌, length, take, get_or, Some, None, Result, Ok, Err, IfErr, refl, sym, ap, subst, ◌∙◌, arith}
+use Rattle.std.proofs.Common.{◌≡◌, ⊎_elim, ℕ, ◌+◌, ◌<◌, ◌≤◌, ◌&&◌, Bool, true, false, not, List, [], ◌∷◌, ◌++◌, length, take, get_or, Some, None, Result, Ok, Err, IfErr, refl, sym, ap, subst, ◌∙◌, arith}
 use Rattle.std.specs.List.{AllByRecursion}
 use Rattle.std.proofs.lemmas.List.{take_more}
 use Rattle.reuse_command.specs.declared.failure.Fault.TheVariants as faults
@@ -15,7 +15,8 @@ use Rattle.reuse_command.specs.declared.reply.Refusal.TheVariants.{Failed}
 use Rattle.reuse_command.specs.Answer.{IsNoWantOfMemory, IsNoClash, HasCause, TellsNoFault}
 use Rattle.reuse_session.specs.session.Machine.{Snapshots}
 use Rattle.reuse_session.specs.session.Model.{Gives, GivesEvent, AnswersAll}
-use Rattle.reuse_session.specs.session.Stops.{Point, open_at, closed, Reopens, Continues, AnswersEvent, RunsWithStops, HaveCauses}
+use Rattle.reuse_session.specs.session.Requests.{as_step}
+use Rattle.reuse_session.specs.session.Stops.{Point, open_at, start_at, is_lasting, Reopens, Continues, AnswersEvent, RunsWithStops, HaveCauses}
 use Rattle.reuse_session.proofs.lemmas.session.Driving.{answers_reopen}
 
 -- ---- many events
@@ -89,38 +90,38 @@ no_fault before after (Err _) cause clash enough same = tt
 
 -- ---- the machine, where no answer tells a fault
 
-reopened : (answer : Result Response Refusal) (old new : Point) → old.next ≡ None → TellsNoFault answer → Reopens answer old new → (answer ≡ Ok Opened) × (new ≡ open_at old.state)
+reopened : (answer : Result Response Refusal) (old new : Point) → old.next ≡ None → TellsNoFault answer → Reopens answer old new → (answer ≡ Ok Opened) × (new ≡ open_at old.forgetting old.state)
 reopened (Ok Opened) old new none told h =
-    (refl, h.2 ∙ ⊎_elim (λ (same : old.state ≡ h.0). ap open_at (sym same)) (λ (next : old.next ≡ Some h.0). cc) h.1)
+    (refl, h.2 ∙ ⊎_elim (λ (same : old.state ≡ h.0). ap (open_at old.forgetting) (sym same)) (λ (next : old.next ≡ Some h.0). cc) h.1)
 reopened (Ok reply) old new none told h = absurd h
 reopened (Err (Failed failure)) old new none told h = absurd told
 reopened (Err refusal) old new none told h = absurd h
 
-went : (request : Request) (answer : Result Response Refusal) (old new : Point) → TellsNoFault answer → Continues request answer old new → (next : Snapshots) × Gives old.state request answer next × (new ≡ open_at next)
-went request (Ok reply) old new told h = h
+went : (request : Request) (answer : Result Response Refusal) (old new : Point) → TellsNoFault answer → Continues request answer old new → (next : Snapshots) × Gives old.state request answer next × (forgetting : Bool) × (new ≡ open_at forgetting next)
+went request (Ok reply) old new told h = (h.0, h.1, not (is_lasting (as_step (Ok reply))) && old.forgetting, h.2)
 went request (Err (Failed failure)) old new told h = absurd told
-went request (Err refusal) old new told h = h
+went request (Err refusal) old new told h = (h.0, h.1, old.forgetting, h.2)
 
-answered : (event : Event) (answer : Result Response Refusal) (state : Snapshots) (new : Point) → TellsNoFault answer → AnswersEvent true event answer (open_at state) new
-    → (next : Snapshots) × GivesEvent state event answer next × (new ≡ open_at next)
-answered (asked.Ask request) answer state new told h = went request answer (open_at state) new told h
-answered asked.Reopen answer state new told h = let r = reopened answer (open_at state) new refl told h in (state, (r.0, refl), r.1)
+answered : (event : Event) (answer : Result Response Refusal) (state : Snapshots) (forgetting : Bool) (new : Point) → TellsNoFault answer → AnswersEvent true event answer (open_at forgetting state) new
+    → (next : Snapshots) × GivesEvent state event answer next × (forgetting : Bool) × (new ≡ open_at forgetting next)
+answered (asked.Ask request) answer state forgetting new told h = went request answer (open_at forgetting state) new told h
+answered asked.Reopen answer state forgetting new told h = let r = reopened answer (open_at forgetting state) new refl told h in (state, (r.0, refl), forgetting, r.1)
 
-runs_on : (events : List Event) (answers : List (Result Response Refusal)) (state : Snapshots) (point : Point) → AllByRecursion TellsNoFault answers → RunsWithStops events answers (open_at state) point
-    → (end : Snapshots) × AnswersAll events answers state end × (point ≡ open_at end)
-runs_on [] [] state point told runs = (state, refl, runs)
-runs_on (event ∷ events) (answer ∷ answers) state point told runs =
-    let first = answered event answer state runs.0 told.0 runs.1 in
-    let others = runs_on events answers first.0 point told.1 (subst (λ (p : Point). RunsWithStops events answers p point) first.2 runs.2) in
-    (others.0, (first.0, first.1, others.1), others.2)
-runs_on [] (answer ∷ answers) state point told runs = absurd runs
-runs_on (event ∷ events) [] state point told runs = absurd runs
+runs_on : (events : List Event) (answers : List (Result Response Refusal)) (state : Snapshots) (forgetting : Bool) (point : Point) → AllByRecursion TellsNoFault answers → RunsWithStops events answers (open_at forgetting state) point
+    → (end : Snapshots) × AnswersAll events answers state end × (forgetting : Bool) × (point ≡ open_at forgetting end)
+runs_on [] [] state forgetting point told runs = (state, refl, forgetting, runs)
+runs_on (event ∷ events) (answer ∷ answers) state forgetting point told runs =
+    let first = answered event answer state forgetting runs.0 told.0 runs.1 in
+    let others = runs_on events answers first.0 first.2 point told.1 (subst (λ (p : Point). RunsWithStops events answers p point) first.3 runs.2) in
+    (others.0, (first.0, first.1, others.1), others.2, others.3)
+runs_on [] (answer ∷ answers) state forgetting point told runs = absurd runs
+runs_on (event ∷ events) [] state forgetting point told runs = absurd runs
 
 -- the opening and the events after it
 pub runs_as_model : (events : List Event) (answers : List (Result Response Refusal)) (state : Snapshots) (point : Point) → AllByRecursion TellsNoFault answers
-    → RunsWithStops (asked.Reopen ∷ events) answers (closed (open_at state)) point → (end : Snapshots) × AnswersAll (asked.Reopen ∷ events) answers state end × (point ≡ open_at end)
+    → RunsWithStops (asked.Reopen ∷ events) answers (start_at state) point → (end : Snapshots) × AnswersAll (asked.Reopen ∷ events) answers state end × (forgetting : Bool) × (point ≡ open_at forgetting end)
 runs_as_model events [] state point told runs = absurd runs
 runs_as_model events (answer ∷ answers) state point told runs =
-    let first = reopened answer (closed (open_at state)) runs.0 refl told.0 runs.1 in
-    let others = runs_on events answers state point told.1 (subst (λ (p : Point). RunsWithStops events answers p point) first.1 runs.2) in
-    (others.0, (state, (first.0, refl), others.1), others.2)
+    let first = reopened answer (start_at state) runs.0 refl told.0 runs.1 in
+    let others = runs_on events answers state false point told.1 (subst (λ (p : Point). RunsWithStops events answers p point) first.1 runs.2) in
+    (others.0, (state, (first.0, refl), others.1), others.2, others.3)

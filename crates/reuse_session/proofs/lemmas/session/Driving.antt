@@ -1,5 +1,5 @@
 -- A driven session: what one event makes of the point where it stands, and what many make of it.
-use Rattle.std.proofs.Common.{◌≡◌, ◌⊎◌, inl, inr, ⊎_elim, ℕ, Bool, true, false, List, [], ◌∷◌, length, Option, Some, None, Result, Ok, Err, IfErr, refl, sym, ap, subst, ◌∙◌, arith}
+use Rattle.std.proofs.Common.{◌≡◌, ◌⊎◌, inl, inr, ⊎_elim, ℕ, ◌||◌, ◌&&◌, Bool, true, false, not, List, [], ◌∷◌, length, Option, Some, None, Result, Ok, Err, IfErr, refl, sym, ap, subst, ◌∙◌, arith}
 use Rattle.std.specs.FinMap.{get}
 use Rattle.std.proofs.lemmas.Option.{none-some}
 use Rattle.reuse_change.specs.Files.{Files}
@@ -25,12 +25,12 @@ use Rattle.reuse_journal.specs.JournalFiles.{head_path, head_of, number_of}
 use Rattle.reuse_session.specs.session.Machine.{Snapshots, ran_by}
 use Rattle.reuse_session.specs.session.Model.{Gives}
 use Rattle.reuse_journal.specs.Opening.{OpensOn}
-use Rattle.reuse_session.specs.session.Requests.{IfFailed, MayFail}
+use Rattle.reuse_session.specs.session.Requests.{IfFailed, MayFail, as_step}
 use Rattle.reuse_session.specs.session.Session.{store_of, HoldsSnapshots, StandsOn, StandsAt, IsKept, IsRun}
 use Rattle.reuse_journal.specs.Remembered.{Remembers}
 use Rattle.reuse_journal.specs.Standing.{IsStanding, IsStep, IsUnderWay, InDoubt, Mutations}
 use Rattle.reuse_session.specs.session.Driven.{IsAt, store_in}
-use Rattle.reuse_session.specs.session.Stops.{Point, open_at, closed, Reopens, Continues, AnswersEvent, AreLeft}
+use Rattle.reuse_session.specs.session.Stops.{Point, open_at, closed, forgets, is_lasting, Reopens, Continues, AnswersEvent, AreLeft}
 use Rattle.reuse_change.specs.Tree.{undo_folder_of}
 use Rattle.reuse_journal.proofs.OpeningLemmas.{same_head}
 use Rattle.reuse_session.proofs.lemmas.session.RunFollowing.{step_follows}
@@ -72,10 +72,10 @@ pub opens : {S : Type 0} (files : S → Files) (before : Files) (session : Sessi
     → (new : Point) × Reopens (Ok Opened) old new × IsAt files (Open session) new
 opens files before session old left recovers =
     let r = reached files before session old.state old.next left recovers in
-    (open_at r.0, (r.0, r.1, refl), (refl, r.2))
+    (open_at old.forgetting r.0, (r.0, r.1, refl), (refl, r.2))
 
 -- where it fails the files are left as they were
-left_again : (before after : Files) (state : Snapshots) (next : Option Snapshots) → AreLeft before state next
+pub left_again : (before after : Files) (state : Snapshots) (next : Option Snapshots) → AreLeft before state next
     → ((first second : State) → InDoubt first second before → InDoubt first second after) → AreLeft after state next
 left_again before after state None left recovers = (left.0, one_standing after left.0 (recovers left.0 left.0 (inl left.1)), left.2)
 left_again before after state (Some next) left recovers = (left.0, left.1, left.2, left.3, recovers left.0 left.1 left.4)
@@ -125,24 +125,24 @@ stands_early files old new held (Ok reply) stands kept same = kept
 stands_early files old new held (Err refusal) stands kept same = λ early. stands_still files old new held stands (kept early) (same early)
 
 -- one that wasn't interrupted leaves the session open
-pub goes_on : {S : Type 0} (files : S → Files) (request : Request) (answer : Result Response Refusal) (state : Snapshots) (session : Session S)
+pub goes_on : {S : Type 0} (files : S → Files) (request : Request) (answer : Result Response Refusal) (state : Snapshots) (forgetting : Bool) (session : Session S)
     → (TellsNoFault answer → (next : Snapshots) × Gives state request answer next × StandsAt files session next) → IfErr answer (λ refusal. IsEarly refusal → StandsAt files session state)
     → IfErr answer (IfFailed (MayFail request)) → ((cause : Cause) → answer ≡ Err (Failed (Interrupted cause)) → ⊥)
-    → (new : Point) × Continues request answer (open_at state) new × IsAt files (Open session) new
-goes_on files request (Ok reply) state session follows stands fails other = let f = follows tt in (open_at f.0, (f.0, f.1, refl), (refl, f.2))
-goes_on files request (Err (Failed (Fault fault))) state session follows stands fails other = (open_at state, (fails, refl), (refl, stands tt))
-goes_on files request (Err (Failed Memory)) state session follows stands fails other = (open_at state, (fails, refl), (refl, stands tt))
-goes_on files request (Err (Failed (Interrupted cause))) state session follows stands fails other = absurd (other cause refl)
-goes_on files request (Err refusal) state session follows stands fails other = let f = follows tt in (open_at f.0, (f.0, f.1, refl), (refl, f.2))
+    → (new : Point) × Continues request answer (open_at forgetting state) new × IsAt files (Open session) new
+goes_on files request (Ok reply) state forgetting session follows stands fails other = let f = follows tt in (open_at (not (is_lasting (as_step (Ok reply))) && forgetting) f.0, (f.0, f.1, refl), (refl, f.2))
+goes_on files request (Err (Failed (Fault fault))) state forgetting session follows stands fails other = (open_at forgetting state, (fails, refl), (refl, stands tt))
+goes_on files request (Err (Failed Memory)) state forgetting session follows stands fails other = (open_at forgetting state, (fails, refl), (refl, stands tt))
+goes_on files request (Err (Failed (Interrupted cause))) state forgetting session follows stands fails other = absurd (other cause refl)
+goes_on files request (Err refusal) state forgetting session follows stands fails other = let f = follows tt in (open_at forgetting f.0, (f.0, f.1, refl), (refl, f.2))
 
 -- one that was closes it
-pub closes : {S : Type 0} (files : S → Files) (request : Request) (answer : Result Response Refusal) (state : Snapshots) (store : S) (cause : Cause) → answer ≡ Err (Failed (Interrupted cause))
+pub closes : {S : Type 0} (files : S → Files) (request : Request) (answer : Result Response Refusal) (state : Snapshots) (forgetting : Bool) (store : S) (cause : Cause) → answer ≡ Err (Failed (Interrupted cause))
     → IfErr answer (IfFailed (MayFail request)) → (given : Result Response Refusal) × (next : Snapshots) × Gives state request given next × AreLeft (files store) state (Some next)
-    → (new : Point) × Continues request answer (open_at state) new × IsAt files (Closed store) new
-closes files request answer state store cause is fails left =
-    let new : Point = record { is_open = false; state = state; next = Some left.1 } in (
+    → (new : Point) × Continues request answer (open_at forgetting state) new × IsAt files (Closed store) new
+closes files request answer state forgetting store cause is fails left =
+    let new : Point = record { is_open = false; state = state; next = Some left.1; forgetting = forgets request || forgetting } in (
       new,
-      subst (λ a. Continues request a (open_at state) new) (sym is) (subst (λ a. IfErr a (IfFailed (MayFail request))) is fails, left.0, left.1, left.2, refl),
+      subst (λ a. Continues request a (open_at forgetting state) new) (sym is) (subst (λ a. IfErr a (IfFailed (MayFail request))) is fails, left.0, left.1, left.2, refl),
       (refl, left.3),
     )
 
@@ -153,7 +153,7 @@ answers_reopen true answer old new h = h
 answers_reopen false answer old new h = h
 
 pub at_open : {S : Type 0} (files : S → Files) (driven : Driven S) (session : Session S) (point : Point) → driven ≡ Open session → IsAt files driven point
-    → (point ≡ open_at point.state) × StandsAt files session point.state
+    → (point ≡ open_at point.forgetting point.state) × StandsAt files session point.state
 at_open files driven session point is at = subst (λ d. IsAt files d point) is at
 
 pub at_closed : {S : Type 0} (files : S → Files) (driven : Driven S) (store : S) (point : Point) → driven ≡ Closed store → IsAt files driven point

@@ -1,5 +1,5 @@
 -- What forgetting answers and leaves, from what its puts and removals leave.
-use Rattle.std.proofs.Common.{◌≡◌, ◌≢◌, ◌⊎◌, inl, inr, ⊎_elim, ℕ, ◌+◌, ◌<◌, ◌≤◌, List, [], ◌∷◌, length, map, reverse, take, not, Some, None, Result, Ok, Err, IfErr, OnOk, refl, sym, ap, subst, ◌∙◌, arith}
+use Rattle.std.proofs.Common.{◌≡◌, ◌≢◌, ◌⊎◌, inl, inr, ⊎_elim, ℕ, ◌+◌, ◌<◌, ◌≤◌, List, [], ◌∷◌, length, map, reverse, take, not, true, Some, None, Result, Ok, Err, IfErr, OnOk, refl, sym, ap, subst, ◌∙◌, arith}
 use Rattle.std.specs.Prelude.{IfOk}
 use Rattle.std.specs.FinMap.{get}
 use Rattle.std.specs.List.{Contains}
@@ -13,12 +13,12 @@ use Rattle.reuse_store.specs.declared.cause.Cause.TheVariants as causes
 use Rattle.reuse_store.specs.declared.store.Store.{Ghosts}
 use Rattle.reuse_command.specs.Answer.{IsFailure, TellsNoFault}
 use Rattle.reuse_session.specs.session.Calls.{files_of}
-use Rattle.reuse_session.specs.session.Forgetting.{AreInOrder, Forgets, IsWithoutOldest, LeavesForgetting, SurvivesForgetting, PutsAndRemoves, PutsAndRemovesSome, alone, first_absent}
+use Rattle.reuse_session.specs.session.Forgetting.{AreInOrder, Forgets, IsWithoutOldest, LeavesForgetting, SurvivesForgetting, PutsAndRemoves, PutsAndRemovesSome, StopsWithRemovals, alone, first_absent, snapshots_besides}
 use Rattle.reuse_journal.specs.Numbered.{all_numbers, entries_besides, first_unlisted, is_one_of, memory_besides, journal_besides, state_besides}
 use Rattle.reuse_journal.specs.History.{Memory, head_listing}
 use Rattle.reuse_journal.specs.Journal.{State}
 use Rattle.reuse_journal.specs.JournalFiles.{head_path, entry_path, head_of, IsFree}
-use Rattle.reuse_journal.specs.Losses.{IsSafeOn, AreSafeOn, HaveTree}
+use Rattle.reuse_journal.specs.Losses.{AreInDoubt, AreSafeOn, Earlier, IsSafe}
 use Rattle.reuse_session.specs.session.Machine.{Snapshots}
 use Rattle.reuse_session.specs.session.Session.{store_of, memory_of, HoldsSnapshots, StandsAt, StandsOn}
 use Rattle.reuse_journal.specs.Remembered.{listed_count, head_room}
@@ -29,22 +29,19 @@ use Rattle.reuse_command.specs.declared.failure.Failure.TheVariants.{Interrupted
 use Rattle.reuse_command.specs.declared.reply.Refusal.TheVariants.{Failed}
 use Rattle.reuse_session.specs.declared.session.Session.{Session}
 use Rattle.reuse_session.proofs.lemmas.session.ForgottenFiles.{AreEntriesOf, entries_of, entries_of_first, tree_then, text_then, folder_then, free_then, gone_then, gone_from_the_top, safe_then, standing_then, standing_then_some}
+use Rattle.reuse_session.proofs.lemmas.session.ForgottenDoubt.{stops_in_doubt}
 use Rattle.reuse_session.proofs.lemmas.session.ForgottenSteps.{each_given_out, filter_whole, none_besides_all, remembers_besides, sound_besides, sound_listing}
-use Rattle.reuse_session.proofs.lemmas.session.ForgottenTrees.{holds_alone, holds_next, same_besides}
+use Rattle.reuse_session.proofs.lemmas.session.ForgottenTrees.{holds_alone, holds_next, holds_without, same_besides}
 use Rattle.reuse_journal.proofs.JournalLemmas.{sound_head}
 use Rattle.reuse_journal.proofs.MemoryLemmas.{listing_of}
 use Rattle.reuse_session.proofs.lemmas.journal.Stepping.{stop_clash}
 
--- where the tree of what is safe is that of the files
-pub sure : {S : Type 0} (store : Ghosts S) (old : S) (earlier held : State) → IsStanding (store.files old) held → AreSafeOn store earlier held old → HaveTree store old (tree_of (store.files old))
-sure store old earlier held standing safe left is = (safe left is).tree ∙ sym standing.tree
-
 -- numbers that are nothing in order are none
-none_in_order : (numbers : List ℕ) → AreInOrder numbers [] → numbers ≡ []
+pub none_in_order : (numbers : List ℕ) → AreInOrder numbers [] → numbers ≡ []
 none_in_order [] order = refl
 none_in_order (number ∷ numbers) order = absurd (omega (arith, (order.all number (0, omega arith, refl)).1))
 
-pub survives_some : {S : Type 0} (store : Ghosts S) (numbers forgotten : List ℕ) (earlier held : State) (new : S) → AreInOrder numbers forgotten → numbers ≢ [] → Leaves store new (λ left. IsStanding left (state_besides numbers held))
+pub survives_some : {S : Type 0} (store : Ghosts S) (numbers forgotten : List ℕ) (earlier : Earlier) (held : State) (new : S) → AreInOrder numbers forgotten → numbers ≢ [] → Leaves store new (λ left. IsStanding left (state_besides numbers held))
     → SurvivesForgetting store numbers earlier held (Ok forgotten) new
 survives_some store numbers [] earlier held new order some lefts = absurd (some (none_in_order numbers order))
 survives_some store numbers (number ∷ more) earlier held new order some lefts = lefts
@@ -95,10 +92,12 @@ module _ {S : Type 0} (store : Ghosts S) (old : Session S) (numbers ordered text
     pub left_standing : (left : Files) → PutsAndRemovesSome text paths (files_of store old) left → IsStanding left (state_besides numbers held)
     left_standing left made = standing_then_some numbers text paths held entries bounded sound good (files_of store old) left stands.standing made
 
-    pub left_safe : (earlier : State) → AreSafeOn store earlier held (store_of old) → (left : Files) → store.may_be (store_of old) left ⊎ ((kept : Files) × store.may_be (store_of old) kept × PutsAndRemovesSome text paths kept left)
-        → IsSafeOn earlier held left ⊎ IsStanding left (state_besides numbers held)
-    left_safe earlier safe left (inl was) = inl (safe left was)
-    left_safe earlier safe left (inr (kept, may, made)) = inr (safe_then numbers text paths earlier held entries bounded sound stands.standing.good good kept left (safe kept may) made)
+    pub stopped_doubt : (new : S) (earlier : Earlier) → AreSafeOn store earlier held (store_of old) → StopsWithRemovals store text paths (store_of old) new
+        → Leaves store new (λ left. IsSafe earlier held left ⊎ IsStanding left (state_besides numbers held))
+        × AreInDoubt store (record { state = earlier.state; forgetting = true }) held (state_besides numbers held) new
+    stopped_doubt new earlier safe stops =
+        stops_in_doubt numbers earlier held store (store_of old) new text paths stands.standing safe (λ count made. first_standing count (store.files new) made)
+        (λ kept left was made. safe_then numbers text paths earlier held entries bounded sound stands.standing.good good kept left was made) stops
 
   -- ---- once it is done
 
@@ -117,6 +116,7 @@ module _ {S : Type 0} (store : Ghosts S) (old : Session S) (numbers ordered text
       );
       stops = λ honest held stands. tt;
       doubt = λ honest held stands. tt;
+      order = tt;
       late = tt;
       written = λ honest held stands. omega (arith, written, room held stands);
       mutations = few_mutations;
@@ -146,6 +146,7 @@ module _ {S : Type 0} (store : Ghosts S) (old : Session S) (numbers ordered text
           )) (made honest);
       doubt = λ honest held stands stop. ⊎_elim (λ (same : files_of store new ≡ files_of store old). inl (subst (λ files. IsStanding files held) (sym same) stands.standing))
           (λ (part : (count : ℕ) × PutsAndRemoves text (take count paths) (files_of store old) (files_of store new)). inr (first_standing held stands part.0 (files_of store new) part.1)) (made honest);
+      order = λ stop. (ordered, is.order);
       late = λ stop. asked;
       written = λ honest held stands. omega (arith, written, room held stands);
       mutations = omega (arith, mutations, is.few, ap length is.are_paths, length-map (reverse ordered) entry_path, length-reverse ordered);
@@ -185,6 +186,7 @@ leaves_none store session forgotten = record {
   texts = λ honest some. absurd (some refl);
   stops = λ honest held stands. tt;
   doubt = λ honest held stands. tt;
+  order = tt;
   late = tt;
   written = λ honest held stands. omega arith;
   mutations = omega arith;
@@ -207,7 +209,20 @@ pub only_order : (P : Type 0) (numbers : List ℕ) (result : Result (List ℕ) R
 only_order P numbers (Ok forgotten) both = both.0
 only_order P numbers (Err refusal) both = tt
 
--- where it stood at a state of the machine, and the numbers are of the oldest steps
+-- where it stood at a state of the machine, it stands at that without the steps
+pub stands_without : {S : Type 0} (files : S → Files) (old new : Session S) (numbers : List ℕ) (state : Snapshots) (result : Result (List ℕ) Refusal) (at : StandsAt files old state)
+    → OnOk result (StandsOn files new (state_besides numbers at.held)) → OnOk result (StandsAt files new (snapshots_besides numbers state))
+stands_without files old new numbers state (Ok forgotten) at stands = record { held = state_besides numbers at.held; stands = stands; holds = holds_without at.held state at.holds numbers }
+stands_without files old new numbers state (Err refusal) at stands = tt
+
+pub stands_without_none : {S : Type 0} (files : S → Files) (session : Session S) (numbers : List ℕ) (state : Snapshots) → numbers ≡ [] → StandsAt files session state → StandsAt files session (snapshots_besides numbers state)
+stands_without_none files session numbers state none at = record {
+  held = at.held;
+  stands = at.stands;
+  holds = subst (λ held. HoldsSnapshots held (snapshots_besides numbers state)) (ap (λ ns. state_besides ns at.held) none ∙ same_besides at.held) (holds_without at.held state at.holds numbers);
+}
+
+-- and if the numbers are of the oldest steps
 pub stands_next : {S : Type 0} (files : S → Files) (old new : Session S) (numbers : List ℕ) (state next : Snapshots) (result : Result (List ℕ) Refusal) (at : StandsAt files old state) → IsWithoutOldest numbers state next
     → OnOk result (StandsOn files new (state_besides numbers at.held)) → OnOk result (StandsAt files new next)
 stands_next files old new numbers state next (Ok forgotten) at without stands = record {

@@ -20,18 +20,18 @@ use Rattle.reuse_change.proofs.FileMaps.{same_files, same_or_other}
 use Rattle.reuse_store.proofs.OfTree.{get-folder}
 use Rattle.reuse_store.proofs.TreeLemmas.{tree_file}
 use Rattle.reuse_store.proofs.ApplyLemmas.{removal_sets}
-use Rattle.reuse_session.specs.session.Forgetting.{AreInOrder, AreGone, AreGoneFromTheTop, IsSameButGone, Removes, RemovesSome, PutsAndRemoves, PutsAndRemovesSome}
+use Rattle.reuse_session.specs.session.Forgetting.{AreInOrder, AreGone, AreGoneFromTheTop, IsSameButGone, Removes, RemovesSome, PutsAndRemoves, PutsAndRemovesSome, StopsWithRemovals}
 use Rattle.reuse_journal.specs.Numbered.{is_one_of, steps_besides, journal_besides, state_besides}
 use Rattle.reuse_journal.specs.Journal.{Recorded, State}
 use Rattle.reuse_journal.specs.JournalFiles.{head_path, entry_path, entry_in, number_of, head_of, HeadSays, EntrySays, IsFree, IsKeptIn, KeepsJournal}
-use Rattle.reuse_journal.specs.Losses.{IsSafeOn}
+use Rattle.reuse_journal.specs.Losses.{Earlier, IsSafe}
 use Rattle.reuse_journal.specs.Standing.{IsTree, IsStanding}
 use Rattle.reuse_session.proofs.lemmas.session.ForgottenSteps.{one_of}
 use Rattle.reuse_journal.proofs.HeadMutations.{each_listed}
 use Rattle.reuse_journal.proofs.HeadPuts.{head_sets, head_keeps_tree}
 use Rattle.reuse_journal.proofs.JournalLemmas.{entry_in_folder, entry_path_is_not_head, entry_path_once, free_stays, keeps_with_head}
 use Rattle.reuse_journal.proofs.JournalReading.{file_in_folder}
-use Rattle.reuse_session.proofs.lemmas.journal.StepDoubt.{safe_entries}
+use Rattle.reuse_journal.proofs.SafeFiles.{safe_entries, safe_tree}
 use Rattle.reuse_session.proofs.lemmas.session.StepsByNumber.{in_map, to_map, in_reverse, to_reverse}
 
 -- ---- lists
@@ -122,9 +122,21 @@ module _ (text : List ℕ) (paths : List (List ℕ)) where
   put_or_not before after (inl same) = inl same
   put_or_not before after (inr sets) = inr (0, (after, sets, removes_none after))
 
-  pub left_with_head : (MightBe : Files → Type 0) (left : Files) → WithOrWithout MightBe head_path (λ file. file ≡ Some text) left → MightBe left ⊎ ((kept : Files) × MightBe kept × PutsAndRemovesSome text paths kept left)
-  left_with_head MightBe left (inl was) = inl was
-  left_with_head MightBe left (inr made) = inr (made.0, made.1, (left, subst (λ file. Sets head_path file made.0 left) made.3 made.4, removes_some_none paths left))
+  with_head : (MightBe : Files → Type 0) (left : Files) → WithOrWithout MightBe head_path (λ file. file ≡ Some text) left → MightBe left ⊎ ((kept : Files) × MightBe kept × Sets head_path (Some text) kept left)
+  with_head MightBe left (inl was) = inl was
+  with_head MightBe left (inr made) = inr (made.0, made.1, subst (λ file. Sets head_path file made.0 left) made.3 made.4)
+
+  with_removals : (MightBe : Files → Type 0) (left : Files) → MightBe left ⊎ ((kept : Files) × MightBe kept × Sets head_path (Some text) kept left)
+      → MightBe left ⊎ ((kept : Files) × MightBe kept × PutsAndRemovesSome text paths kept left)
+  with_removals MightBe left (inl was) = inl was
+  with_removals MightBe left (inr made) = inr (made.0, made.1, (left, made.2, removes_some_none paths left))
+
+  -- where the put of the head stops
+  pub put_stops : {S : Type 0} (store : Ghosts S) (old new : S) → (store.files new ≡ store.files old) ⊎ Sets head_path (Some text) (store.files old) (store.files new)
+      → Leaves store new (WithOrWithout (store.may_be old) head_path (λ file. file ≡ Some text)) → StopsWithRemovals store text paths old new
+  put_stops store old new (inl same) lefts = inl (same, λ left is. with_head (store.may_be old) left (lefts left is))
+  put_stops store old new (inr sets) lefts =
+      inr (0, (store.files new, sets, removes_none (store.files new)), λ left is. with_removals (store.may_be old) left (with_head (store.may_be old) left (lefts left is)))
 
 -- the paths are of entries of these numbers
 abbrev pub AreEntriesOf : List ℕ → List (List ℕ) → Type 0
@@ -314,10 +326,10 @@ module _ (numbers ordered : List ℕ) (paths : List (List ℕ)) (count : ℕ) (o
 -- ---- what a loss of power leaves
 
 -- what was safe, with the head and some of the removals
-pub safe_then : (numbers text : List ℕ) (paths : List (List ℕ)) (earlier held : State) → AreEntriesOf numbers paths → ((number : ℕ) → Contains numbers number → number < 1_000_000) → IsSoundHead (head_of held.journal None) → IsTree held.tree
-    → IsGoodHead text (head_of (journal_besides numbers held.journal) None) → (kept left : Files) → IsSafeOn earlier held kept → PutsAndRemovesSome text paths kept left → IsStanding left (state_besides numbers held)
+pub safe_then : (numbers text : List ℕ) (paths : List (List ℕ)) (earlier : Earlier) (held : State) → AreEntriesOf numbers paths → ((number : ℕ) → Contains numbers number → number < 1_000_000) → IsSoundHead (head_of held.journal None) → IsTree held.tree
+    → IsGoodHead text (head_of (journal_besides numbers held.journal) None) → (kept left : Files) → IsSafe earlier held kept → PutsAndRemovesSome text paths kept left → IsStanding left (state_besides numbers held)
 safe_then numbers text paths earlier held are bounded sound good head kept left safe (mid, sets, (some, within, removes)) =
-    stands_besides numbers held bounded sound good text head kept mid left safe.tree (safe_entries earlier held kept safe) sets some (entries_of_some numbers paths some are within) removes
+    stands_besides numbers held bounded sound good text head kept mid left (safe_tree earlier held kept safe) (safe_entries earlier held kept safe) sets some (entries_of_some numbers paths some are within) removes
 
 -- what was the standing
 pub standing_then : (numbers text : List ℕ) (paths : List (List ℕ)) (held : State) → AreEntriesOf numbers paths → ((number : ℕ) → Contains numbers number → number < 1_000_000) → IsSoundHead (head_of held.journal None)

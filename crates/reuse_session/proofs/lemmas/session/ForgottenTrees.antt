@@ -1,11 +1,15 @@
 -- Forgetting, by the machine: without its oldest steps a journal holds the state without its oldest trees.
-use Rattle.std.proofs.Common.{◌≡◌, ◌≢◌, ℕ, ◌+◌, Bool, true, false, not, List, [], ◌∷◌, ◌++◌, length, map, reverse, get_or, None, refl, sym, ap, ap₂, subst, ◌∙◌, arith}
-use Rattle.std.specs.List.{AllPairs, Contains}
+use Rattle.std.proofs.Common.{◌≡◌, ◌≢◌, ℕ, ◌+◌, ◌==◌, ◌||◌, Bool, true, false, cond, not, List, [], ◌∷◌, ◌++◌, length, map, reverse, get_or, None, Result, Ok, Err, refl, sym, ap, ap₂, subst, ◌∙◌, arith}
+use Rattle.std.specs.List.{AllPairs, Contains, find, list_any}
 use Rattle.std.proofs.lemmas.List.{append-nil, length-append, map-append, reverse-append, get_or-append-add}
 use Rattle.std.proofs.lemmas.List.Elements.{Contains-append_left, Contains-append_right, filter-append}
 use Rattle.std.proofs.Math.ListN.{get_or-append}
 use Rattle.reuse_tree.specs.Head.{IsSoundHead}
-use Rattle.reuse_session.specs.session.Forgetting.{IsWithoutOldest, alone}
+use Rattle.reuse_command.specs.declared.reply.Refusal.{Refusal}
+use Rattle.reuse_command.specs.declared.reply.Refusal.TheVariants.{NoSuchStep}
+use Rattle.reuse_command.specs.declared.request.Steps.{Steps}
+use Rattle.reuse_command.specs.declared.request.Steps.TheVariants.{All as AllSteps, Numbers}
+use Rattle.reuse_session.specs.session.Forgetting.{asked_numbers, first_absent, first_unkept, Forgets, ForgetsTo, has_kept, has_step, IsWithoutOldest, alone, kept_besides, numbers_asked, numbers_in, numbers_of, snapshots_besides}
 use Rattle.reuse_journal.specs.Numbered.{is_one_of, all_numbers, steps_besides, state_besides}
 use Rattle.reuse_journal.specs.History.{Memory}
 use Rattle.reuse_journal.specs.Journal.{Recorded, State}
@@ -14,6 +18,7 @@ use Rattle.reuse_session.specs.session.Machine.{Kept, Snapshots}
 use Rattle.reuse_session.specs.session.Session.{HaveCopies, HoldsSnapshots}
 use Rattle.reuse_journal.specs.Remembered.{Remembers, listed_as}
 use Rattle.reuse_journal.specs.declared.history.ListedEntry.{ListedEntry}
+use Rattle.reuse_journal.proofs.MemoryLemmas.{reverse_map}
 use Rattle.reuse_session.proofs.lemmas.session.ForgottenSteps.{one_of, is_in, filter_whole, filter_nothing}
 use Rattle.reuse_session.proofs.lemmas.session.StepsByNumber.{in_map, to_map, to_reverse}
 
@@ -39,7 +44,7 @@ pub record IsParted (steps : List Recorded) (recent oldest : List Kept) : Type 0
   pub have : HaveCopies newer recent
   pub numbers : map number_of older ≡ map kept_number oldest
 
-same_numbers : (steps : List Recorded) (copies : List Kept) → HaveCopies steps copies → map number_of steps ≡ map kept_number copies
+pub same_numbers : (steps : List Recorded) (copies : List Kept) → HaveCopies steps copies → map number_of steps ≡ map kept_number copies
 same_numbers [] [] have = refl
 same_numbers [] (kept ∷ others) have = absurd have
 same_numbers (step ∷ steps) [] have = absurd have
@@ -132,6 +137,87 @@ module _ (numbers : List ℕ) (held : State) (state next : Snapshots) (holds : H
     used = holds.used ∙ sym without.used;
   }
 
+  -- by the copies too, the next state is that without the numbers
+  kept_newer : (kept : Kept) → Contains next.past kept → not (is_one_of numbers (kept_number kept)) ≡ true
+  kept_newer kept h =
+      let found = in_map number_of parts.newer (kept_number kept) (subst (λ ns. Contains ns (kept_number kept)) (sym (same_numbers parts.newer next.past parts.have)) (to_map kept_number next.past kept h)) in
+      subst (λ n. not (is_one_of numbers n) ≡ true) (sym found.2) (not_newer found.0 found.1)
+
+  kept_undone : (kept : Kept) → Contains state.future kept → not (is_one_of numbers (kept_number kept)) ≡ true
+  kept_undone kept h =
+      let found = in_map number_of held.journal.undone (kept_number kept) (subst (λ ns. Contains ns (kept_number kept)) (sym (same_numbers held.journal.undone state.future holds.future)) (to_map kept_number state.future kept h)) in
+      subst (λ n. not (is_one_of numbers n) ≡ true) (sym found.2) (not_undone found.0 found.1)
+
+  kept_older : (kept : Kept) → Contains without.oldest kept → not (is_one_of numbers (kept_number kept)) ≡ false
+  kept_older kept h = ap not (one_of numbers (kept_number kept) ((without.theirs (kept_number kept)).1 (to_map kept_number without.oldest kept h)))
+
+  past_left : kept_besides numbers state.past ≡ next.past
+  past_left =
+      ap (kept_besides numbers) without.past ∙ filter-append (λ (kept : Kept). not (is_one_of numbers kept.label.number)) next.past without.oldest
+      ∙ ap₂ (λ a b. a ++ b) (filter_whole (λ (kept : Kept). not (is_one_of numbers kept.label.number)) next.past kept_newer) (filter_nothing (λ (kept : Kept). not (is_one_of numbers kept.label.number)) without.oldest kept_older)
+      ∙ append-nil next.past
+
+  future_left : kept_besides numbers state.future ≡ next.future
+  future_left = filter_whole (λ (kept : Kept). not (is_one_of numbers kept.label.number)) state.future kept_undone ∙ sym without.future
+
+  pub besides_is_next : snapshots_besides numbers state ≡ next
+  besides_is_next = λ i. record { tree = sym without.tree i; past = past_left i; future = future_left i; used = sym without.used i }
+
+-- ---- the copies of the steps that are left
+
+copies_besides : (numbers : List ℕ) (steps : List Recorded) (copies : List Kept) → HaveCopies steps copies → HaveCopies (steps_besides numbers steps) (kept_besides numbers copies)
+copies_besides numbers [] [] have = tt
+copies_besides numbers [] (kept ∷ others) have = absurd have
+copies_besides numbers (step ∷ steps) [] have = absurd have
+copies_besides numbers (step ∷ steps) (kept ∷ others) have =
+    subst (λ n. HaveCopies (steps_besides numbers (step ∷ steps)) (cond (not (is_one_of numbers n)) (kept ∷ kept_besides numbers others) (kept_besides numbers others)))
+    (sym (ap (λ l. l.number) have.0)) (by_test (is_one_of numbers (number_of step)) (copies_besides numbers steps others have.2))
+  where
+    by_test : (b : Bool) → HaveCopies (steps_besides numbers steps) (kept_besides numbers others)
+        → HaveCopies (cond (not b) (step ∷ steps_besides numbers steps) (steps_besides numbers steps)) (cond (not b) (kept ∷ kept_besides numbers others) (kept_besides numbers others))
+    by_test true rest = rest
+    by_test false rest = (have.0, have.1, rest)
+
+any_alike : (number : ℕ) (steps : List Recorded) (copies : List Kept) → HaveCopies steps copies
+    → list_any (λ (step : Recorded). number_of step == number) steps ≡ list_any (λ (kept : Kept). kept.label.number == number) copies
+any_alike number [] [] have = refl
+any_alike number [] (kept ∷ others) have = absurd have
+any_alike number (step ∷ steps) [] have = absurd have
+any_alike number (step ∷ steps) (kept ∷ others) have =
+    ap₂ (λ n b. (n == number) || b) (sym (ap (λ l. l.number) have.0)) (any_alike number steps others have.2)
+
+reversed_alike : (steps : List Recorded) (copies : List Kept) → HaveCopies steps copies → map number_of (reverse steps) ≡ map kept_number (reverse copies)
+reversed_alike steps copies have = sym (reverse_map number_of steps) ∙ ap reverse (same_numbers steps copies have) ∙ reverse_map kept_number copies
+
+module _ (held : State) (state : Snapshots) (holds : HoldsSnapshots held state) where
+  pub holds_without : (numbers : List ℕ) → HoldsSnapshots (state_besides numbers held) (snapshots_besides numbers state)
+  holds_without numbers = record {
+    tree = holds.tree;
+    past = copies_besides numbers held.journal.done state.past holds.past;
+    future = copies_besides numbers held.journal.undone state.future holds.future;
+    used = holds.used;
+  }
+
+  has_alike : (number : ℕ) → has_step held.journal number ≡ has_kept state number
+  has_alike number = ap₂ (λ a b. a || b) (any_alike number held.journal.done state.past holds.past) (any_alike number held.journal.undone state.future holds.future)
+
+  first_alike : (numbers : List ℕ) → first_absent held.journal numbers ≡ first_unkept state numbers
+  first_alike numbers = λ i. find (λ number. not (has_alike number i)) numbers
+
+  numbers_alike : numbers_in held.journal ≡ numbers_of state
+  numbers_alike = ap₂ (λ a b. a ++ b) (reversed_alike held.journal.done state.past holds.past) (reversed_alike held.journal.undone state.future holds.future)
+
+  pub asked_alike : (steps : Steps) → asked_numbers steps held.journal ≡ numbers_asked steps state
+  asked_alike AllSteps = numbers_alike
+  asked_alike (Numbers numbers) = refl
+
+  -- forgetting follows the machine
+  pub forgets_to : (numbers : List ℕ) (answer : Result (List ℕ) Refusal) (left : State) → Forgets numbers held answer left → (next : Snapshots) × ForgetsTo numbers state answer next × HoldsSnapshots left next
+  forgets_to numbers (Ok forgotten) left forgets =
+      (snapshots_besides numbers state, (sym (first_alike numbers) ∙ forgets.0, forgets.1, refl), subst (λ s. HoldsSnapshots s (snapshots_besides numbers state)) (sym forgets.2) (holds_without numbers))
+  forgets_to numbers (Err (NoSuchStep number)) left forgets = (state, (sym (first_alike numbers) ∙ forgets.0, refl), subst (λ s. HoldsSnapshots s state) (sym forgets.1) holds)
+  forgets_to numbers (Err refusal) left forgets = absurd forgets
+
 -- ---- no number, and all
 
 -- without a number all stays
@@ -140,6 +226,14 @@ none_besides steps = filter_whole (λ (step : Recorded). not (is_one_of [] (numb
 
 pub same_besides : (held : State) → state_besides [] held ≡ held
 same_besides held = λ i. record { tree = held.tree; journal = record { done = none_besides held.journal.done i; undone = none_besides held.journal.undone i; used = held.journal.used } }
+
+-- without all its numbers a state has no step
+pub none_kept : (state : Snapshots) → snapshots_besides (numbers_of state) state ≡ alone state
+none_kept state = λ i. record { tree = state.tree; past = gone state.past (λ n h. Contains-append_left _ _ n h) i; future = gone state.future (λ n h. Contains-append_right _ _ n h) i; used = state.used }
+  where
+    gone : (steps : List Kept) → ((number : ℕ) → Contains (map kept_number (reverse steps)) number → Contains (numbers_of state) number) → kept_besides (numbers_of state) steps ≡ []
+    gone steps among = filter_nothing (λ (kept : Kept). not (is_one_of (numbers_of state) kept.label.number)) steps
+        (λ kept h. ap not (one_of (numbers_of state) (kept_number kept) (among (kept_number kept) (to_map kept_number (reverse steps) kept (to_reverse steps kept h)))))
 
 -- all are in what is remembered
 module _ (memory : Memory) (held : State) (remembers : Remembers memory held.journal) where

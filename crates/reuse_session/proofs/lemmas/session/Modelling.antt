@@ -9,15 +9,16 @@ use Rattle.reuse_change.specs.declared.direction.Direction.TheVariants as go
 use Rattle.reuse_plan.specs.PathOutcomes.{path_outcomes_of}
 use Rattle.reuse_journal.specs.Journal.{State, Recorded}
 use Rattle.reuse_journal.specs.JournalFiles.{number_of}
+use Rattle.reuse_session.specs.session.Forgetting.{asked_numbers, Forgets, ForgetsTo, numbers_asked}
 use Rattle.reuse_session.specs.session.Machine.{Snapshots, ran_by, run_path_outcomes}
 use Rattle.reuse_journal.specs.Labels.{is_full}
 use Rattle.reuse_session.specs.session.Model.{ShowsBy, command_back, as_reverted, ReplaysTo, kept_ahead, RevertsTo, PreviewsBack, MakesTo, PreviewsTo, Gives}
 use Rattle.reuse_session.specs.session.Previews.{run_path_outcomes_on}
-use Rattle.reuse_session.specs.session.Requests.{as_answer, PreviewsRevert, Previews, Makes, LeadsTo, IsAfterCall, IsAfter, IsStopped}
+use Rattle.reuse_session.specs.session.Requests.{as_answer, PreviewsRevert, Previews, Makes, LeadsTo, IsAfterCall, IsAfter, IsLeftBetween, IsStopped}
 use Rattle.reuse_session.specs.session.RevertCalls.{Reverts, TakesBack, IsAfterRevert, as_run, changed_or_none, left_of, touched_later}
 use Rattle.reuse_session.specs.session.Session.{HoldsSnapshots, IsReplay, IsRun, Runs}
 use Rattle.reuse_session.specs.session.Showing.{IsUnused, ShowsIn}
-use Rattle.reuse_journal.specs.Standing.{IsStanding}
+use Rattle.reuse_journal.specs.Standing.{InDoubt, IsStanding}
 use Rattle.reuse_session.specs.session.Stops.{AreLeft}
 use Rattle.reuse_command.specs.declared.command.Command.{Command}
 use Rattle.reuse_command.specs.declared.command.Command.TheVariants.{Revert}
@@ -32,8 +33,10 @@ use Rattle.reuse_command.specs.declared.request.Call.{Call}
 use Rattle.reuse_command.specs.declared.request.Call.TheVariants as calls
 use Rattle.reuse_command.specs.declared.request.Request.{Request}
 use Rattle.reuse_command.specs.declared.request.Request.TheVariants as requests
+use Rattle.reuse_command.specs.declared.request.Steps.{Steps}
 use Rattle.reuse_session.proofs.lemmas.session.Driving.{ran_on}
 use Rattle.reuse_session.proofs.lemmas.session.Following.{replay_follows, stopped_replay_follows, log_follows, is_full_alike}
+use Rattle.reuse_session.proofs.lemmas.session.ForgottenTrees.{asked_alike, forgets_to}
 use Rattle.reuse_session.proofs.lemmas.session.LaterSteps.{later_as_machine}
 use Rattle.reuse_session.proofs.lemmas.session.Previewing.{replay_as_previewed_to}
 use Rattle.reuse_session.proofs.lemmas.session.RunFollowing.{runs_as_machine}
@@ -120,11 +123,17 @@ module _ (held : State) (state : Snapshots) (holds : HoldsSnapshots held state) 
         let to = reverts_to number skip_moved when makes.0 left makes.2 in
         (to.0, subst (λ a. RevertsTo state number skip_moved when a to.0) (sym makes.1) to.1, to.2)
 
+    forgotten_to : (steps : Steps) (answer : Result (List ℕ) Refusal) (left : State) → Forgets (asked_numbers steps held.journal) held answer left
+        → (next : Snapshots) × ForgetsTo (numbers_asked steps state) state answer next × HoldsSnapshots left next
+    forgotten_to steps answer left forgets = forgets_to held state holds (numbers_asked steps state) answer left (subst (λ ns. Forgets ns held answer left) (asked_alike held state holds steps) forgets)
+
     -- the same of a request
     pub gives_to : (request : Request) (answer : Result Response Refusal) (left : State) → LeadsTo request held answer left → (next : Snapshots) × Gives state request answer next × HoldsSnapshots left next
     gives_to (requests.Make call when) answer left leads = makes_to call when answer left leads
+    gives_to (requests.Forget steps) answer left leads = let to = forgotten_to steps leads.0 left leads.2 in (to.0, (leads.0, leads.1, to.1), to.2)
     gives_to (requests.Preview call) answer left leads =
         (state, (leads.0, leads.1, previews_to call leads.0 leads.2, refl), subst (λ s. HoldsSnapshots s state) (sym leads.3) holds)
+    gives_to (requests.Recover skip_moved) answer left leads = (state, (leads.0, refl), subst (λ s. HoldsSnapshots s state) (sym leads.1) holds)
     gives_to requests.Log answer left leads =
         (state, (leads.0 ∙ ap (λ rows. Ok (responses.Log rows)) (log_follows held state holds), refl), subst (λ s. HoldsSnapshots s state) (sym leads.1) holds)
     gives_to (requests.Show number) answer left leads =
@@ -155,11 +164,18 @@ module _ (held : State) (state : Snapshots) (holds : HoldsSnapshots held state) 
 
     pub after_as_model : (request : Request) (second : State) → IsAfter request held second → (given : Result Response Refusal) × (next : Snapshots) × Gives state request given next × HoldsSnapshots second next
     after_as_model (requests.Make call when) second after = after_call call when second after
+    after_as_model (requests.Forget steps) second after = let to = forgotten_to steps (Ok after.0) second after.1 in (Ok (responses.Forgotten after.0), to.0, (Ok after.0, refl, to.1), to.2)
     after_as_model (requests.Preview call) second after = absurd after
+    after_as_model (requests.Recover skip_moved) second after = absurd after
     after_as_model requests.Log second after = absurd after
     after_as_model (requests.Show number) second after = absurd after
+
+    doubt_between : (request : Request) (old new : State) (left : Files) → IsLeftBetween request old new left → InDoubt old new left
+    doubt_between (requests.Forget steps) old new left between =
+        ⊎_elim (λ (first : IsStanding left old). inl first) (λ (second : IsStanding left new). inr (inl second)) between
+    doubt_between request old new left between = between
 
     pub stopped_near : (request : Request) (left : Files) → IsStopped request held left → (given : Result Response Refusal) × (next : Snapshots) × Gives state request given next × AreLeft left state (Some next)
     stopped_near request left stopped =
         let after = after_as_model request stopped.0 stopped.1 in
-        (after.0, after.1, after.2, (held, stopped.0, holds, after.3, stopped.2))
+        (after.0, after.1, after.2, (held, stopped.0, holds, after.3, doubt_between request held stopped.0 left stopped.2))

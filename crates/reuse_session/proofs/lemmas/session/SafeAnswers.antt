@@ -1,35 +1,43 @@
 -- What a session that stands at a state of the model answers and leaves, from how it answers a request.
-use Rattle.std.proofs.Common.{◌≡◌, ⊎_elim, ℕ, Bool, List, [], ◌∷◌, Some, Result, Ok, Err, IfErr, refl, sym, ap, subst, ◌∙◌}
+use Rattle.std.proofs.Common.{◌≡◌, ⊎_elim, inl, ℕ, ◌||◌, ◌&&◌, Bool, true, false, not, List, [], ◌∷◌, Some, Result, Ok, Err, IfErr, refl, sym, ap, subst, ◌∙◌}
+use Rattle.reuse_store.specs.Asked.{IsSynced}
+use Rattle.reuse_change.specs.Files.{Files}
 use Rattle.reuse_store.specs.declared.cause.Cause.{Cause}
 use Rattle.reuse_store.specs.declared.store.Store.{Ghosts}
 use Rattle.reuse_change.specs.declared.direction.Direction.{Direction}
 use Rattle.reuse_change.specs.declared.direction.Direction.TheVariants as direction
-use Rattle.reuse_command.specs.Answer.{IsEarly, IsNoStep, TellsNoFault}
+use Rattle.reuse_command.specs.Answer.{IsEarly, IsNoStep, IsStop, TellsNoFault}
 use Rattle.reuse_session.specs.session.Calls.{files_of}
 use Rattle.reuse_session.specs.session.Driven.{StandsSafely, GoesSafely}
 use Rattle.reuse_journal.specs.Journal.{Recorded, State, Replays}
-use Rattle.reuse_journal.specs.Losses.{AreSafeOn, AreInDoubt, Survives}
+use Rattle.reuse_journal.specs.Losses.{AreSafeOn, AreInDoubt, Survives, Earlier}
 use Rattle.reuse_session.specs.session.Machine.{Snapshots}
 use Rattle.reuse_session.specs.session.Model.{Gives}
-use Rattle.reuse_session.specs.session.Requests.{MayFail, IfFailed, Makes, LeadsTo, IsAfterCall, IsAfter, SurvivesRequest, as_step, IsAnswered}
+use Rattle.reuse_session.specs.session.Forgetting.{asked_numbers, Forgets, SurvivesForgetting}
+use Rattle.reuse_session.specs.session.Requests.{MayFail, IfFailed, Makes, LeadsTo, IsAfterCall, IsAfter, IsStopped, SurvivesRequest, as_answer, as_step, IsAnswered}
 use Rattle.reuse_session.specs.session.RevertCalls.{Reverts, TakesBack, as_run}
 use Rattle.reuse_session.specs.session.Session.{store_of, Runs, StandsOn, StandsAt}
 use Rattle.reuse_session.specs.session.Showing.{IsUnused}
 use Rattle.reuse_journal.specs.Standing.{IsStanding}
-use Rattle.reuse_session.specs.session.Stops.{AreLeft}
+use Rattle.reuse_session.specs.session.Stops.{AreLeft, forgets, is_lasting}
 use Rattle.reuse_command.specs.declared.command.Command.{Command}
 use Rattle.reuse_command.specs.declared.failure.Failure.TheVariants.{Fault, Memory, Interrupted}
 use Rattle.reuse_command.specs.declared.reply.Refusal.{Refusal}
 use Rattle.reuse_command.specs.declared.reply.Refusal.TheVariants.{JournalFull, NoSuchStep, Failed}
 use Rattle.reuse_command.specs.declared.reply.Response.{Response}
 use Rattle.reuse_command.specs.declared.reply.Response.TheVariants as responses
+use Rattle.reuse_command.specs.declared.path_outcome.PathOutcome.{PathOutcome}
 use Rattle.reuse_command.specs.declared.reply.Reverted.{Reverted}
+use Rattle.reuse_command.specs.declared.reply.Shown.{Shown}
 use Rattle.reuse_command.specs.declared.request.Call.{Call}
 use Rattle.reuse_command.specs.declared.request.Call.TheVariants as calls
 use Rattle.reuse_command.specs.declared.request.Request.{Request}
 use Rattle.reuse_command.specs.declared.request.Request.TheVariants as requests
 use Rattle.reuse_session.specs.declared.session.Session.{Session}
 use Rattle.reuse_session.proofs.lemmas.session.Answering.{revert_is_step}
+use Rattle.reuse_journal.specs.Numbered.{state_besides}
+use Rattle.reuse_session.proofs.lemmas.session.Forgetting.{none_in_order}
+use Rattle.reuse_session.proofs.lemmas.session.ForgottenTrees.{same_besides}
 use Rattle.reuse_session.proofs.lemmas.session.Modelling.{after_as_model, gives_to, reverts_one, stopped_near}
 use Rattle.reuse_command.proofs.OnlyReading.{at_stop}
 use Rattle.reuse_session.proofs.lemmas.journal.StepDoubt.{synced_is_safe}
@@ -67,15 +75,79 @@ makes_stay calls.Redo when held left answer makes none = replays_stay direction.
 makes_stay (calls.Revert number skip_moved) when held left answer makes none =
     reverts_stay number skip_moved when held left makes.0 makes.2 (subst IsNoStep (ap as_step makes.1 ∙ revert_is_step makes.0) none)
 
+-- ---- answers by which nothing is made lasting
+
+preview_quiet : (answer : Result (List PathOutcome) Refusal) → is_lasting (as_step (as_answer responses.Preview answer)) ≡ false
+preview_quiet (Ok path_outcomes) = refl
+preview_quiet (Err refusal) = refl
+
+shown_quiet : (answer : Result Shown Refusal) → is_lasting (as_step (as_answer responses.Shown answer)) ≡ false
+shown_quiet (Ok shown) = refl
+shown_quiet (Err refusal) = refl
+
+-- ---- forgetting
+
+forgotten_as_step : (answer : Result (List ℕ) Refusal) → as_step (as_answer responses.Forgotten answer) ≡ as_answer responses.Forgotten answer
+forgotten_as_step (Ok forgotten) = refl
+forgotten_as_step (Err refusal) = refl
+
+abbrev response : List ℕ → Result Response Refusal
+response forgotten = Ok (responses.Forgotten forgotten)
+
+abbrev refused : Refusal → Result Response Refusal
+refused refusal = Err refusal
+
+one_list : (one other : List ℕ) → response one ≡ response other → one ≡ other
+one_list one other e = cc
+
+one_refusal : (one other : Refusal) → refused one ≡ refused other → one ≡ other
+one_refusal one other e = cc
+
+none_refused : (forgotten : List ℕ) (refusal : Refusal) → response forgotten ≡ refused refusal → ⊥
+none_refused forgotten refusal e = cc
+
+one_result : (one other : Result (List ℕ) Refusal) → as_answer responses.Forgotten one ≡ as_answer responses.Forgotten other → one ≡ other
+one_result (Ok one) (Ok other) e = ap (λ x. Ok x) (one_list one other e)
+one_result (Err one) (Err other) e = ap (λ x. Err x) (one_refusal one other e)
+one_result (Ok one) (Err other) e = absurd (none_refused one other e)
+one_result (Err one) (Ok other) e = absurd (none_refused other one (sym e))
+
 -- ---- what may be left is safe on the next state
 
-module _ {S : Type 0} (store : Ghosts S) (earlier held left : State) (new : S) where
+module _ {S : Type 0} (store : Ghosts S) (earlier : Earlier) (held left : State) (new : S) where
+  -- all that may be left is safe on the next state, and where nothing was made lasting as it was before
+  abbrev IsSafeAfter : Result Response Refusal → Type 0
+  IsSafeAfter step = (first : State) × AreSafeOn store (record { state = first; forgetting = not (is_lasting step) && earlier.forgetting }) left new
+
+  as_before : left ≡ held → AreSafeOn store earlier held new → (first : State) × AreSafeOn store (record { state = first; forgetting = earlier.forgetting }) left new
+  as_before same safe = (earlier.state, subst (λ s. AreSafeOn store earlier s new) (sym same) safe)
+
+  as_quiet : (step : Result Response Refusal) → is_lasting step ≡ false → left ≡ held → AreSafeOn store earlier held new → IsSafeAfter step
+  as_quiet step quiet same safe =
+      subst (λ b. (first : State) × AreSafeOn store (record { state = first; forgetting = not b && earlier.forgetting }) left new) (sym quiet) (as_before same safe)
+
+  as_synced : (step : Result Response Refusal) → IsStanding (store.files new) left → IsSynced store new → IsSafeAfter step
+  as_synced step standing synced = (left, synced_is_safe store (record { state = left; forgetting = not (is_lasting step) && earlier.forgetting }) left new standing synced)
+
   safe_after_step : (IsNext : State → Type 0) (step : Result Response Refusal) → (IsNoStep step → left ≡ held) → TellsNoFault step → IsStanding (store.files new) left → Survives store IsNext earlier held step new
-      → (first : State) × AreSafeOn store first left new
-  safe_after_step IsNext (Ok responses.NothingChanged) stays told standing survives = (earlier, subst (λ s. AreSafeOn store earlier s new) (sym (stays tt)) survives)
-  safe_after_step IsNext (Ok reply) stays told standing survives = (left, synced_is_safe store left left new standing survives)
+      → IsSafeAfter step
+  safe_after_step IsNext (Ok responses.NothingChanged) stays told standing survives = as_before (stays tt) survives
+  safe_after_step IsNext (Ok reply) stays told standing survives = as_synced (Ok reply) standing survives
   safe_after_step IsNext (Err (Failed failure)) stays told standing survives = absurd told
-  safe_after_step IsNext (Err refusal) stays told standing survives = (earlier, subst (λ s. AreSafeOn store earlier s new) (sym (stays told)) survives)
+  safe_after_step IsNext (Err refusal) stays told standing survives = as_before (stays told) survives
+
+  -- forgetting leaves nothing else than the next state, or where there is no number what was there
+  safe_after_forgetting : (numbers : List ℕ) (forgotten : Result (List ℕ) Refusal) → Forgets numbers held forgotten left → TellsNoFault (as_answer responses.Forgotten forgotten) → SurvivesForgetting store numbers earlier held forgotten new
+      → IsSafeAfter (as_answer responses.Forgotten forgotten)
+  safe_after_forgetting numbers (Ok []) forgets told survives = as_before (forgets.2 ∙ ap (λ ns. state_besides ns held) (none_in_order numbers forgets.1) ∙ same_besides held) survives
+  safe_after_forgetting numbers (Ok (number ∷ more)) forgets told survives =
+      (left, λ file is. inl (record { tree = (stands file is).tree; opens = inl (stands file is) }))
+    where
+      stands : (file : Files) → store.may_be new file → IsStanding file left
+      stands file is = subst (IsStanding file) (sym forgets.2) (survives file is)
+  safe_after_forgetting numbers (Err (NoSuchStep number)) forgets told survives = as_before forgets.1 survives
+  safe_after_forgetting numbers (Err (Failed failure)) forgets told survives = absurd told
+  safe_after_forgetting numbers (Err refusal) forgets told survives = absurd forgets
 
   told_as_step : (answer : Result Response Refusal) → TellsNoFault answer → TellsNoFault (as_step answer)
   told_as_step (Ok (responses.Reverted reverted)) told = tt
@@ -84,28 +156,54 @@ module _ {S : Type 0} (store : Ghosts S) (earlier held left : State) (new : S) w
   told_as_step (Err refusal) told = told
 
   safe_after : (request : Request) (answer : Result Response Refusal) → LeadsTo request held answer left → TellsNoFault answer → IsStanding (store.files new) left → SurvivesRequest store request earlier held answer new
-      → (first : State) × AreSafeOn store first left new
+      → IsSafeAfter (as_step answer)
   safe_after (requests.Make call when) answer leads told standing survives =
       safe_after_step (IsAfterCall call when held) (as_step answer) (makes_stay call when held left answer leads) (told_as_step answer told) standing survives
-  safe_after (requests.Preview call) answer leads told standing survives = (earlier, subst (λ s. AreSafeOn store earlier s new) (sym leads.3) survives)
-  safe_after requests.Log answer leads told standing survives = (earlier, subst (λ s. AreSafeOn store earlier s new) (sym leads.1) survives)
-  safe_after (requests.Show number) answer leads told standing survives = (earlier, subst (λ s. AreSafeOn store earlier s new) (sym leads.3) survives)
+  safe_after (requests.Forget steps) answer leads told standing survives =
+      subst IsSafeAfter (sym (ap as_step leads.1 ∙ forgotten_as_step leads.0))
+      (safe_after_forgetting (asked_numbers steps held.journal) leads.0 leads.2 (subst TellsNoFault leads.1 told)
+      (subst (λ f. SurvivesForgetting store (asked_numbers steps held.journal) earlier held f new) (one_result survives.0 leads.0 (sym survives.1 ∙ leads.1)) survives.2))
+  safe_after (requests.Preview call) answer leads told standing survives = as_quiet (as_step answer) (ap (λ a. is_lasting (as_step a)) leads.1 ∙ preview_quiet leads.0) leads.3 survives
+  safe_after (requests.Recover skip_moved) answer leads told standing survives = as_quiet (as_step answer) (ap (λ a. is_lasting (as_step a)) leads.0) leads.1 survives
+  safe_after requests.Log answer leads told standing survives = as_quiet (as_step answer) (ap (λ a. is_lasting (as_step a)) leads.0) leads.1 survives
+  safe_after (requests.Show number) answer leads told standing survives = as_quiet (as_step answer) (ap (λ a. is_lasting (as_step a)) leads.1 ∙ shown_quiet leads.0) leads.3 survives
 
 -- one that failed left what was safe, or files in doubt
-module _ {S : Type 0} (store : Ghosts S) (earlier held : State) (new : S) where
+module _ {S : Type 0} (store : Ghosts S) (earlier : Earlier) (held : State) (new : S) where
+  forget_failed : (numbers : List ℕ) (forgotten : Result (List ℕ) Refusal) (refusal : Refusal) → IsEarly refusal → refused refusal ≡ as_answer responses.Forgotten forgotten → SurvivesForgetting store numbers earlier held forgotten new
+      → AreSafeOn store earlier held new
+  forget_failed numbers (Ok forgotten) refusal early is survives = absurd (none_refused forgotten refusal (sym is))
+  forget_failed numbers (Err (Failed (Interrupted cause))) refusal early is survives = absurd (subst IsEarly (one_refusal refusal (Failed (Interrupted cause)) is) early)
+  forget_failed numbers (Err other) refusal early is survives = survives
+
+  forget_stopped : (numbers : List ℕ) (forgotten : Result (List ℕ) Refusal) (cause : Cause) → refused (Failed (Interrupted cause)) ≡ as_answer responses.Forgotten forgotten → SurvivesForgetting store numbers earlier held forgotten new
+      → AreInDoubt store (record { state = earlier.state; forgetting = true }) held (state_besides numbers held) new
+  forget_stopped numbers forgotten cause is survives = by_result forgotten (sym (one_result (Err (Failed (Interrupted cause))) forgotten is)) survives
+    where
+      by_result : (forgotten : Result (List ℕ) Refusal) → forgotten ≡ Err (Failed (Interrupted cause)) → SurvivesForgetting store numbers earlier held forgotten new
+          → AreInDoubt store (record { state = earlier.state; forgetting = true }) held (state_besides numbers held) new
+      by_result forgotten same survives = (subst (λ f. SurvivesForgetting store numbers earlier held f new) same survives).1
+
   failed_safe : (request : Request) (refusal : Refusal) → IsEarly refusal → SurvivesRequest store request earlier held (Err refusal) new → AreSafeOn store earlier held new
   failed_safe (requests.Make call when) (Failed (Interrupted cause)) early survives = absurd early
   failed_safe (requests.Make call when) refusal early survives = survives
+  failed_safe (requests.Forget steps) refusal early survives = forget_failed (asked_numbers steps held.journal) survives.0 refusal early survives.1 survives.2
   failed_safe (requests.Preview call) refusal early survives = survives
+  failed_safe (requests.Recover skip_moved) refusal early survives = survives
   failed_safe requests.Log refusal early survives = survives
   failed_safe (requests.Show number) refusal early survives = survives
 
-  stopped_safe : (request : Request) (cause : Cause) → MayFail request (Interrupted cause) → SurvivesRequest store request earlier held (Err (Failed (Interrupted cause))) new
-      → (next : State) × IsAfter request held next × AreInDoubt store earlier held next new
-  stopped_safe (requests.Make call when) cause may survives = survives
-  stopped_safe (requests.Preview call) cause may survives = absurd may
-  stopped_safe requests.Log cause may survives = absurd may
-  stopped_safe (requests.Show number) cause may survives = absurd may
+  stopped_safe : (request : Request) (cause : Cause) → MayFail request (Interrupted cause) → SurvivesRequest store request earlier held (Err (Failed (Interrupted cause))) new → IsStopped request held (store.files new)
+      → (next : State) × IsAfter request held next × AreInDoubt store (record { state = earlier.state; forgetting = forgets request || earlier.forgetting }) held next new
+  stopped_safe (requests.Make call when) cause may survives stopped = survives
+  stopped_safe (requests.Forget steps) cause may survives stopped =
+      let numbers = asked_numbers steps held.journal in
+      let doubt = forget_stopped numbers survives.0 cause survives.1 survives.2 in
+      (stopped.0, stopped.1, subst (λ s. AreInDoubt store (record { state = earlier.state; forgetting = true }) held s new) (sym stopped.1.1.2) doubt)
+  stopped_safe (requests.Preview call) cause may survives stopped = absurd may
+  stopped_safe (requests.Recover skip_moved) cause may survives stopped = absurd may
+  stopped_safe requests.Log cause may survives stopped = absurd may
+  stopped_safe (requests.Show number) cause may survives stopped = absurd may
 
 -- ---- from how a request is answered
 
@@ -129,36 +227,39 @@ module _ {S : Type 0} (store : Ghosts S) (request : Request) (answer : Result Re
     stops cause e = stopped_near at.held state at.holds (files_of store old) at.stands.standing request (files_of store new) (at_stop _ e (is.doubt honest at.held at.stands))
 
   -- of one that stands safely there
-  module _ (state : Snapshots) (safely : StandsSafely store old state) where
+  module _ (state : Snapshots) (forgetting : Bool) (safely : StandsSafely store old state forgetting) where
     abbrev held : State
     held = safely.at.held
 
-    went : TellsNoFault answer → (next : Snapshots) × Gives state request answer next × StandsSafely store new next
+    abbrev earlier : Earlier
+    earlier = record { state = safely.earlier; forgetting = forgetting }
+
+    went : TellsNoFault answer → (next : Snapshots) × Gives state request answer next × StandsSafely store new next (not (is_lasting (as_step answer)) && forgetting)
     went told =
         let left = is.exact honest held safely.at.stands told in
         let to = gives_to held state safely.at.holds (files_of store old) safely.at.stands.standing request answer left.0 left.2 in
-        let safe = safe_after store safely.earlier held left.0 (store_of new) request answer left.2 told left.1.standing (is.survives honest safely.earlier held safely.at.stands safely.safe) in
+        let safe = safe_after store earlier held left.0 (store_of new) request answer left.2 told left.1.standing (is.survives honest earlier held safely.at.stands safely.safe) in
         (to.0, to.1, record { at = record { held = left.0; stands = left.1; holds = to.2 }; earlier = safe.0; safe = safe.1 })
 
-    by_answer : (given : Result Response Refusal) → (TellsNoFault given → (next : Snapshots) × Gives state request given next × StandsSafely store new next)
-        → IfErr given (λ refusal. IsEarly refusal → StandsOn store.files new held) → IfErr given (IfFailed (MayFail request))
-        → SurvivesRequest store request safely.earlier held given (store_of new) → GoesSafely store request given state new
-    by_answer (Ok reply) on early fails survives = on tt
-    by_answer (Err (Failed (Interrupted cause))) on early fails survives =
-        let stopped = stopped_safe store safely.earlier held (store_of new) request cause fails survives in
+    by_answer : (given : Result Response Refusal) → (TellsNoFault given → (next : Snapshots) × Gives state request given next × StandsSafely store new next (not (is_lasting (as_step given)) && forgetting))
+        → IfErr given (λ refusal. IsEarly refusal → StandsOn store.files new held) → IfErr given (λ refusal. IsStop refusal → IsStopped request held (files_of store new)) → IfErr given (IfFailed (MayFail request))
+        → SurvivesRequest store request earlier held given (store_of new) → GoesSafely store request given state forgetting new
+    by_answer (Ok reply) on early doubt fails survives = on tt
+    by_answer (Err (Failed (Interrupted cause))) on early doubt fails survives =
+        let stopped = stopped_safe store earlier held (store_of new) request cause fails survives (doubt tt) in
         let after = after_as_model held state safely.at.holds (files_of store old) safely.at.stands.standing request stopped.0 stopped.1 in
         (after.0, after.1, after.2, (safely.earlier, held, stopped.0, safely.at.holds, after.3, stopped.2))
-    by_answer (Err (Failed (Fault fault))) on early fails survives = record {
+    by_answer (Err (Failed (Fault fault))) on early doubt fails survives = record {
       at = record { held = held; stands = early tt; holds = safely.at.holds };
       earlier = safely.earlier;
-      safe = failed_safe store safely.earlier held (store_of new) request (Failed (Fault fault)) tt survives;
+      safe = failed_safe store earlier held (store_of new) request (Failed (Fault fault)) tt survives;
     }
-    by_answer (Err (Failed Memory)) on early fails survives = record {
+    by_answer (Err (Failed Memory)) on early doubt fails survives = record {
       at = record { held = held; stands = early tt; holds = safely.at.holds };
       earlier = safely.earlier;
-      safe = failed_safe store safely.earlier held (store_of new) request (Failed Memory) tt survives;
+      safe = failed_safe store earlier held (store_of new) request (Failed Memory) tt survives;
     }
-    by_answer (Err refusal) on early fails survives = on tt
+    by_answer (Err refusal) on early doubt fails survives = on tt
 
-    pub goes_safely : GoesSafely store request answer state new
-    goes_safely = by_answer answer went (is.stands honest held safely.at.stands) is.fails (is.survives honest safely.earlier held safely.at.stands safely.safe)
+    pub goes_safely : GoesSafely store request answer state forgetting new
+    goes_safely = by_answer answer went (is.stands honest held safely.at.stands) (is.doubt honest held safely.at.stands) is.fails (is.survives honest earlier held safely.at.stands safely.safe)

@@ -1,5 +1,5 @@
 -- Where no step is missing, the reference model goes back and on between the copies that it keeps.
-use Rattle.std.proofs.Common.{◌≡◌, ⊎_elim, ℕ, Bool, true, false, cond, List, [], ◌∷◌, length, map, Result, Ok, Err, refl, sym, ap, subst, ◌∙◌}
+use Rattle.std.proofs.Common.{◌≡◌, ⊎_elim, ℕ, Bool, true, false, cond, List, [], ◌∷◌, ◌++◌, length, map, Result, Ok, Err, refl, sym, ap, subst, ◌∙◌}
 use Rattle.std.specs.List.{All}
 use Rattle.reuse_change.specs.Entry.{CanBeMade, LeadsBy}
 use Rattle.reuse_change.specs.Files.{Files}
@@ -19,10 +19,12 @@ use Rattle.reuse_command.specs.declared.request.Call.{Call}
 use Rattle.reuse_command.specs.declared.request.Call.TheVariants as calls
 use Rattle.reuse_command.specs.declared.request.Request.{Request}
 use Rattle.reuse_command.specs.declared.request.Request.TheVariants as requests
+use Rattle.reuse_command.specs.declared.request.Steps.{Steps}
 use Rattle.reuse_journal.specs.Labels.{is_full}
 use Rattle.reuse_plan.specs.Outcome.{outcome_of}
+use Rattle.reuse_session.specs.session.Forgetting.{ForgetsTo, numbers_asked, snapshots_besides}
 use Rattle.reuse_session.specs.session.Machine.{Connects, IsUnbroken, Kept, LeadOn, LedUpTo, Snapshots, Step, ran, ran_by, redo_path_outcomes, redone, taken, undo_path_outcomes, undone}
-use Rattle.reuse_session.specs.session.Model.{AreOf, Gives, GoesThrough, IsUnkept, MakesTo, PreviewsReplayTo, ReplaysTo, RevertsTo, as_reverted, command_back, replayed}
+use Rattle.reuse_session.specs.session.Model.{AreOf, Gives, GoesThrough, IsUnkept, MakesTo, PreviewsReplayTo, ReplaysTo, RevertsTo, TakesFromTheEnds, as_reverted, command_back, replayed}
 use Rattle.reuse_session.specs.session.Showing.{LedBy}
 use Rattle.reuse_change.proofs.Differ.{changed_by_entry}
 use Rattle.reuse_change.proofs.Walk.{can_lead, leads_back, leads_once, none_stuck}
@@ -58,6 +60,15 @@ module _ (state : Snapshots) (kept : Kept) (others : List Kept) (changes : List 
     goes.3 ∙ ap (replayed Forward kept others state) (leads_once Forward changes state.tree next.tree kept.after goes.2 (leads_on same)),
   )
   on (Err refusal) next same goes = absurd (none_stuck Forward state.tree changes goes.0.0 (can_go_on same) goes.0.2)
+
+-- the steps of a front part lead so, too
+led_front : (tree : Files) (front behind : List Kept) → LedUpTo tree (front ++ behind) → LedUpTo tree front
+led_front tree [] behind led = tt
+led_front tree (kept ∷ front) behind led = (led.0, led_front kept.before front behind led.1)
+
+lead_front : (tree : Files) (front behind : List Kept) → LeadOn tree (front ++ behind) → LeadOn tree front
+lead_front tree [] behind lead = tt
+lead_front tree (kept ∷ front) behind lead = (lead.0, lead_front kept.after front behind lead.1)
 
 module _ (state : Snapshots) (unbroken : IsUnbroken state) where
   pub back_to_copy : (answer : Result Response Refusal) (next : Snapshots) → ReplaysTo Backward state.past state answer next → AreOf (undone state state.past) answer next
@@ -138,8 +149,22 @@ module _ (state : Snapshots) (unbroken : IsUnbroken state) where
       × (let ran = ran_by state (command_back state number skip_moved changes) when in AreOf (as_reverted changes ran.0, ran.1) answer next)).
       subst IsUnbroken (sym back.2.1) (run_unbroken (command_back state number skip_moved back.0) when)) makes
 
-  pub stays_unbroken : (request : Request) (answer : Result Response Refusal) (next : Snapshots) → Gives state request answer next → IsUnbroken next
-  stays_unbroken (requests.Make call when) answer next gives = made_unbroken call when answer next gives
-  stays_unbroken (requests.Preview call) answer next gives = same_unbroken next gives.3
-  stays_unbroken requests.Log answer next gives = same_unbroken next gives.1
-  stays_unbroken (requests.Show number) answer next gives = same_unbroken next gives.3
+  front_unbroken : (next : Snapshots) (oldest last : List Kept) → state.past ≡ next.past ++ oldest → state.future ≡ next.future ++ last → next.tree ≡ state.tree → IsUnbroken next
+  front_unbroken next oldest last past future tree = record {
+    past = subst (λ t. LedUpTo t next.past) (sym tree) (led_front state.tree next.past oldest (subst (LedUpTo state.tree) past unbroken.past));
+    future = subst (λ t. LeadOn t next.future) (sym tree) (lead_front state.tree next.future last (subst (LeadOn state.tree) future unbroken.future));
+  }
+
+  forgotten_unbroken : (steps : Steps) (answer : Result (List ℕ) Refusal) (next : Snapshots) → TakesFromTheEnds (requests.Forget steps) state → ForgetsTo (numbers_asked steps state) state answer next → IsUnbroken next
+  forgotten_unbroken steps (Ok forgotten) next ends forgets =
+      subst IsUnbroken (sym forgets.2) (front_unbroken (snapshots_besides (numbers_asked steps state) state) ends.0 ends.1 ends.2 ends.3 refl)
+  forgotten_unbroken steps (Err (NoSuchStep number)) next ends forgets = same_unbroken next forgets.1
+  forgotten_unbroken steps (Err refusal) next ends forgets = absurd forgets
+
+  pub stays_unbroken : (request : Request) (answer : Result Response Refusal) (next : Snapshots) → TakesFromTheEnds request state → Gives state request answer next → IsUnbroken next
+  stays_unbroken (requests.Make call when) answer next ends gives = made_unbroken call when answer next gives
+  stays_unbroken (requests.Forget steps) answer next ends gives = forgotten_unbroken steps gives.0 next ends gives.2
+  stays_unbroken (requests.Preview call) answer next ends gives = same_unbroken next gives.3
+  stays_unbroken (requests.Recover skip_moved) answer next ends gives = same_unbroken next gives.1
+  stays_unbroken requests.Log answer next ends gives = same_unbroken next gives.1
+  stays_unbroken (requests.Show number) answer next ends gives = same_unbroken next gives.3

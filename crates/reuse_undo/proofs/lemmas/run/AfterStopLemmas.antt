@@ -1,47 +1,49 @@
 -- What a request is answered behind a stop, and lines one after the other.
-use Rattle.std.proofs.Common.{◌≡◌, ◌⊎◌, inl, inr, ⊎_elim, ℕ, Bool, false, List, [], ◌∷◌, Option, Some, None, Result, Ok, Err, refl, sym, subst}
+use Rattle.std.proofs.Common.{◌≡◌, ◌⊎◌, inl, inr, ⊎_elim, ◌||◌, ◌&&◌, not, ℕ, Bool, false, List, [], ◌∷◌, Option, Some, None, Result, Ok, Err, refl, sym, subst}
 use Rattle.reuse_change.specs.Files.{Files}
 use Rattle.reuse_store.specs.declared.store.Store.{Ghosts}
 use Rattle.reuse_journal.specs.Journal.{State}
 use Rattle.reuse_session.specs.session.Machine.{Snapshots}
-use Rattle.reuse_session.specs.session.Requests.{Meets}
+use Rattle.reuse_session.specs.session.Requests.{Meets, as_step}
 use Rattle.reuse_session.specs.session.Session.{HoldsSnapshots}
 use Rattle.reuse_journal.specs.Standing.{IsStanding, InDoubt}
-use Rattle.reuse_session.specs.session.Stops.{Point, open_at, closed, AreLeft}
+use Rattle.reuse_session.specs.session.Stops.{Point, open_at, closed, forgets, is_lasting, AreLeft, Recovers}
 use Rattle.reuse_command.specs.declared.reply.Response.{Response}
 use Rattle.reuse_command.specs.declared.reply.Refusal.{Refusal}
 use Rattle.reuse_command.specs.declared.failure.Failure.TheVariants.{Fault as StoreFailed, Memory, Interrupted}
 use Rattle.reuse_command.specs.declared.reply.Refusal.TheVariants.{Failed}
 use Rattle.reuse_command.specs.declared.request.Request.{Request}
+use Rattle.reuse_command.specs.declared.request.Request.TheVariants as requests
+use Rattle.reuse_session.proofs.lemmas.session.ClosedRecovery.{recovers_closed}
 use Rattle.reuse_session.proofs.lemmas.session.Driving.{stays_closed}
 use Rattle.reuse_session.proofs.lemmas.session.Modelling.{gives_to, stopped_near}
-use Rattle.reuse_undo.specs.run.AfterStops.{EndsRequest, AnswersAfterStop}
+use Rattle.reuse_undo.specs.run.AfterStops.{EndsRequest, OpensToAnswer, AnswersAfterStop}
 use Rattle.reuse_undo.specs.run.LinesInTurn.{AreInTurn, CarriedLine, HoldsSame, RunAsModel}
-use Rattle.reuse_undo.specs.run.RunLine.{AnswersOn, IsMade, IsUnopened, RequestLeaves, ReportsAnswer}
+use Rattle.reuse_undo.specs.run.RunLine.{AnswersOn, IsMade, IsUnopened, RequestLeaves, SessionLeaves, ReportsAnswer}
 use Rattle.reuse_print.specs.declared.fault.Fault.{Fault}
 use Rattle.reuse_print.specs.declared.fault.Fault.TheVariants as faults
 use Rattle.reuse_arguments.specs.declared.line.PrintOptions.{PrintOptions}
 
 -- ---- a request to a session that opened at a state
 
-module _ (held : State) (state : Snapshots) (holds : HoldsSnapshots held state) (before after : Files) (standing : IsStanding before held) (request : Request) where
-  went : (answer : Result Response Refusal) (next : Snapshots) → EndsRequest state request answer (closed (open_at next)) → (left : State) → IsStanding after left → HoldsSnapshots left next
-      → (end : Point) × EndsRequest state request answer end × AreLeft after end.state end.next
-  went answer next ends left standing holds = (closed (open_at next), ends, (left, standing, holds))
+module _ (held : State) (state : Snapshots) (holds : HoldsSnapshots held state) (before after : Files) (standing : IsStanding before held) (request : Request) (forgetting : Bool) where
+  abbrev Ends : Result Response Refusal → Type 0
+  Ends answer = (end : Point) × EndsRequest forgetting state request answer end × AreLeft after end.state end.next
 
-  met : (answer : Result Response Refusal) → Meets request held answer after → (end : Point) × EndsRequest state request answer end × AreLeft after end.state end.next
+  met : (answer : Result Response Refusal) → Meets request held answer after → Ends answer
   met (Ok reply) meets =
       let to = gives_to held state holds before standing request (Ok reply) meets.0 meets.1 in
-      went (Ok reply) to.0 (open_at to.0, (to.0, to.1, refl), refl) meets.0 meets.2 to.2
-  met (Err (Failed (StoreFailed fault))) meets = went (Err (Failed (StoreFailed fault))) state (open_at state, (meets.0, refl), refl) held meets.1 holds
-  met (Err (Failed Memory)) meets = went (Err (Failed Memory)) state (open_at state, (meets.0, refl), refl) held meets.1 holds
+      let left = open_at (not (is_lasting (as_step (Ok reply))) && forgetting) to.0 in
+      (closed left, (left, (to.0, to.1, refl), refl), (meets.0, meets.2, to.2))
+  met (Err (Failed (StoreFailed fault))) meets = (closed (open_at forgetting state), (open_at forgetting state, (meets.0, refl), refl), (held, meets.1, holds))
+  met (Err (Failed Memory)) meets = (closed (open_at forgetting state), (open_at forgetting state, (meets.0, refl), refl), (held, meets.1, holds))
   met (Err (Failed (Interrupted cause))) meets =
       let stopped = stopped_near held state holds before standing request after meets.1 in
-      let left : Point = record { is_open = false; state = state; next = Some stopped.1 } in
+      let left : Point = record { is_open = false; state = state; next = Some stopped.1; forgetting = forgets request || forgetting } in
       (closed left, (left, (meets.0, stopped.0, stopped.1, stopped.2, refl), refl), stopped.3)
   met (Err refusal) meets =
       let to = gives_to held state holds before standing request (Err refusal) meets.0 meets.1 in
-      went (Err refusal) to.0 (open_at to.0, (to.0, to.1, refl), refl) meets.0 meets.2 to.2
+      (closed (open_at forgetting to.0), (open_at forgetting to.0, (to.0, to.1, refl), refl), (meets.0, meets.2, to.2))
 
 -- ---- a request behind a stop
 
@@ -55,17 +57,24 @@ reached before request answer after state (Some next) left recovers =
     ⊎_elim (λ (on : AnswersOn request left.0 answer after). (state, inl refl, (left.0, left.2, on))) (λ (on : AnswersOn request left.1 answer after). (next, inr refl, (left.1, left.3, on)))
     (recovers left.0 left.1 left.4)
 
-pub answers_after_stop : (before : Files) (request : Request) (answer : Result Response Refusal) (after : Files) (start : Point) → AreLeft before start.state start.next
-    → RequestLeaves before request answer after → (end : Point) × AnswersAfterStop request answer start end × AreLeft after end.state end.next
-answers_after_stop before request answer after start left carries =
+opens_to_answer : (before : Files) (request : Request) (answer : Result Response Refusal) (after : Files) (start : Point) → AreLeft before start.state start.next
+    → SessionLeaves before request answer after → (end : Point) × OpensToAnswer request answer start end × AreLeft after end.state end.next
+opens_to_answer before request answer after start left carries =
     ⊎_elim (λ (refused : (refusal : Refusal) × (answer ≡ Err refusal) × IsUnopened before refusal after).
     let c = stays_closed (λ (f : Files). f) before after refused.0 start left refused.2.recovers in
     (c.0, inl (refused.0, refused.1, c.1), c.2.1))
     (λ (made : IsMade before request answer after).
     let r = reached before request answer after start.state start.next left made.recovers in
     let on = r.2.2 in
-    let m = met r.2.0 r.0 r.2.1 on.0 after on.1 request answer on.2 in
+    let m = met r.2.0 r.0 r.2.1 on.0 after on.1 request start.forgetting answer on.2 in
     (m.0, inr (r.0, r.1, m.1), m.2)) carries
+
+pub answers_after_stop : (before : Files) (request : Request) (answer : Result Response Refusal) (after : Files) (start : Point) → AreLeft before start.state start.next
+    → RequestLeaves before request answer after → (end : Point) × AnswersAfterStop request answer start end × AreLeft after end.state end.next
+answers_after_stop before (requests.Recover skip_moved) answer after start left (recovered, is, leaves) =
+    let end = recovers_closed (λ (f : Files). f) before after skip_moved (closed start) refl recovered left leaves.recovered leaves.recovers in
+    (end.0, subst (λ a. Recovers a (closed start) end.0) (sym is) end.1, end.3)
+answers_after_stop before request answer after start left carries = opens_to_answer before request answer after start left carries
 
 -- what is reported of an answer that leads to some end is reported of that end
 pub reports_end : {X : Type 0} (options : PrintOptions) (IsAnswer : X → Result Response Refusal → Type 0) (Ends : X → Type 0) (old new : List ℕ) (result : Result ℕ Fault)

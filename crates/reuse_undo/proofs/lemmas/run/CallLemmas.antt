@@ -9,7 +9,7 @@ use Rattle.reuse_session.specs.session.Calls.{files_of}
 use Rattle.reuse_journal.specs.Journal.{State}
 use Rattle.reuse_journal.specs.JournalFiles.{head_path, entry_path}
 use Rattle.reuse_journal.specs.Opening.{OpensOn}
-use Rattle.reuse_session.specs.session.Requests.{HasCallClash, IfFailed, IsAnswered, IsStopped, KeepsFolder, LeadsTo, MayFail, Meets}
+use Rattle.reuse_session.specs.session.Requests.{HasCallClash, IfFailed, IsAnswered, IsStopped, KeepsFolder, LeadsTo, MayFail, Meets, StaysEarly}
 use Rattle.reuse_session.specs.session.Session.{store_of, StandsOn}
 use Rattle.reuse_journal.specs.Remembered.{IsSameBut}
 use Rattle.reuse_journal.specs.Standing.{IsStanding, InDoubt}
@@ -23,7 +23,7 @@ use Rattle.reuse_command.specs.declared.request.Request.{Request}
 use Rattle.reuse_command.specs.declared.request.Request.TheVariants as requests
 use Rattle.reuse_session.specs.declared.session.Session.{Session}
 use Rattle.reuse_session.proofs.lemmas.session.Driving.{stays_open}
-use Rattle.reuse_undo.specs.run.RunLine.{RequestLeaves}
+use Rattle.reuse_undo.specs.run.RunLine.{SessionLeaves}
 
 -- ---- clashes
 
@@ -39,6 +39,7 @@ unclashed (requests.Make (calls.Run command) when) held files refusal none = no_
 unclashed (requests.Make (calls.Revert number skip_moved) when) held files refusal none = no_clash_of (Clashes files (entry_path (held.journal.used + 1))) (Clashes files head_path) refusal none
 unclashed (requests.Make calls.Undo when) held files refusal none = no_clash_of ⊥ (Clashes files head_path) refusal none
 unclashed (requests.Make calls.Redo when) held files refusal none = no_clash_of ⊥ (Clashes files head_path) refusal none
+unclashed (requests.Forget steps) held files refusal none = no_clash_of ⊥ (Clashes files head_path) refusal none
 unclashed request held files refusal none = none
 
 -- ---- the call
@@ -64,11 +65,11 @@ pub carried : {S : Type 0} (files : S → Files) (before : Files) (request : Req
     → ((first second : State) → InDoubt first second before → StandsOn files session first ⊎ StandsOn files session second)
     → ((held : State) → StandsOn files session held → Meets request held answer after)
     → ((held : State) → StandsOn files session held → IfErr answer (HasCallClash request held (files (store_of session))))
-    → IsSameBut head_path (undo_folder_of before) (undo_folder_of (files (store_of session))) → ((held : State) → StandsOn files session held → KeepsFolder request held (files (store_of session)) after)
-    → RequestLeaves before request answer after
-carried files before request session answer after opened recovers meets clashes same keeps =
+    → IsSameBut head_path (undo_folder_of before) (undo_folder_of (files (store_of session))) → ((held : State) → StandsOn files session held → KeepsFolder request held (files (store_of session)) after) → StaysEarly request answer (files (store_of session)) after
+    → SessionLeaves before request answer after
+carried files before request session answer after opened recovers meets clashes same keeps stays =
     inr (record {
-      made = (opened.0, files (store_of session), opened.2, meets opened.0 opened.1, clashes opened.0 opened.1, same, keeps opened.0 opened.1);
+      made = (opened.0, files (store_of session), opened.2, meets opened.0 opened.1, clashes opened.0 opened.1, same, keeps opened.0 opened.1, stays);
       recovers = λ first second doubt.
           ⊎_elim (λ (stands : StandsOn files session first). inl (files (store_of session), stands.standing, meets first stands))
           (λ (stands : StandsOn files session second). inr (files (store_of session), stands.standing, meets second stands)) (recovers first second doubt);

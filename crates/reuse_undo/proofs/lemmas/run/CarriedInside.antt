@@ -74,8 +74,8 @@ same_inside outer inner contents has_failed request options before after old new
           let at = carried.after_stop (a.gives honest) start (subst (λ f. AreLeft f start.state start.next) (sym b.files) found) in
           (at.0, at.1, subst (λ f. AreLeft f (at.0).state (at.0).next) a.files at.2);
       survives = λ honest start found.
-          let at = carried.survives (a.gives honest) start (found_alike inner outer old before b.files b.takes_left start.state start.next found) in
-          (at.0, at.1, found_alike outer inner after new (sym a.files) a.gives_left (at.0).state (at.0).next at.2);
+          let at = carried.survives (a.gives honest) start (found_alike inner outer old before b.files b.takes_left start.state start.next start.forgetting found) in
+          (at.0, at.1, found_alike outer inner after new (sym a.files) a.gives_left (at.0).state (at.0).next (at.0).forgetting at.2);
       drawn = λ honest held standing. carried.drawn (a.gives honest) held (subst (λ f. IsStanding f held) (sym b.files) standing);
       reads_only = λ honest look held standing.
           reads_inside outer inner before after old new b a (carried.reads_only (a.gives honest) look held (subst (λ f. IsStanding f held) (sym b.files) standing));

@@ -66,6 +66,8 @@ none_behind (responses.Redone paths) diff is none = none
 none_behind (responses.Log rows) diff is none = none
 none_behind (responses.Shown shown) diff is none = absurd is
 none_behind (responses.Reverted reverted) diff is none = none
+none_behind (responses.Forgotten numbers) diff is none = none
+none_behind (responses.Recovered recovered) diff is none = none
 
 -- some, of a call that was only looked at
 planned_behind : (options : PrintOptions) (response : Response) (diff : List ℕ) → IsDrawnPreview options response → IsDiffBehind response diff

@@ -9,7 +9,7 @@ use Rattle.reuse_command.specs.declared.reply.Refusal.{Refusal}
 use Rattle.reuse_command.specs.declared.reply.Response.TheVariants as responses
 use Rattle.reuse_undo.specs.run.Drawn.{IsDiffOfCall, IsDrawnText, IsTreeDiff, WouldLeave}
 use Rattle.reuse_print.specs.Outputs.{AddsSome}
-use Rattle.reuse_undo.specs.run.RunLine.{RequestLeaves}
+use Rattle.reuse_undo.specs.run.RunLine.{RequestLeaves, SessionLeaves}
 use Rattle.reuse_undo.specs.print.Responses.{Finishes, HasBehind, IsDrawnPreview, IsWanted, WouldBeMade}
 use Rattle.reuse_print.specs.declared.fault.Fault.{Fault}
 use Rattle.reuse_arguments.specs.declared.line.OutputFormat.TheVariants.{Diff}
@@ -63,11 +63,16 @@ meets_tells : (request : Request) (held found : State) (tree after : Files) (res
 meets_tells (requests.Preview call) held found tree after response would meets = told_path_outcomes response meets.1.0 meets.1.1
 meets_tells request held found tree after response would meets = absurd would
 
+session_tells : (request : Request) (held : State) (tree before after : Files) (response : Response) → WouldLeave request held tree → SessionLeaves before request (Ok response) after
+    → (path_outcomes : List PathOutcome) × (response ≡ responses.Preview path_outcomes)
+session_tells request held tree before after response would (inl unopened) = let e = unopened.1 in absurd (cc)
+session_tells request held tree before after response would (inr made) = meets_tells request held (made.made).0 tree after response would (made.made).3
+
 -- the dry run of a call that would leave a tree tells path outcomes
 pub previews_tell : (request : Request) (held : State) (tree before after : Files) (response : Response) → WouldLeave request held tree → RequestLeaves before request (Ok response) after
     → (path_outcomes : List PathOutcome) × (response ≡ responses.Preview path_outcomes)
-previews_tell request held tree before after response would (inl unopened) = let e = unopened.1 in absurd (cc)
-previews_tell request held tree before after response would (inr made) = meets_tells request held (made.made).0 tree after response would (made.made).3
+previews_tell (requests.Recover skip_moved) held tree before after response would leaves = absurd would
+previews_tell request held tree before after response would leaves = session_tells request held tree before after response would leaves
 
 -- ---- lines and diff
 

@@ -1,25 +1,30 @@
 -- What comes of a session's one call from a state of the model, and what is reported of it.
-use Rattle.std.proofs.Common.{◌≡◌, inl, inr, ⊎_elim, ℕ, List, Result, Ok, Err, sym, subst}
+use Rattle.std.proofs.Common.{◌≡◌, inl, inr, ⊎_elim, ℕ, Bool, List, None, Result, Ok, Err, refl, sym, ap, subst}
 use Rattle.reuse_change.specs.Files.{Files}
 use Rattle.reuse_command.specs.Answer.{IsFailure}
 use Rattle.reuse_journal.specs.Journal.{State}
 use Rattle.reuse_session.specs.session.Machine.{Snapshots}
-use Rattle.reuse_session.specs.session.Requests.{Meets}
+use Rattle.reuse_session.specs.session.Requests.{Meets, as_answer}
 use Rattle.reuse_session.specs.session.Session.{HoldsSnapshots}
-use Rattle.reuse_journal.specs.Standing.{IsStanding}
-use Rattle.reuse_session.specs.session.Stops.{Point, open_at, closed, Reopens, HoldState, AreLeft}
+use Rattle.reuse_journal.specs.Standing.{InDoubt, IsStanding}
+use Rattle.reuse_session.specs.session.Stops.{start_at, HoldState}
+use Rattle.reuse_command.specs.declared.reply.Recovered.{Recovered}
 use Rattle.reuse_command.specs.declared.reply.Response.{Response}
+use Rattle.reuse_command.specs.declared.reply.Response.TheVariants as responses
 use Rattle.reuse_command.specs.declared.reply.Refusal.{Refusal}
 use Rattle.reuse_command.specs.declared.failure.Failure.TheVariants.{Fault as StoreFailed, Memory, Interrupted}
 use Rattle.reuse_command.specs.declared.reply.Refusal.TheVariants.{Failed}
 use Rattle.reuse_command.specs.declared.request.Request.{Request}
-use Rattle.reuse_session.proofs.lemmas.session.Driving.{stays_closed}
+use Rattle.reuse_command.specs.declared.request.Request.TheVariants as requests
+use Rattle.reuse_session.proofs.lemmas.session.ClosedRecovery.{nothing_pending}
+use Rattle.reuse_session.proofs.lemmas.session.Driving.{left_again}
 use Rattle.reuse_session.proofs.lemmas.session.Modelling.{gives_to, stopped_near}
 use Rattle.reuse_print.specs.declared.fault.Fault.{Fault}
 use Rattle.reuse_print.specs.declared.fault.Fault.TheVariants as faults
 use Rattle.reuse_arguments.specs.declared.line.PrintOptions.{PrintOptions}
 use Rattle.reuse_print.specs.Outputs.{AddsSome}
-use Rattle.reuse_undo.specs.run.RunLine.{AnswersOn, IsUnopened, IsMade, RequestLeaves, FollowsModel, ReportsAnswer, IfRefused}
+use Rattle.reuse_undo.specs.run.Recoveries.{RecoveryLeaves}
+use Rattle.reuse_undo.specs.run.RunLine.{AnswersOn, IsUnopened, IsMade, RequestLeaves, SessionLeaves, FollowsModel, ReportsAnswer, IfRefused}
 use Rattle.reuse_undo.specs.print.Responses.{IsPrintedText, Finishes}
 
 -- ---- from a state of the model
@@ -33,15 +38,9 @@ module _ (held : State) (state : Snapshots) (holds : HoldsSnapshots held state) 
   met (Err (Failed (Interrupted cause))) meets = inr (stopped_near held state holds before standing request after meets.1)
   met (Err refusal) meets = let to = gives_to held state holds before standing request (Err refusal) meets.0 meets.1 in (to.0, to.1, (meets.0, meets.2, to.2))
 
--- an opening that fails changes nothing where no step is in doubt
-unopened : (refusal : Refusal) (state : Snapshots) (new : Point) → Reopens (Err refusal) (closed (open_at state)) new → new ≡ closed (open_at state)
-unopened (Failed failure) state new h = h
-unopened refusal state new h = absurd h
-
-still_held : (state : Snapshots) (before : Files) (refusal : Refusal) (after : Files) → HoldState before state → IsUnopened before refusal after → HoldState after state
-still_held state before refusal after held refused =
-    let point = stays_closed (λ (f : Files). f) before after refusal (closed (open_at state)) held refused.recovers in
-    subst (λ (p : Point). AreLeft after p.state p.next) (unopened refusal state point.0 point.1) point.2.1
+-- what fails changes nothing where no step is in doubt
+still_held : (state : Snapshots) (before after : Files) → HoldState before state → ((first second : State) → InDoubt first second before → InDoubt first second after) → HoldState after state
+still_held state before after held recovers = left_again before after state None held recovers
 
 failed : (state : Snapshots) (request : Request) (refusal : Refusal) (after : Files) → IsFailure refusal → HoldState after state → FollowsModel state request (Err refusal) after
 failed state request (Failed (StoreFailed fault)) after failure held = held
@@ -49,16 +48,31 @@ failed state request (Failed Memory) after failure held = held
 failed state request (Failed (Interrupted cause)) after failure held = inl held
 failed state request refusal after failure held = absurd failure
 
-pub carries_step : (state : Snapshots) (before : Files) (request : Request) (answer : Result Response Refusal) (after : Files) → HoldState before state → RequestLeaves before request answer after
+session_step : (state : Snapshots) (before : Files) (request : Request) (answer : Result Response Refusal) (after : Files) → HoldState before state → SessionLeaves before request answer after
     → FollowsModel state request answer after
-carries_step state before request answer after held carries =
+session_step state before request answer after held carries =
     let first = held.0 in
     ⊎_elim (λ (refused : (refusal : Refusal) × (answer ≡ Err refusal) × IsUnopened before refusal after).
     subst (λ a. FollowsModel state request a after) (sym refused.1)
-    (failed state request refused.0 after (refused.2.recovers first first (inl held.1)).0 (still_held state before refused.0 after held refused.2)))
+    (failed state request refused.0 after (refused.2.recovers first first (inl held.1)).0 (still_held state before after held (λ one other doubt. (refused.2.recovers one other doubt).1))))
     (λ (made : IsMade before request answer after).
     let on = ⊎_elim (λ (on : AnswersOn request first answer after). on) (λ (on : AnswersOn request first answer after). on) (made.recovers first first (inl held.1)) in
     met first state held.2 before after held.1 request answer on.2) carries
+
+recovered_step : (state : Snapshots) (before : Files) (skip_moved : Bool) (answer : Result Recovered Refusal) (after : Files) → HoldState before state → RecoveryLeaves skip_moved before answer after
+    → FollowsModel state (requests.Recover skip_moved) (as_answer responses.Recovered answer) after
+recovered_step state before skip_moved (Ok told) after held leaves =
+    let at = nothing_pending skip_moved before after told (start_at state) held.0 held.1 leaves.recovered in
+    (state, (ap (λ t. Ok (responses.Recovered t)) at.0, refl), subst (λ f. HoldState f state) (sym at.1) held)
+recovered_step state before skip_moved (Err refusal) after held leaves =
+    failed state (requests.Recover skip_moved) refusal after (leaves.recovers held.0 held.0 (inl held.1)).0
+    (still_held state before after held (λ one other doubt. (leaves.recovers one other doubt).1))
+
+pub carries_step : (state : Snapshots) (before : Files) (request : Request) (answer : Result Response Refusal) (after : Files) → HoldState before state → RequestLeaves before request answer after
+    → FollowsModel state request answer after
+carries_step state before (requests.Recover skip_moved) answer after held (recovered, is, leaves) =
+    subst (λ a. FollowsModel state (requests.Recover skip_moved) a after) (sym is) (recovered_step state before skip_moved recovered after held leaves)
+carries_step state before request answer after held carries = session_step state before request answer after held carries
 
 -- the same, of an equal answer
 pub carries_as : (before after : Files) (request : Request) (answer same : Result Response Refusal) → RequestLeaves before request answer after → answer ≡ same → RequestLeaves before request same after

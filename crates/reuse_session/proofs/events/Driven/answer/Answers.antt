@@ -20,7 +20,7 @@ returns-in-Reopen-clause-answers g c honest old at =
 pub returns-in-Reopen-clause-survives : goal.returns-in-Reopen-clause-survives
 returns-in-Reopen-clause-survives g c honest old at =
     let store = g.S.Store in
-    let found = subst (λ s. MayBeFound store s old.state old.next) (sym c.into_store.ensures) (found_in store c.args.self old at) in
+    let found = subst (λ s. MayBeFound store s old.state old.next old.forgetting) (sym c.into_store.ensures) (found_in store c.args.self old at) in
     let r = c.open.ensures.survives honest old found in
     (r.0, subst (λ (event : Event). AnswersEvent old.is_open event c.open.result.1 old r.0) (sym c.in-Reopen.is) (answers_reopen old.is_open c.open.result.1 old r.0 r.1), r.2)
 

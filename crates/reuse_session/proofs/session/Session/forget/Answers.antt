@@ -2,7 +2,7 @@ use Rattle.std.proofs.Common.{◌≡◌, ◌∙◌, [], None, true, length, eqb-
 use Rattle.std.proofs.lemmas.List.{nil_from_length}
 use Rattle.reuse_journal.specs.Numbered.{first_unlisted, memory_besides}
 use Rattle.reuse_session.specs.session.Session.{memory_of}
-use Rattle.reuse_session.proofs.lemmas.session.Forgetting.{forgets_listed, forgets_nothing, leaves_nothing, memory_nothing, only_order, order_nothing, stands_next, stands_still}
+use Rattle.reuse_session.proofs.lemmas.session.Forgetting.{forgets_listed, forgets_nothing, leaves_nothing, memory_nothing, only_order, order_nothing, stands_next, stands_still, stands_without, stands_without_none}
 use Rattle.reuse_session.proofs.lemmas.session.ForgottenSteps.{first_is}
 use Rattle.reuse_plan.proofs.Results.{none_unless_some}
 use Rattle.reuse_session.proofs.session.Session.forget.Given.{Over}
@@ -21,7 +21,11 @@ returns-then-is_empty-clause-exact g c honest held stands told =
     (held, stands, forgets_nothing c.args.numbers.now _ (no_number g (goal.at.returns-then-is_empty-clause-exact g c).After-is_empty c.if-is_empty.true) (c.new-then-is_empty.ensures ∙ c.new.ensures.items) held)
 
 pub returns-then-is_empty-clause-machine : goal.returns-then-is_empty-clause-machine
-returns-then-is_empty-clause-machine g c honest state next at without = stands_still g.S.Store.files c.args.self.now c.args.numbers.now state next (no_number g (goal.at.returns-then-is_empty-clause-machine g c).After-is_empty c.if-is_empty.true) at without
+returns-then-is_empty-clause-machine g c honest state at =
+    stands_without_none g.S.Store.files c.args.self.now c.args.numbers.now state (no_number g (goal.at.returns-then-is_empty-clause-machine g c).After-is_empty c.if-is_empty.true) at
+
+pub returns-then-is_empty-clause-oldest : goal.returns-then-is_empty-clause-oldest
+returns-then-is_empty-clause-oldest g c honest state next at without = stands_still g.S.Store.files c.args.self.now c.args.numbers.now state next (no_number g (goal.at.returns-then-is_empty-clause-oldest g c).After-is_empty c.if-is_empty.true) at without
 
 pub returns-then-is_empty-clause-forgotten : goal.returns-then-is_empty-clause-forgotten
 returns-then-is_empty-clause-forgotten g c =
@@ -38,5 +42,9 @@ returns-clause-exact g c honest held stands told =
     (sym (first_is (memory_of c.args.self.now) held.journal stands.remembers c.args.numbers.now) ∙ none) (only_order (memory_of c.forget_listed.new.self ≡ memory_besides c.args.numbers.now (memory_of c.args.self.now)) c.args.numbers.now c.forget_listed.result c.forget_listed.ensures.forgotten)
 
 pub returns-clause-machine : goal.returns-clause-machine
-returns-clause-machine g c honest state next at without =
+returns-clause-machine g c honest state at =
+    stands_without g.S.Store.files c.args.self.now c.forget_listed.new.self c.args.numbers.now state c.forget_listed.result at (c.forget_listed.ensures.stands honest at.held at.stands)
+
+pub returns-clause-oldest : goal.returns-clause-oldest
+returns-clause-oldest g c honest state next at without =
     stands_next g.S.Store.files c.args.self.now _ c.args.numbers.now state next c.forget_listed.result at without (c.forget_listed.ensures.stands honest at.held at.stands)

@@ -5,7 +5,8 @@ use Rattle.reuse_journal.specs.Numbered.{memory_besides, state_besides}
 use Rattle.reuse_journal.specs.History.{Memory, head_listing}
 use Rattle.reuse_session.specs.session.Session.{store_of, memory_of}
 use Rattle.reuse_journal.specs.Remembered.{listed_count, head_room, Remembers}
-use Rattle.reuse_session.proofs.lemmas.session.Forgetting.{IsToForget, sure, survives_some, done_standing, left_standing, left_safe, leaves_done, leaves_stop}
+use Rattle.reuse_session.proofs.lemmas.session.Forgetting.{IsToForget, survives_some, done_standing, left_standing, stopped_doubt, leaves_done, leaves_stop}
+use Rattle.reuse_journal.proofs.SafeFiles.{sure_tree}
 use Rattle.reuse_session.proofs.lemmas.session.ForgottenSteps.{remembers_besides}
 use Rattle.reuse_session.proofs.session.Session.forget_listed.Given.{Over}
 use Rattle.reuse_session.proofs.session.Session.forget_listed.Goals.{After-put_and_remove}
@@ -40,7 +41,7 @@ returns-in-Ok-clause-survives g c honest earlier held stands safe =
     let is = to_forget g (goal.at.returns-in-Ok-clause-survives g c).After-put_and_remove in
     let store = g.S.Store in
     survives_some store c.args.numbers.now c.new-in-Ok.result earlier held c.put_and_remove.new.store (subst (AreInOrder c.args.numbers.now) (sym c.new-in-Ok.ensures) c.in_ok-numbers.ensures.ordered) c.requires.some
-    (λ left may. left_standing store c.args.self.now _ _ _ _ is held stands left (c.in-Ok.ensures.lasting honest (sure store (store_of c.args.self.now) earlier held stands.standing safe) left may))
+    (λ left may. left_standing store c.args.self.now _ _ _ _ is held stands left (c.in-Ok.ensures.lasting honest (sure_tree store (store_of c.args.self.now) earlier held stands.standing safe) left may))
 
 pub returns-in-Ok-clause-leaves : goal.returns-in-Ok-clause-leaves
 returns-in-Ok-clause-leaves g c =
@@ -50,10 +51,11 @@ returns-in-Ok-clause-leaves g c =
     (λ honest. c.in-Ok.ensures.done honest) c.in_ok-numbers.ensures.left c.put_and_remove.ensures.written c.put_and_remove.ensures.mutations c.new-in-Ok.result
 
 pub returns-in-Err-clause-survives : goal.returns-in-Err-clause-survives
-returns-in-Err-clause-survives g c honest earlier held stands safe left may =
+returns-in-Err-clause-survives g c honest earlier held stands safe =
     let is = to_forget g (goal.at.returns-in-Err-clause-survives g c).After-put_and_remove in
     let store = g.S.Store in
-    left_safe store c.args.self.now _ _ _ _ is held stands earlier safe left (c.in-Err.ensures.doubt honest (sure store (store_of c.args.self.now) earlier held stands.standing safe) left may)
+    stopped_doubt store c.args.self.now _ _ _ _ is held stands c.put_and_remove.new.store earlier safe
+    (c.in-Err.ensures.doubt honest (sure_tree store (store_of c.args.self.now) earlier held stands.standing safe))
 
 pub returns-in-Err-clause-leaves : goal.returns-in-Err-clause-leaves
 returns-in-Err-clause-leaves g c =

@@ -32,6 +32,7 @@ returns-in-Run g c =
       broken = run.broken;
       exact = run.exact;
       stands = run.leaves.stands;
+      unchanged = λ honest. tt;
       doubt = run.leaves.doubt;
       fails = make_fails (calls.Run c.in-Run.command) c.args.when answer;
       survives = λ honest earlier held stands safe.
@@ -56,8 +57,8 @@ returns-in-Undo g c =
     let old = c.args.self.now in
     let new = c.undo.new.self in
     subst (λ (call : Call). IsAnswered g.S.Store (requests.Make call c.args.when) answer old new) (sym c.in-Undo.is)
-    (replay_answers g.S.Store direction.Backward (requests.Make calls.Undo c.args.when) answer old new
-    (λ look. look) (make_fails calls.Undo c.args.when answer) (λ held left replays. replays) (λ held doubt. doubt) (λ earlier held safe. safe) (λ held clash. clash)
+    (replay_answers g.S.Store direction.Backward calls.Undo c.args.when answer old new
+    (λ held left replays. replays) (λ held doubt. doubt) (λ earlier held safe. safe) (λ held clash. clash)
     (λ held same. same) undo.broken undo.exact undo.survives undo.call undo.leaves)
 
 pub returns-in-Redo : goal.returns-in-Redo
@@ -67,8 +68,8 @@ returns-in-Redo g c =
     let old = c.args.self.now in
     let new = c.redo.new.self in
     subst (λ (call : Call). IsAnswered g.S.Store (requests.Make call c.args.when) answer old new) (sym c.in-Redo.is)
-    (replay_answers g.S.Store direction.Forward (requests.Make calls.Redo c.args.when) answer old new
-    (λ look. look) (make_fails calls.Redo c.args.when answer) (λ held left replays. replays) (λ held doubt. doubt) (λ earlier held safe. safe) (λ held clash. clash)
+    (replay_answers g.S.Store direction.Forward calls.Redo c.args.when answer old new
+    (λ held left replays. replays) (λ held doubt. doubt) (λ earlier held safe. safe) (λ held clash. clash)
     (λ held same. same) redo.broken redo.exact redo.survives redo.call redo.leaves)
 
 pub returns-in-Revert : goal.returns-in-Revert
@@ -87,6 +88,7 @@ returns-in-Revert g c =
       broken = broken_as_answer responses.Reverted result _ revert.broken;
       exact = λ honest held stands told. let e = revert.exact honest held stands (told_as_answer responses.Reverted result told) in (e.0, e.1, (result, refl, e.2));
       stands = λ honest held stands. revert_stands store number skip_moved when old new result held honest stands revert.leaves revert.call.refused;
+      unchanged = λ honest. tt;
       doubt = λ honest held stands. revert_doubt store number skip_moved when old new result held honest stands revert.absent.1 revert.leaves;
       fails = make_fails (calls.Revert number skip_moved) c.args.when answer;
       survives = λ honest earlier held stands safe.

@@ -1,5 +1,5 @@
 use Rattle.std.proofs.Common.{inl, inr, ⊎_elim, Err, refl, ap}
-use Rattle.reuse_journal.specs.Losses.{AreSafeOn}
+use Rattle.reuse_journal.specs.Losses.{AreSafeOn, beyond}
 use Rattle.reuse_journal.specs.Remembered.{Remembers}
 use Rattle.reuse_journal.specs.Standing.{IsStanding}
 use Rattle.reuse_journal.proofs.FilesInDoubt.{opened_standing}
@@ -48,7 +48,7 @@ returns-in-Ok-clause-survives g c earlier held next doubt honest =
     let new = c.open_journal.new.store in
     ⊎_elim
     (λ (h : IsStanding (store.files new) held × Remembers c.in-Ok.history held.journal × AreSafeOn store earlier held new). inl (record { whole = refl; standing = h.0; remembers = h.1 }, h.2))
-    (λ (h : IsStanding (store.files new) next × Remembers c.in-Ok.history next.journal × AreSafeOn store held next new). inr (record { whole = refl; standing = h.0; remembers = h.1 }, h.2))
+    (λ (h : IsStanding (store.files new) next × Remembers c.in-Ok.history next.journal × AreSafeOn store (beyond earlier held) next new). inr (record { whole = refl; standing = h.0; remembers = h.1 }, h.2))
     (c.in-Ok.ensures.survives honest earlier held next doubt)
 
 pub returns-in-Err-clause-survives : goal.returns-in-Err-clause-survives

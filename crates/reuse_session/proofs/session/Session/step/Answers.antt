@@ -14,7 +14,7 @@ use Rattle.reuse_command.specs.Answer.{HasCause}
 use Rattle.reuse_journal.specs.History.{head_listing}
 use Rattle.reuse_journal.specs.JournalFiles.{head_path}
 use Rattle.reuse_journal.specs.Journal.{State}
-use Rattle.reuse_journal.specs.Losses.{AreSafeOn, HaveTree, StopsWithDoubt}
+use Rattle.reuse_journal.specs.Losses.{StopsWithDoubt}
 use Rattle.reuse_journal.specs.Standing.{IsStanding}
 use Rattle.reuse_session.proofs.lemmas.journal.StepDoubt.{stops_in_doubt}
 use Rattle.reuse_session.specs.session.Session.{store_of, memory_of}
@@ -29,6 +29,7 @@ use Rattle.reuse_session.proofs.lemmas.session.FolderLemmas.{some_text}
 use Rattle.reuse_journal.proofs.JournalReading.{file_in_folder}
 use Rattle.reuse_journal.proofs.Standings.{carried, stopped}
 use Rattle.reuse_session.proofs.lemmas.journal.Stepping.{good_between, good_second, stop_clash}
+use Rattle.reuse_journal.proofs.SafeFiles.{sure_tree}
 use Rattle.reuse_session.proofs.session.Session.step.Goals as goal
 
 stop_cause : (Rose : Type 0) (cause : Cause) → (cause ≡ causes.Device → Rose) → HasCause Rose (Failed (Interrupted cause))
@@ -134,13 +135,9 @@ returns-in_err-path-clause-call g c = call_none g.S.Store c.args.self.now c.from
 
 -- ---- after a loss of power
 
--- the tree of what is safe is that of the files
-sure : {S : Type 0} (store : Ghosts S) (old : S) (earlier held : State) → IsStanding (store.files old) held → AreSafeOn store earlier held old → HaveTree store old (tree_of (store.files old))
-sure store old earlier held standing safe left is = (safe left is).tree ∙ sym standing.tree
-
 pub returns-in-Ok-clause-survives : goal.returns-in-Ok-clause-survives
 returns-in-Ok-clause-survives g c honest earlier held second stands is safe has =
-    c.in-Ok.ensures.lasting honest is.entry (sure g.S.Store (store_of c.args.self.now) earlier held stands.standing safe)
+    c.in-Ok.ensures.lasting honest is.entry (sure_tree g.S.Store (store_of c.args.self.now) earlier held stands.standing safe)
 
 pub returns-in-Err-clause-survives : goal.returns-in-Err-clause-survives
 returns-in-Err-clause-survives g c honest earlier held second stands is safe has stop =
@@ -156,7 +153,7 @@ returns-in-Err-clause-survives g c honest earlier held second stands is safe has
     subst (λ w. Stops w is.step.changes before settled) c.direction.ensures
     (subst (λ cs. Stops c.direction.result cs before settled) (sym is.changes)
     (subst (λ text. Stops c.direction.result c.args.changes.now before text) c.deref-2.ensures.value
-    (subst (λ text. Stops c.direction.result c.args.changes.now text c.deref-2.result.now) c.deref.ensures.value (c.in-Err.ensures.doubt honest is.entry (sure store old earlier held stands.standing safe))))) in
+    (subst (λ text. Stops c.direction.result c.args.changes.now text c.deref-2.result.now) c.deref.ensures.value (c.in-Err.ensures.doubt honest is.entry (sure_tree store old earlier held stands.standing safe))))) in
     stops_in_doubt store old new c.args.pending.direction is.step earlier held second stands.standing is.kept is.is_step (subst IsEntry (sym is.changes) is.entry) (g.met.S.Store.are_files new honest) before settled
     (good_between memory files held second stands.standing stands.remembers is before c.in_ok-before.ensures.good)
     (good_second memory files held second stands.standing stands.remembers is settled c.in_ok-settled.ensures.good) safe has stops

@@ -7,7 +7,7 @@ use Rattle.reuse_change.specs.Entry.{IsEntry, CanBeMade, IsFirstStuck}
 use Rattle.reuse_tree.specs.Head.{direction_of, listed_direction}
 use Rattle.reuse_journal.specs.Journal.{Recorded, State, Replays, ahead, reply_of}
 use Rattle.reuse_journal.specs.JournalFiles.{entry_in, IsKeptIn}
-use Rattle.reuse_journal.specs.Losses.{AreSafeOn, Survives}
+use Rattle.reuse_journal.specs.Losses.{AreSafeOn, Survives, Earlier}
 use Rattle.reuse_journal.specs.Standing.{IsStep}
 use Rattle.reuse_session.specs.session.Session.{store_of, IsReplay, StandsOn}
 use Rattle.reuse_tree.specs.declared.journal.head.Pending.{Pending}
@@ -16,7 +16,8 @@ use Rattle.reuse_store.specs.Asked.{OnlyReads, Leaves}
 use Rattle.reuse_change.specs.Tree.{undo_folder_of}
 use Rattle.reuse_store.proofs.AskedLemmas.{reads_more}
 use Rattle.reuse_command.proofs.OnlyReading.{is_refused, read_early, tested_early}
-use Rattle.reuse_session.proofs.lemmas.journal.StepDoubt.{kept_next, reads_are_safe, safe_entries, survives_early, survives_stop, survives_replay}
+use Rattle.reuse_session.proofs.lemmas.journal.StepDoubt.{kept_next, reads_are_safe, survives_early, survives_stop, survives_replay}
+use Rattle.reuse_journal.proofs.SafeFiles.{safe_entries}
 use Rattle.reuse_session.proofs.lemmas.journal.StepAnswers.{still_stands, read_told, failed_untold}
 use Rattle.reuse_session.proofs.lemmas.session.Replaying.{Prepared, is_replay, same_direction, next_of, next_says, next_changes, stuck, ready, step_leaves, stop_leaves}
 use Rattle.reuse_session.proofs.session.Session.step_listed.Given.{Over}
@@ -111,7 +112,7 @@ returns-clause-leaves g c =
 -- ---- after a loss of power
 
 -- what was tested only read
-module _ (g : Over) (c : After-of_listed g) (earlier held : State) (safe : AreSafeOn g.S.Store earlier held (store_of c.args.self.now)) where
+module _ (g : Over) (c : After-of_listed g) (earlier : Earlier) (held : State) (safe : AreSafeOn g.S.Store earlier held (store_of c.args.self.now)) where
   safe_then : AreSafeOn g.S.Store earlier held c.prepare.new.store
   safe_then = reads_are_safe g.S.Store earlier held (store_of c.args.self.now) c.prepare.new.store (only_read g c) safe
 

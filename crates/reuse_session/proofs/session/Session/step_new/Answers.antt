@@ -5,13 +5,14 @@ use Rattle.reuse_tree.specs.declared.journal.head.PendingDirection.TheVariants a
 use Rattle.reuse_session.specs.session.Calls.{LeavesRun}
 use Rattle.reuse_journal.specs.Journal.{State}
 use Rattle.reuse_journal.specs.JournalFiles.{IsKeptIn}
-use Rattle.reuse_journal.specs.Losses.{AreSafeOn, Survives}
+use Rattle.reuse_journal.specs.Losses.{AreSafeOn, Survives, Earlier}
 use Rattle.reuse_change.specs.Entry.{paths_of}
 use Rattle.reuse_session.specs.session.Session.{store_of, IsRun, Runs, StandsOn}
 use Rattle.reuse_command.specs.declared.reply.Response.TheVariants.{Changed}
 use Rattle.reuse_command.proofs.OnlyReading.{is_refused}
 use Rattle.reuse_session.proofs.lemmas.session.Recording.{EntryPut, EntryListed, Recording, put_early, can_go, unput_leaves, recording, record_leaves, halt_leaves}
-use Rattle.reuse_session.proofs.lemmas.session.RunDoubt.{sure_tree, has_entry, put_is_safe}
+use Rattle.reuse_session.proofs.lemmas.session.RunDoubt.{has_entry, put_is_safe}
+use Rattle.reuse_journal.proofs.SafeFiles.{sure_tree}
 use Rattle.reuse_session.proofs.lemmas.journal.StepDoubt.{survives_early, survives_stop, synced_is_safe}
 use Rattle.reuse_session.proofs.lemmas.journal.StepAnswers.{failed_untold, put_fails}
 use Rattle.reuse_session.proofs.session.Session.step_new.Given.{Over}
@@ -100,7 +101,7 @@ returns-in_err-put_entry-clause-survives g c honest earlier held stands safe =
 -- behind the entry what may be left is what is there
 module _ (g : Over) (c : After-step g)
     (put : EntryPut g.S.Store c.args.self.now c.args.command.now c.args.when c.args.changes.items c.put_entry.new.store c.used-number.result (record { changes = c.new.result; command = c.name-command.result; when = c.args.when }))
-    (honest : g.S.Store.honest (store_of c.step.new.self)) (earlier held : State) (stands : StandsOn g.S.Store.files c.args.self.now held) (safe : AreSafeOn g.S.Store earlier held (store_of c.args.self.now)) where
+    (honest : g.S.Store.honest (store_of c.step.new.self)) (earlier : Earlier) (held : State) (stands : StandsOn g.S.Store.files c.args.self.now held) (safe : AreSafeOn g.S.Store earlier held (store_of c.args.self.now)) where
   made : Recording g.S.Store.files c.args.command.now c.args.when (record c.args.self.now { store = c.put_entry.new.store }) c.args.changes.items c.as_slice.result.now (record { entry = c.used-number.result + 1; direction = directions.Do }) c.in_ok-moved.moved held
   made = recording put (entry_listed g c) (c.step.ensures.call.later.was_honest honest) held stands
 

@@ -6,7 +6,7 @@ use Rattle.reuse_change.specs.Tree.{Sets}
 use Rattle.reuse_session.specs.session.Forgetting.{PutsAndRemoves, PutsAndRemovesSome, RemovesSome}
 use Rattle.reuse_journal.specs.JournalFiles.{head_path}
 use Rattle.reuse_journal.specs.Losses.{HaveTree}
-use Rattle.reuse_session.proofs.lemmas.session.ForgottenFiles.{put_or_not, left_with_head}
+use Rattle.reuse_session.proofs.lemmas.session.ForgottenFiles.{put_or_not, put_stops}
 use Rattle.reuse_session.proofs.session.forget.put_and_remove.Given.{Over}
 use Rattle.reuse_session.proofs.session.forget.put_and_remove.Goals.{After-remove_each}
 use Rattle.reuse_session.proofs.session.forget.put_and_remove.Goals as goal
@@ -37,7 +37,8 @@ returns-in_err-put_head-clause-stopped g c honest =
 
 pub returns-in_err-put_head-clause-doubt : goal.returns-in_err-put_head-clause-doubt
 returns-in_err-put_head-clause-doubt g c honest sure =
-    err_anyway c.from_residual.result (λ left may. left_with_head c.args.text.now c.args.paths.now (g.S.Store.may_be c.args.store.now) left (c.put_head.ensures.left left may))
+    err_anyway c.from_residual.result
+    (put_stops c.args.text.now c.args.paths.now g.S.Store c.args.store.now c.put_head.new.store (c.in_err-put_head.ensures.err honest) c.put_head.ensures.left)
 
 -- the head was put
 put_first : (g : Over) (c : After-remove_each g) → g.S.Store.honest c.remove_each.new.store → Sets head_path (Some c.args.text.now) (g.S.Store.files c.args.store.now) (g.S.Store.files c.put_head.new.store)
@@ -62,4 +63,9 @@ returns-clause-lasting g c honest sure = ok_anyway c.remove_each.result (left_th
 
 pub returns-clause-doubt : goal.returns-clause-doubt
 returns-clause-doubt g c honest sure =
-    err_anyway c.remove_each.result (λ left may. inr (g.S.Store.files c.args.store.now, g.met.S.Store.files_may_be c.args.store.now, left_then g (goal.at.returns-clause-doubt g c).After-remove_each honest sure left may))
+    let at = (goal.at.returns-clause-doubt g c).After-remove_each in
+    on_err c.remove_each.result (λ found. inr (
+      found.0,
+      (g.S.Store.files c.put_head.new.store, put_first g at honest, found.1),
+      λ left may. inr (g.S.Store.files c.args.store.now, g.met.S.Store.files_may_be c.args.store.now, left_then g at honest sure left may),
+    )) (c.remove_each.ensures.stopped honest)

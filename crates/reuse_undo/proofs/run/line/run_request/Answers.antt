@@ -38,7 +38,7 @@ returns-in-Ok g c =
           (reports_of c.args.options (λ answer. (end : Point) × AnswersAfterStop request answer start end × Ends end) c.in-Ok.response old new outcome
           (answers_after_stop before request (Ok c.in-Ok.response) after start found (carries honest)) finishes);
       survives = λ honest start found.
-          let Ends = (λ (end : Point). MayBeFound g.S.Store left end.state end.next) in
+          let Ends = (λ (end : Point). MayBeFound g.S.Store left end.state end.next end.forgetting) in
           let Is = (λ (answer : Result Response Refusal). (end : Point) × AnswersAfterStop request answer start end × Ends end) in
           reports_end c.args.options (λ end answer. AnswersAfterStop request answer start end) Ends old new outcome
           (reports_of c.args.options Is c.in-Ok.response old new outcome (subst Is c.in-Ok.is (c.call-store.ensures.survives honest start found)) finishes);
@@ -70,7 +70,7 @@ returns-in-Err g c =
       machine = λ honest state held. (carries_step state before request (Err c.in-Err.refusal) after held (carries honest), refl);
       after_stop = λ honest start found. let at = answers_after_stop before request (Err c.in-Err.refusal) after start found (carries honest) in (at.0, (at.1, refl), at.2);
       survives = λ honest start found.
-          let at = subst (λ answer. (end : Point) × AnswersAfterStop request answer start end × MayBeFound g.S.Store left end.state end.next) c.in-Err.is
+          let at = subst (λ answer. (end : Point) × AnswersAfterStop request answer start end × MayBeFound g.S.Store left end.state end.next end.forgetting) c.in-Err.is
           (c.call-store.ensures.survives honest start found) in
           (at.0, (at.1, refl), at.2);
       drawn = λ honest held standing wants tree would. tt;
