@@ -1,6 +1,6 @@
 #!/usr/bin/env bash
-# Looks at the documents: the lists that scripts make of the sources can be made; each link leads to
-# a file, and to a heading of it; README has 120 lines at most, and the tutorial 80. No line outside
+# Looks at the documents: the lists that scripts make of the sources can be made; what the page on
+# the headline names is there; each link leads to a file, and to a heading of it; README has 120 lines at most, and the tutorial 80. No line outside
 # of tables and code has over 100 columns, and no cell over 25 words.
 # usage: tests/documents.sh PROGRAM      (which isn't run)
 set -euo pipefail
@@ -12,6 +12,13 @@ for script in index_of_clauses list_of_wrong_bodies; do
   "docs/$script.sh" > "$room/list" || fail "docs/$script.sh"
   (($(wc -l < "$room/list") > 300)) || fail "docs/$script.sh lists next to nothing"
 done
+
+# The definitions and types that the page on the headline names
+docs/theorem.py --all --names > "$room/names" || fail "docs/theorem.py"
+(($(wc -l < "$room/names") > 600)) || fail "docs/theorem.py lists next to nothing"
+while IFS= read -r name; do
+  grep -q " $name\$" "$room/names" || fail "docs/THEOREM.md: nothing is called $name"
+done < <(grep -oE '`[A-Z][A-Za-z]+`' docs/THEOREM.md | tr -d '`' | sort -u)
 
 # The headings of a document, as links name them, and the names of other places
 headings() {
