@@ -1,7 +1,8 @@
 #!/usr/bin/env bash
 # Looks at the documents: the lists that scripts make of the sources can be made; what the page on
-# the headline names is there; each link leads to a file, and to a heading of it; README has 120 lines at most, and the tutorial 80. No line outside
-# of tables and code has over 100 columns, and no cell over 25 words.
+# the headline names is there; each link leads to a file, and to a heading of it; README has 120
+# lines at most, and the tutorial 80. No line outside of tables and code has over 100 columns, and
+# no cell over 25 words.
 # usage: tests/documents.sh PROGRAM      (which isn't run)
 set -euo pipefail
 . "$(dirname "$0")/common.sh"
