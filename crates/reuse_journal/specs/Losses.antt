@@ -36,8 +36,8 @@ pub record IsSafeOn (earlier held : State) (left : Files) : Type 0 where
       ⊎ ((direction : PendingDirection) × (step : Recorded) × IsStep direction step earlier held
       × IsUnderWay direction step earlier left)
 
--- What a loss of power may open on beside a committed state: the one before it, where a step that led to it was stopped;
--- and whether ones that differ by forgotten steps, since a forget was stopped.
+-- What a loss of power may open on beside a committed state: the one before it, where a step that led to it was
+-- stopped; and whether ones that differ by forgotten steps, since a forget was stopped.
 pub record Earlier : Type 0 where
   pub state : State
   pub forgetting : Bool

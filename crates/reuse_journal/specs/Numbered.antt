@@ -36,7 +36,11 @@ steps_besides numbers steps = filter (λ (step : Recorded). not (is_one_of numbe
 
 -- the journal without the steps of these numbers, of which none is given out again
 abbrev pub journal_besides : List ℕ → Journal → Journal
-journal_besides numbers journal = record { done = steps_besides numbers journal.done; undone = steps_besides numbers journal.undone; used = journal.used }
+journal_besides numbers journal = record {
+  done = steps_besides numbers journal.done;
+  undone = steps_besides numbers journal.undone;
+  used = journal.used;
+}
 
 -- the same tree, beside that journal
 abbrev pub state_besides : List ℕ → State → State

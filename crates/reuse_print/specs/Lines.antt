@@ -64,11 +64,13 @@ some_paths_text names word (path ∷ paths) = lines_of names word (path ∷ path
 
 -- what a revert is printed as: the paths at which a step was taken back, and then those that were left
 abbrev pub reverted_text : Names → Reverted → List ℕ
-reverted_text names reverted = some_paths_text names (codes "changed") reverted.changed ++ lines_of names (codes "skipped") reverted.skipped
+reverted_text names reverted =
+    some_paths_text names (codes "changed") reverted.changed ++ lines_of names (codes "skipped") reverted.skipped
 
 -- what a recovery is printed as: the paths that were rolled back, and then those that were left
 abbrev pub recovered_text : Names → Recovered → List ℕ
-recovered_text names recovered = some_paths_text names (codes "set back") recovered.changed ++ lines_of names (codes "skipped") recovered.skipped
+recovered_text names recovered =
+    some_paths_text names (codes "set back") recovered.changed ++ lines_of names (codes "skipped") recovered.skipped
 
 -- what forgetting is printed as: a line for each number, or that there was none
 abbrev pub forgotten_line : ℕ → List ℕ

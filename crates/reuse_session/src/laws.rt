@@ -323,9 +323,9 @@ pub fn steps_follow_path_outcomes()
 {}
 
 /// Where no step is missing from its history, the model gives one answer to a request that names no
-/// step by its number, and is in one state then: an undo goes back to the tree before the last step,
-/// and a redo on to that after the next. No step is missing then either, unless steps are forgotten
-/// that are neither the oldest done nor the last undone.
+/// step by its number, and is in one state then: an undo goes back to the tree before the last
+/// step, and a redo on to that after the next. No step is missing then either, unless steps are
+/// forgotten that are neither the oldest done nor the last undone.
 pub fn model_gives_one_answer()
     ensures one { (state : Snapshots) (request : Request) (first second : Result Response Refusal) (next other : Snapshots) → IsUnbroken state → IsByTrees request
         → Gives state request first next → Gives state request second other → (first ≡ second) × (next ≡ other) }

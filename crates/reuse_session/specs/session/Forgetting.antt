@@ -9,7 +9,6 @@ use Rattle.reuse_change.specs.Tree.{Sets}
 use Rattle.reuse_store.specs.declared.store.Store.{Ghosts}
 use Rattle.reuse_command.specs.Answer.{IsStop, HasClash}
 use Rattle.reuse_session.specs.session.Calls.{files_of, folder_of}
-use Rattle.reuse_journal.specs.History.{Memory}
 use Rattle.reuse_journal.specs.Journal.{Recorded, Journal, State}
 use Rattle.reuse_journal.specs.JournalFiles.{head_path, entry_path, number_of, IsFree}
 use Rattle.reuse_journal.specs.Losses.{AreSafeOn, AreInDoubt, Earlier, IsSafe}
@@ -74,7 +73,9 @@ numbers_asked (Numbers numbers) state = numbers
 
 -- whether one of its steps has the number
 abbrev pub has_kept : Snapshots → ℕ → Bool
-has_kept state number = list_any (λ (kept : Kept). kept.label.number == number) state.past || list_any (λ (kept : Kept). kept.label.number == number) state.future
+has_kept state number =
+    list_any (λ (kept : Kept). kept.label.number == number) state.past
+    || list_any (λ (kept : Kept). kept.label.number == number) state.future
 
 -- the first of the numbers that none has
 abbrev pub first_unkept : Snapshots → List ℕ → Option ℕ

@@ -64,7 +64,11 @@ taken s when command after (path ∷ paths) = (
   Ok (Changed (path ∷ paths)),
   record {
     tree = after;
-    past = record { label = record { number = s.used + 1; when = when; command = command }; before = s.tree; after = after } ∷ s.past;
+    past = record {
+      label = record { number = s.used + 1; when = when; command = command };
+      before = s.tree;
+      after = after;
+    } ∷ s.past;
     future = [];
     used = s.used + 1;
   },

@@ -77,8 +77,8 @@ PreviewsBack state number skip_moved answer =
 
 -- ---- undo and redo
 
--- the step is taken back or made again, and the tree is this: the step leads from there to the tree before, or from that
--- on to there
+-- the step is taken back or made again, and the tree is this: the step leads from there to the tree before, or from
+-- that on to there
 abbrev pub replayed : Direction → Kept → List Kept → Snapshots → Files → Snapshots
 replayed go.Backward kept others state tree = record {
   tree = tree;

@@ -173,8 +173,8 @@ abbrev pub as_step : Result Response Refusal → Result Response Refusal
 as_step (Ok (responses.Reverted reverted)) = Ok (changed_or_none reverted.changed)
 as_step answer = answer
 
--- After a loss of power, at any moment of a call or of forgetting, what is left is the state before it or that after it.
--- What only reads leaves what was safe.
+-- After a loss of power, at any moment of a call or of forgetting, what is left is the state before it or that after
+-- it. What only reads leaves what was safe.
 abbrev pub SurvivesRequest : {S : Type 0} → Ghosts S → Request → Earlier → State → Result Response Refusal → S
     → Type 0
 SurvivesRequest store (requests.Make call when) earlier held answer new =

@@ -104,7 +104,8 @@ RevertFollows files number skip_moved when state result new =
     ((result ≡ Err (NoSuchStep number)) × All (λ (kept : Kept). ¬ (kept.label.number ≡ number)) state.past
     × StandsAt files new state)
     ⊎ ((changes : List Change) × LedBy number state.past changes
-    × Follows files (as_run result) new (ran_by state (Revert changes (changed_later number state.past changes) skip_moved) when))
+    × Follows files (as_run result) new
+    (ran_by state (Revert changes (changed_later number state.past changes) skip_moved) when))
 
 -- what is answered where the command of a revert is asked for: that which takes back the changes of a step of the
 -- number that is done, or that there is none

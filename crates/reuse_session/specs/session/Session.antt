@@ -111,8 +111,8 @@ IsRecordOf command when tree entry =
 abbrev pub StopsAfterRun : Command → ℕ → State → Files → Type 0
 StopsAfterRun command when first files = (second : State) × IsRun command when first second × InDoubt first second files
 
--- the second standing is that after the last step was taken back, or the next one made again, on a tree on which each of
--- its changes can be gone through
+-- the second standing is that after the last step was taken back, or the next one made again, on a tree on which each
+-- of its changes can be gone through
 pub record IsReplay (direction : Direction) (first second : State) : Type 0 where
   pub step : Recorded
   pub is_step : IsStep (listed_direction direction) step first second

@@ -24,8 +24,8 @@ use Rattle.reuse_command.specs.declared.failure.Failure.TheVariants.{Interrupted
 use Rattle.reuse_command.specs.declared.reply.Refusal.TheVariants.{Broken, Failed}
 
 -- Where a run is: whether a session is open, the state of the machine, and, where a call stopped since the last
--- opening, the state after its step, which may have been reached or not. And whether forgetting was stopped, and nothing
--- was changed since: then a loss of power may leave the history with the steps or without them.
+-- opening, the state after its step, which may have been reached or not. And whether forgetting was stopped, and
+-- nothing was changed since: then a loss of power may leave the history with the steps or without them.
 pub record Point : Type 0 where
   pub is_open : Bool
   pub state : Snapshots
@@ -71,7 +71,7 @@ abbrev pub Continues : Request → Result Response Refusal → Point → Point �
 Continues request (Err (Failed (Interrupted cause))) old new =
     MayFail request (Interrupted cause)
     × (given : Result Response Refusal) × (next : Snapshots) × Gives old.state request given next
-    × (new ≡ record { is_open = false; state = old.state; next = Some next; forgetting = forgets request || old.forgetting })
+    × (new ≡ record old { is_open = false; next = Some next; forgetting = forgets request || old.forgetting })
 Continues request (Err (Failed failure)) old new = MayFail request failure × (new ≡ old)
 Continues request answer old new = (next : Snapshots) × Gives old.state request answer next
     × (new ≡ open_at (not (is_lasting (as_step answer)) && old.forgetting) next)
@@ -80,8 +80,8 @@ Continues request answer old new = (next : Snapshots) × Gives old.state request
 abbrev pub done_numbers : Snapshots → List ℕ
 done_numbers state = map (λ (kept : Kept). kept.label.number) state.past
 
--- what a recovery reports of the step between two states: its number, which is done in one of them and not in the other,
--- and some paths at which their trees differ; no path is left
+-- what a recovery reports of the step between two states: its number, which is done in one of them and not in the
+-- other, and some paths at which their trees differ; no path is left
 pub record ReportsStep (state next : Snapshots) (told : Recovered) : Type 0 where
   pub number : ℕ
   pub is_number : told.number ≡ Some number

@@ -26,9 +26,9 @@ use reuse_session::{Answer, Counts, Request, Session, recover, recovered_answer}
 use reuse_store::Store;
 use std::alloc::Global;
 
-/// Answers the request that is asked for on the store, and writes the lines of the answer. The store
-/// is given back, how many paths it reports as changed, and what the call counted; where it can't
-/// be written, what the request changed stands.
+/// Answers the request on the store, and writes the lines of the answer. The store is given back,
+/// how many paths are reported as changed, and what the call counted; where the answer can't be
+/// written, what the request changed stands.
 pub fn run_request<S: Store + Drop, O: Sink>(
     alloc: Global,
     request: &Request,

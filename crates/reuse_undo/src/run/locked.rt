@@ -95,8 +95,8 @@ fn is_denied<R: Files<File = File> + AllocGlobal + Clone + Drop>(
     !extras.settings.trusts_journal && folder.is_journal_of_other(alloc)
 }
 
-/// The step that is pending, where it is noted that it is rolled back. A recovery prints which files
-/// of it were, so there it is noted with the other notes alone.
+/// The step that is pending, where it is noted that it is rolled back. A recovery prints which
+/// files of it were, so there it is noted with the other notes alone.
 fn step_to_note<R: Files<File = File> + AllocGlobal + Clone + Drop>(
     alloc: Global,
     folder: &mut DiskStore<R>,

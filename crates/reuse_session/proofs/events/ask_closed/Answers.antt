@@ -4,10 +4,7 @@ use Rattle.reuse_command.specs.declared.reply.Refusal.{Refusal}
 use Rattle.reuse_command.specs.declared.reply.Response.{Response}
 use Rattle.reuse_command.specs.declared.request.Request.{Request}
 use Rattle.reuse_command.specs.declared.request.Request.TheVariants as requests
-use Rattle.reuse_journal.specs.JournalFiles.{head_path}
 use Rattle.reuse_session.specs.session.Stops.{Point, AnswersClosed, AreLeft, MayBeFound}
-use Rattle.reuse_journal.proofs.JournalLemmas.{free_stays}
-use Rattle.reuse_session.proofs.lemmas.session.Answering.{err_as_answer}
 use Rattle.reuse_session.proofs.lemmas.session.ClosedRecovery.{recovers_closed, recovers_safely, refused_closed}
 use Rattle.reuse_session.proofs.events.ask_closed.Goals as goal
 

@@ -4,14 +4,13 @@ use Rattle.std.specs.FinMap.{get}
 use Rattle.std.specs.List.{All, AllByRecursion}
 use Rattle.std.proofs.lemmas.List.Elements.{All-cons, All-nil, recursion_from_All}
 use Rattle.reuse_change.specs.Change.{path_of, IsProper}
-use Rattle.reuse_change.specs.Entry.{AppliesBy, CanBeRolledBack, LeadsBy}
+use Rattle.reuse_change.specs.Entry.{AppliesBy, CanBeRolledBack}
 use Rattle.reuse_change.specs.Files.{Files, tree_of}
 use Rattle.reuse_change.specs.Tree.{undo_folder_of}
 use Rattle.reuse_change.specs.declared.change.Change.{Change}
 use Rattle.reuse_change.specs.declared.direction.Direction.{Direction}
 use Rattle.reuse_change.specs.declared.direction.Direction.TheVariants as go
 use Rattle.reuse_tree.specs.Head.{direction_of}
-use Rattle.reuse_tree.specs.declared.journal.head.Pending.{Pending}
 use Rattle.reuse_tree.specs.declared.journal.head.PendingDirection.{PendingDirection}
 use Rattle.reuse_tree.specs.declared.journal.head.PendingDirection.TheVariants as pending
 use Rattle.reuse_store.specs.declared.store.Store.{Ghosts}
@@ -23,13 +22,13 @@ use Rattle.reuse_command.specs.declared.reply.Response.TheVariants as responses
 use Rattle.reuse_command.specs.declared.request.Request.{Request}
 use Rattle.reuse_command.specs.declared.request.Request.TheVariants as requests
 use Rattle.reuse_journal.specs.Journal.{Journal, Recorded, State}
-use Rattle.reuse_journal.specs.JournalFiles.{entry_in, entry_path, number_of, KeepsJournal}
-use Rattle.reuse_journal.specs.Losses.{AreInDoubt, AreSafeOn, Earlier, SurvivesInDoubt, beyond}
-use Rattle.reuse_journal.specs.Recovery.{AreMade, AreStuck, HasNonePending, HasPending, IsRecovered, Picks, RecoversFiles, TellsRecovery}
+use Rattle.reuse_journal.specs.JournalFiles.{entry_in, entry_path, number_of}
+use Rattle.reuse_journal.specs.Losses.{AreInDoubt, AreSafeOn, Earlier, SurvivesInDoubt}
+use Rattle.reuse_journal.specs.Recovery.{HasPending, Picks, RecoversFiles, TellsRecovery}
 use Rattle.reuse_journal.specs.Standing.{InDoubt, IsStanding, IsStep, IsUnderWay, Mutations}
-use Rattle.reuse_session.specs.session.Machine.{Kept, Snapshots}
+use Rattle.reuse_session.specs.session.Machine.{Snapshots}
 use Rattle.reuse_session.specs.session.Requests.{as_answer}
-use Rattle.reuse_session.specs.session.Session.{HaveCopies, HoldsSnapshots}
+use Rattle.reuse_session.specs.session.Session.{HoldsSnapshots}
 use Rattle.reuse_session.specs.session.Stops.{Point, AnswersClosed, AreLeft, MayBeFound, Recovers, ReportsRecovery, ReportsStep, closed, done_numbers, open_at}
 use Rattle.reuse_change.proofs.Differ.{proper_differs}
 use Rattle.reuse_store.proofs.MadeLemmas.{settles_from}

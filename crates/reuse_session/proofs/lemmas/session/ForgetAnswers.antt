@@ -1,10 +1,8 @@
 -- How forgetting answers a request.
 use Rattle.std.proofs.Common.{◌≡◌, ◌↔◌, ◌⊎◌, ℕ, true, false, List, Option, Some, None, Result, Ok, Err, IfErr, refl, sym, ap, subst, ◌∙◌}
-use Rattle.reuse_change.specs.Files.{Files, Clashes}
 use Rattle.reuse_change.specs.Tree.{undo_folder_of}
-use Rattle.reuse_store.specs.declared.cause.Cause.{Cause}
 use Rattle.reuse_store.specs.declared.store.Store.{Ghosts}
-use Rattle.reuse_command.specs.Answer.{HasClash, IsEarly, IsStop, TellsNoFault}
+use Rattle.reuse_command.specs.Answer.{IsEarly, IsStop, TellsNoFault}
 use Rattle.reuse_command.specs.declared.failure.Failure.TheVariants.{Fault, Interrupted, Memory}
 use Rattle.reuse_command.specs.declared.reply.Refusal.{Refusal}
 use Rattle.reuse_command.specs.declared.reply.Refusal.TheVariants.{Broken, Failed, NoSuchStep}
@@ -12,12 +10,11 @@ use Rattle.reuse_command.specs.declared.reply.Response.TheVariants as responses
 use Rattle.reuse_command.specs.declared.request.Request.TheVariants as requests
 use Rattle.reuse_command.specs.declared.request.Steps.{Steps}
 use Rattle.reuse_journal.specs.Journal.{State}
-use Rattle.reuse_journal.specs.JournalFiles.{head_path}
 use Rattle.reuse_journal.specs.Numbered.{first_unlisted, state_besides}
 use Rattle.reuse_journal.specs.Standing.{IsStanding}
 use Rattle.reuse_session.specs.declared.session.Session.{Session}
 use Rattle.reuse_session.specs.session.Calls.{IsCall, files_of}
-use Rattle.reuse_session.specs.session.Forgetting.{AreInOrder, Forgets, IsForgetRefusal, IsSameButGone, LeavesForgetting, SurvivesForgetting, SurvivesToForget, asked_numbers, first_absent}
+use Rattle.reuse_session.specs.session.Forgetting.{AreInOrder, Forgets, IsForgetRefusal, IsSameButGone, LeavesForgetting, SurvivesForgetting, SurvivesToForget, asked_numbers}
 use Rattle.reuse_session.specs.session.Requests.{IfFailed, IsAnswered, IsStopped, MayFail, as_answer}
 use Rattle.reuse_session.specs.session.Session.{StandsOn, is_broken, memory_of, store_of}
 use Rattle.reuse_session.proofs.lemmas.journal.StepAnswers.{back_no_clash}

@@ -1,16 +1,14 @@
 -- What a loss of power may leave where forgetting stopped.
 use Rattle.std.proofs.Common.{◌≡◌, ◌⊎◌, inl, inr, ⊎_elim, ℕ, Bool, true, false, not, cond, ◌||◌, ◌==◌, List, [], ◌∷◌, ◌++◌, Some, take, refl, sym, ap, subst, ◌∙◌}
-use Rattle.std.specs.Prelude.{filter}
-use Rattle.std.specs.List.{All, list_any}
 use Rattle.std.proofs.lemmas.List.Elements.{All-filter}
 use Rattle.std.proofs.lemmas.List.Folds.{list_any-append}
 use Rattle.reuse_store.specs.Asked.{Leaves}
 use Rattle.reuse_store.specs.declared.store.Store.{Ghosts}
 use Rattle.reuse_change.specs.Files.{Files}
 use Rattle.reuse_change.specs.Tree.{Sets, undo_folder_of}
-use Rattle.reuse_journal.specs.Journal.{Journal, Recorded, State}
+use Rattle.reuse_journal.specs.Journal.{Recorded, State}
 use Rattle.reuse_journal.specs.JournalFiles.{head_path, number_of, IsKeptIn}
-use Rattle.reuse_journal.specs.Losses.{AreInDoubt, AreSafeOn, DifferByForgotten, Earlier, HasEntries, IsSafe, IsSafeBeside, IsSafeOn, beyond}
+use Rattle.reuse_journal.specs.Losses.{AreInDoubt, AreSafeOn, Earlier, HasEntries, IsSafe, beyond}
 use Rattle.reuse_journal.specs.Numbered.{is_one_of, state_besides, steps_besides}
 use Rattle.reuse_journal.specs.Standing.{IsStanding}
 use Rattle.reuse_session.specs.session.Forgetting.{PutsAndRemoves, PutsAndRemovesSome, StopsWithRemovals}

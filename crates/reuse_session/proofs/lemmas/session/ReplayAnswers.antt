@@ -1,6 +1,6 @@
 -- How an undo and a redo answer a request: alike, but for their direction.
 use Rattle.std.proofs.Common.{◌≡◌, ◌↔◌, ℕ, true, List, [], ◌∷◌, Result, Ok, Err, IfErr, refl, sym, subst}
-use Rattle.reuse_change.specs.Files.{Files, Clashes}
+use Rattle.reuse_change.specs.Files.{Clashes}
 use Rattle.reuse_change.specs.declared.direction.Direction.{Direction}
 use Rattle.reuse_change.specs.declared.direction.Direction.TheVariants as direction
 use Rattle.reuse_store.specs.declared.store.Store.{Ghosts}

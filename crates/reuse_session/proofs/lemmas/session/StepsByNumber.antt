@@ -5,15 +5,14 @@ use Rattle.std.specs.FinMap.{get}
 use Rattle.std.proofs.lemmas.Bool.{false≢true, or_parts}
 use Rattle.std.proofs.lemmas.Option.{none-some, same_Some}
 use Rattle.std.proofs.lemmas.List.{reverse-append, reverse-reverse}
-use Rattle.std.proofs.lemmas.List.Elements.{Contains-append_left, Contains-append_right, Contains-get_or, Contains-push_cases}
+use Rattle.std.proofs.lemmas.List.Elements.{Contains-get_or, Contains-push_cases}
 use Rattle.std.proofs.lemmas.List.Folds.{list_any_at, Any-from_list_any}
 use Rattle.reuse_change.specs.Files.{Files}
 use Rattle.reuse_command.specs.Answer.{IsReadRefusal}
 use Rattle.reuse_journal.specs.History.{Memory, row_listing}
-use Rattle.reuse_journal.specs.Journal.{Recorded, Journal, State, rows_in}
+use Rattle.reuse_journal.specs.Journal.{Recorded, Journal, State}
 use Rattle.reuse_journal.specs.JournalFiles.{entry_path, entry_in, number_of, EntrySays, IsKeptIn, KeepsJournal}
 use Rattle.reuse_session.specs.session.Machine.{Connects, Kept, Snapshots}
-use Rattle.reuse_journal.specs.Labels.{row_of}
 use Rattle.reuse_session.specs.session.Session.{store_of, memory_of, StandsOn, HoldsSnapshots, HaveCopies}
 use Rattle.reuse_journal.specs.Remembered.{listed_as, Remembers}
 use Rattle.reuse_session.specs.session.Showing.{steps_in, kept_in, IsUnused, Shows, ShowsAt, LedBy}

@@ -23,8 +23,8 @@ use Rattle.reuse_command.specs.declared.request.Steps.{Steps}
 use Rattle.reuse_journal.specs.Labels.{is_full}
 use Rattle.reuse_plan.specs.Outcome.{outcome_of}
 use Rattle.reuse_session.specs.session.Forgetting.{ForgetsTo, numbers_asked, snapshots_besides}
-use Rattle.reuse_session.specs.session.Machine.{Connects, IsUnbroken, Kept, LeadOn, LedUpTo, Snapshots, Step, ran, ran_by, redo_path_outcomes, redone, taken, undo_path_outcomes, undone}
-use Rattle.reuse_session.specs.session.Model.{AreOf, Gives, GoesThrough, IsUnkept, MakesTo, PreviewsReplayTo, ReplaysTo, RevertsTo, TakesFromTheEnds, as_reverted, command_back, replayed}
+use Rattle.reuse_session.specs.session.Machine.{Connects, IsUnbroken, Kept, LeadOn, LedUpTo, Snapshots, ran, ran_by, redo_path_outcomes, redone, taken, undo_path_outcomes, undone}
+use Rattle.reuse_session.specs.session.Model.{AreOf, Gives, GoesThrough, IsUnkept, MakesTo, PreviewsReplayTo, ReplaysTo, TakesFromTheEnds, as_reverted, command_back, replayed}
 use Rattle.reuse_session.specs.session.Showing.{LedBy}
 use Rattle.reuse_change.proofs.Differ.{changed_by_entry}
 use Rattle.reuse_change.proofs.Walk.{can_lead, leads_back, leads_once, none_stuck}

@@ -1,5 +1,5 @@
 -- What a recovery is answered and leaves, and that any other request is answered by a session.
-use Rattle.std.proofs.Common.{◌≡◌, ◌≢◌, ◌∙◌, ℕ, Bool, Result, Ok, Err, IfOk, IfErr, refl, ap, codes}
+use Rattle.std.proofs.Common.{◌≡◌, ◌≢◌, ◌∙◌, inl, ℕ, Bool, [], Result, Ok, Err, IfOk, IfErr, refl, ap, codes}
 use Rattle.std.specs.FinMap.{get}
 use Rattle.std.specs.declared.vec.Vec.{Vec}
 use Rattle.reuse_change.specs.Files.{Files}
@@ -21,8 +21,10 @@ use Rattle.reuse_print.specs.declared.fault.Fault.{Fault}
 use Rattle.reuse_arguments.specs.declared.line.PrintOptions.{PrintOptions}
 use Rattle.reuse_undo.specs.run.AfterStops.{AnswersAfterStop, OpensToAnswer}
 use Rattle.reuse_undo.specs.run.Called.{IsCalled}
+use Rattle.reuse_undo.specs.run.Drawn.{IsDiffOfCall}
 use Rattle.reuse_undo.specs.run.Recoveries.{RefusesToRecover}
 use Rattle.reuse_undo.specs.run.RunLine.{RequestLeaves, SessionLeaves}
+use Rattle.reuse_undo.specs.print.Responses.{IsDiffOf, IsDrawnPreview}
 use Rattle.reuse_journal.proofs.PendingRecovery.{none_in_files}
 
 -- no step is pending in files that are a standing
@@ -48,10 +50,16 @@ refuses skip_moved before after (Err refusal) is exact clash early stopped = rec
   stopped = λ cause e. stopped cause (ap (λ r. Err r) e);
 }
 
--- what holds of each response holds of that of an answer
-pub of_any : {A E : Type 0} (answer : Result A E) (P : A → Type 0) → ((value : A) → P value) → IfOk answer P
-of_any (Ok value) P all = all value
-of_any (Err error) P all = tt
+-- no diff stands behind its answer
+pub none_of : {A : Type 0} (options : PrintOptions) (answer : Result Response Refusal) (text : Vec ℕ A) → text.items ≡ [] → IfOk answer (λ response. IsDiffOf options response (Ok text))
+none_of options (Ok response) text none = inl none
+none_of options (Err refusal) text none = tt
+
+-- since none is a dry run
+pub none_drawn : {A : Type 0} (options : PrintOptions) (skip_moved : Bool) (held : State) (answer : Result Response Refusal) (text : Vec ℕ A)
+    → IfOk answer (λ response. IsDrawnPreview options response → IsDiffOfCall (requests.Recover skip_moved) held text.items)
+none_drawn options skip_moved held (Ok response) text = λ drawn after would. absurd would
+none_drawn options skip_moved held (Err refusal) text = tt
 
 -- any other request is answered by a session
 pub called_besides : {S A : Type 0} (store : Ghosts S) (request : Request) (options : PrintOptions) (old new : S) (answer : Result Response Refusal) (diff : Result (Vec ℕ A) Fault) → ((skip_moved : Bool) → request ≢ requests.Recover skip_moved)

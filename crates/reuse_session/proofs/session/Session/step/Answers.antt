@@ -13,9 +13,7 @@ use Rattle.reuse_tree.specs.Head.{direction_of}
 use Rattle.reuse_command.specs.Answer.{HasCause}
 use Rattle.reuse_journal.specs.History.{head_listing}
 use Rattle.reuse_journal.specs.JournalFiles.{head_path}
-use Rattle.reuse_journal.specs.Journal.{State}
 use Rattle.reuse_journal.specs.Losses.{StopsWithDoubt}
-use Rattle.reuse_journal.specs.Standing.{IsStanding}
 use Rattle.reuse_session.proofs.lemmas.journal.StepDoubt.{stops_in_doubt}
 use Rattle.reuse_session.specs.session.Session.{store_of, memory_of}
 use Rattle.reuse_journal.specs.Remembered.{head_room, listed_count}

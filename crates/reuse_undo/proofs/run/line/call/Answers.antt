@@ -1,4 +1,4 @@
-use Rattle.std.proofs.Common.{◌<◌, inl, IfErr, refl, sym, subst}
+use Rattle.std.proofs.Common.{◌<◌, IfErr, refl, sym, subst}
 use Rattle.reuse_command.specs.Answer.{HasCause}
 use Rattle.reuse_command.specs.declared.reply.Response.TheVariants as responses
 use Rattle.reuse_command.specs.declared.request.Request.TheVariants as requests
@@ -10,7 +10,7 @@ use Rattle.reuse_undo.specs.run.RunLine.{RequestLeaves}
 use Rattle.reuse_command.proofs.OnlyReading.{early_files}
 use Rattle.reuse_session.proofs.lemmas.session.Answering.{err_as_answer}
 use Rattle.reuse_session.proofs.lemmas.session.ClosedRecovery.{recovers_safely}
-use Rattle.reuse_undo.proofs.lemmas.run.RecoveryLemmas.{called_besides, none_pending, of_any, refuses}
+use Rattle.reuse_undo.proofs.lemmas.run.RecoveryLemmas.{called_besides, none_drawn, none_of, none_pending, refuses}
 use Rattle.reuse_undo.proofs.run.line.call.Goals as goal
 
 pub returns-in-Recover : goal.returns-in-Recover
@@ -44,8 +44,8 @@ returns-in-Recover g c =
       fault = subst (λ a. IfErr a (HasCause (store.failures old < store.failures new))) (sym c.recovered_answer-answer.ensures) (err_as_answer responses.Recovered told _ recover.fault);
       clash = λ honest held standing.
           subst (λ a. IfErr a (HasCallClash (requests.Recover skip_moved) held before)) (sym c.recovered_answer-answer.ensures) (err_as_answer responses.Recovered told _ (recover.clash honest));
-      diff_of = of_any answer _ (λ response. inl refl);
-      drawn = λ honest held standing. of_any answer _ (λ response drawn after would. absurd would);
+      diff_of = none_of options answer c.new.result refl;
+      drawn = λ honest held standing. none_drawn options skip_moved held answer c.new.result;
       undrawn = tt;
       failures = recover.later.failures;
       was_honest = recover.later.was_honest;
