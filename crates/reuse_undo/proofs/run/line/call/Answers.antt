@@ -44,7 +44,7 @@ returns-in-Recover g c =
       fault = subst (λ a. IfErr a (HasCause (store.failures old < store.failures new))) (sym c.recovered_answer-answer.ensures) (err_as_answer responses.Recovered told _ recover.fault);
       clash = λ honest held standing.
           subst (λ a. IfErr a (HasCallClash (requests.Recover skip_moved) held before)) (sym c.recovered_answer-answer.ensures) (err_as_answer responses.Recovered told _ (recover.clash honest));
-      diff_of = none_of options answer c.new.result refl;
+      diff_of = none_of options answer c.new.result c.new.ensures.items;
       drawn = λ honest held standing. none_drawn options skip_moved held answer c.new.result;
       undrawn = tt;
       failures = recover.later.failures;
