@@ -1,4 +1,4 @@
-use Rattle.std.proofs.Common.{◌<◌, IfErr, refl, sym, subst}
+use Rattle.std.proofs.Common.{◌<◌, Ok, IfErr, refl, sym, subst}
 use Rattle.reuse_command.specs.Answer.{HasCause}
 use Rattle.reuse_command.specs.declared.reply.Response.TheVariants as responses
 use Rattle.reuse_command.specs.declared.request.Request.TheVariants as requests
@@ -24,7 +24,7 @@ returns-in-Recover g c =
     let new = c.recover-store.result.0 in
     let before = store.files old in
     let answer = c.recovered_answer-answer.result in
-    subst (λ r. IsCalled store RequestLeaves AnswersAfterStop r options old new answer _) (sym c.in-Recover.is) (record {
+    subst (λ r. IsCalled store RequestLeaves AnswersAfterStop r options old new answer (Ok c.new.result)) (sym c.in-Recover.is) (record {
       carries = λ honest. (
         told,
         c.recovered_answer-answer.ensures,
