@@ -6,13 +6,12 @@
 # crates. A crate whose edits passed is passed over until a file that was read changes. The last
 # line counts the edits.
 # RT_JOBS: how many checks run side by side.
-# usage: tests/wrong_bodies.sh [-g LOG] [CRATE..]      (by default each crate that has edits)
-#   -g LOG   goes along with `rt ci`, of which LOG is what it says, and takes its libraries;
-#            otherwise begins with what `rt check` kept
+# usage: tests/wrong_bodies.sh [-g] [CRATE..]      (by default each crate that has edits)
+#   -g   the gate has passed: begins with what it kept, and else with what `rt check` kept
 set -euo pipefail
 top=$(cd "$(dirname "$0")/.." && pwd)
 begin=checks
-if [ "${1:-}" = -g ]; then begin=$(realpath -e "$2"); shift 2; fi
+if [ "${1:-}" = -g ]; then begin=gate; shift; fi
 room=$(mktemp -d)
 trap 'rm -rf "$room"' EXIT
 

@@ -4,48 +4,60 @@ A body is checked against contracts alone, so one check of a copy tells of many 
 edited function, or a closure of it, must be among those of which a goal of its own fails. That a
 function which it calls isn't proved says nothing of it. What a round leaves open is tried once more
 with less beside it, and then alone.
-
-A check is asked for the edited functions alone. It also proves what they call, and the lemmas that
-they cite. The first round of a crate keeps that, and the others begin with it. That a crate is
-proved as it stands is left to the gate, or to `rt check`.
-usage: rounds.py TOP ROOM LANES LOG|checks CRATE..
+usage: rounds.py TOP ROOM LANES gate|checks CRATE..
     TOP is the repository, of which ROOM, an empty folder, gets a copy. So many LANES of checks run
-    side by side. LOG is what `rt ci` says in TOP while it runs, with a last line 'rt ci ended with
-    status N'. The edits of a crate begin once it has proved those below, on lanes that it leaves
-    idle. With the word checks they begin with what `rt check` kept.
+    side by side. The libraries there are those that the gate kept, or that checks kept.
 """
 import collections
 import concurrent.futures
-import contextlib
+import glob
 import hashlib
-import heapq
 import importlib.machinery
 import math
 import os
 import re
-import resource
 import shutil
 import signal
 import subprocess
 import sys
 import tempfile
-import threading
 import time
 import types
 
 sys.dont_write_bytecode = True
-
-from edits import BAD, LIMIT, OPEN, REFUSED, SAID, Edit, Sources, edits_of
-from verdicts import Verdict
-
 PARTS = ("src", "specs", "proofs")
 # The most edits of a round
-MOST = 40
-# The free memory, in bytes, with which a check begins, and what one takes that is a minute old
-FREE, TAKES = 4_500_000_000, 2_500_000_000
+MOST = 25
 # Which crates passed, by the sums of all that was read
 CACHE = os.environ.get("XDG_CACHE_HOME") or os.path.expanduser("~/.cache")
 KEPT = f"{CACHE}/reuse-undo/wrong-bodies"
+# What became of an edit, and what is said of it. (LIMIT: the prover met a limit of its own.)
+OPEN, REFUSED, LIMIT, PROVED, NAMED, BAD, UNTRIED = range(7)
+SAID = {
+    PROVED: "NOT REFUSED",
+    NAMED: "ONLY BY A NAME",
+    BAD: "BAD EDIT",
+    UNTRIED: "NOT TRIED",
+}
+# The last line of a check that came to the prover
+ENDS = re.compile(r"(?m)^(?:logic=|only=|rattle: no verdict)")
+# An error: its file, line and text
+ERROR = re.compile(r"(?m)^(?:\./)?((?:src|specs|proofs)/[^:\s]+):(\d+):\d+: error\S*(.*)")
+# A goal that isn't proved, of the function whose line is the next
+GOAL = re.compile(r"note: src/\S+:\d+:\d+: .*not proved")
+# A function's line, and what it says if it waits for the proof of another
+FUNCTION = re.compile(r"fn (\S+): (.*)")
+WAITS = re.compile(r"it calls|it passes|a call of|it waits|it reaches|depends on")
+# Errors of a proof that only cites a name which is gone, or what another proof would give
+CITES = re.compile(r"has no field|is not in scope|has no `|was not admitted")
+# Errors at which a text of src/ or specs/ can't be read
+UNREAD = re.compile(
+    r"is not in scope|has no field|is no name|operand is missing|expected the end|cannot continue"
+)
+LIMITS = re.compile(
+    r"antt ran out of (stack|the (steps|memory) that the check of one declaration may (take|use))"
+    r"|(outgrew the memory limit|stopped at the step limit) \("
+)
 
 
 def load_kit():
@@ -57,126 +69,194 @@ def load_kit():
     return made
 
 
-class Lanes:
-    """Places for checks side by side, where memory has room: first for the crate of most text."""
+def words_of(text):
+    """Returns the names in a type or trait, without lifetimes and the paths before them."""
+    return [it for it in re.findall(r"'?\w+(?:\s*::)?", text) if re.fullmatch(r"[A-Za-z]\w*", it)]
 
-    def __init__(self, number, gate=None):
-        self.number, self.gate, self.began, self.waiting = number, gate, [], []
-        self.turn, self.running, self.is_ended = threading.Condition(), set(), False
 
-    def has_place(self):
-        others = self.gate.checks() if self.gate else 0
-        if len(self.began) + others >= self.number:
+class Function:
+    """A function of a .rt file in the layout of `rt fmt`, by which lines tell where it ends."""
+
+    HEAD = re.compile(r"( *)(?:pub(?:\(.*?\))? )?(?:(?:const|unsafe|final) )*fn (\w+)")
+    BLOCK = re.compile(r"( *)(?:pub(?:\(.*?\))? )?(?:unsafe )?(impl|trait|mod)\b(.*)")
+
+    def __init__(self, path, lines, first):
+        indent, self.name = self.HEAD.match(lines[first]).groups()
+        self.path, self.first, self.last = path, first, self.end(lines, first, indent)
+        inside = re.sub(r"(^|/)(lib|main|mod)$", "", path[len("src/") : -len(".rt")])
+        self.modules = inside.split("/") if inside else []
+        self.owner, self.is_of_trait = [], False
+        for at in range(first):
+            block = self.BLOCK.match(lines[at])
+            if block and len(block[1]) < len(indent) and self.end(lines, at, block[1]) > first:
+                self.enter(block[2], " ".join([block[3], *lines[at + 1 : first]]))
+
+    @staticmethod
+    def end(lines, first, indent):
+        """Returns the last line of an item that begins there."""
+        if lines[first].endswith(";") or re.search(r"\{.*\}$", lines[first]):
+            return first
+        rest = range(first + 1, len(lines))
+        return next((it for it in rest if lines[it] in (indent + "}", indent + ";")), len(lines))
+
+    def enter(self, kind, head):
+        """Notes a module, or the names of the impl or the trait that it stands in."""
+        head = head.partition("{")[0]
+        if kind == "mod":
+            self.modules.append(head.strip())
+            return
+        generics = ""
+        if head.startswith("<"):
+            depth = [0]
+            for before, it in zip(" " + head, head):
+                depth.append(depth[-1] + (it == "<") - (it == ">" and before != "-"))
+            cut = depth.index(0, 1)
+            generics, head = head[:cut], head[cut:]
+        head = re.split(r"\bwhere\b", head)[0]
+        trait, _, of = head.rpartition(" for ") if kind == "impl" else ("", "", head.split(":")[0])
+        bound = {*re.findall(r"[<,]\s*(?:const )?(\w+)", generics), "mut", "const", "dyn", "Self"}
+        self.owner = [it for it in words_of(of) + words_of(trait) if it not in bound]
+        self.is_of_trait = bool(trait)
+
+    def names(self, crate, listed):
+        """Returns its name in a check of the crate, or None, and how its closures' begin."""
+        start = "::".join([crate, *self.modules, ""])
+        path = [self.name]
+        if self.owner:
+            inside = [it[len(start) :].split("::") for it in listed if it.startswith(start)]
+            owners = {it[0] for it in inside if len(it) == 2 and it[1] == self.name}
+            plain = [it.replace("_", "").lower() for it in self.owner]
+            fits = [it for it in owners if all(w in it.replace("_", "").lower() for w in plain)]
+            exact = [it for it in fits if it == "".join(self.owner)]
+            if self.is_of_trait:
+                exact = exact or sorted(fits, key=lambda it: (len(it), it))
+            path = [*exact[:1], self.name]
+        name = start + "::".join(path)
+        is_found = name in listed and len(path) == 1 + bool(self.owner)
+        return name if is_found else None, start + "::".join(["fn", *path, ""])
+
+
+class Edit:
+    """A file of must-fail: what it changes, and what became of it."""
+
+    def __init__(self, top, file):
+        self.file, self.shown = file, os.path.relpath(file, top)
+        # The changed lines by file and number, the functions, and their names in a check
+        self.lines, self.functions, self.names, self.closures = {}, [], [], []
+        self.state, self.why, self.tries, self.is_alone = OPEN, "", 0, False
+
+    def settle(self, state, why=""):
+        self.state, self.why = state, why
+
+    def read(self, sources):
+        """Returns why it can't be applied, or None. Later pairs apply to what the earlier made."""
+        path, old, texts = "", "", {}
+        with open(self.file, encoding="utf-8") as it:
+            rows = it.read().split("\n")
+        for row in rows:
+            if row.startswith("file: "):
+                path = row[len("file: ") :].strip()
+                if path not in sources:
+                    return f"there is no file {path} below src/"
+                texts.setdefault(path, sources[path])
+            elif row.startswith("old: "):
+                old = row[len("old: ") :]
+            elif row.startswith("new:"):
+                if not path or not old:
+                    return "a 'new:' line stands before any 'file:' or 'old:' line"
+                found = texts[path].count(old)
+                if found != 1:
+                    return f"an 'old:' text stands in {path} {found} times, and not once: {old}"
+                new = row[len("new: ") :] if row[4:5] == " " else row[len("new:") :]
+                texts[path], old = texts[path].replace(old, new), ""
+        for path, text in texts.items():
+            pairs = enumerate(zip(sources[path].split("\n"), text.split("\n")))
+            self.lines.update({(path, at): now for at, (was, now) in pairs if was != now})
+        return None if self.lines and not old else "it changes nothing, or an 'old:' has no 'new:'"
+
+    def find(self, functions, crate, listed):
+        """Finds the functions in which its lines stand. If one has no name, it is tried alone."""
+        for path, at in self.lines:
+            around = [f for f in functions if f.path == path and f.first <= at <= f.last]
+            inner = max(around, key=lambda it: it.first, default=None)
+            name, closures = inner.names(crate, listed) if inner else (None, "")
+            if not name:
+                self.functions, self.names, self.closures, self.is_alone = [], [], [], True
+                return
+            if name not in self.names:
+                self.functions.append(inner)
+                self.names.append(name)
+                self.closures.append(closures)
+
+    def holds(self, path, line):
+        """Returns whether a line of a file, counted from 1, is in what it changes."""
+        places = [(it.path, it.first, it.last) for it in self.functions]
+        places += [(path, at, at) for path, at in self.lines]
+        return any(it == path and first < line <= last + 1 for it, first, last in places)
+
+
+class Verdict:
+    """What a check said of a crate's functions."""
+
+    def __init__(self, crate, status, said):
+        self.crate, self.status, self.said = crate, status, said
+        self.came_to_prover = bool(ENDS.search(said))
+        self.errors = [(path, int(line), text) for path, line, text in ERROR.findall(said)]
+        # What is said of each function, and whether goals of its own aren't proved
+        self.functions, self.goals, has_goals = {}, {}, False
+        for line in said.split("\n"):
+            found = FUNCTION.match(line)
+            if found:
+                self.functions[found[1]], self.goals[found[1]] = found[2], has_goals
+            has_goals = not found and (has_goals or bool(GOAL.match(line)))
+
+    def fails(self, name):
+        """Returns whether a goal of the function's own, and not only of what it calls, fails."""
+        said = self.functions[name]
+        if not said.startswith(("not proved", "no proof")):
             return False
-        with open("/proc/meminfo", encoding="utf-8") as it:
-            free = 1024 * int(re.search(r"MemAvailable:\s+(\d+)", it.read())[1])
-        young = sum(it > time.monotonic() - 60 for it in self.began)
-        return not self.began or free - TAKES * young >= FREE
+        place = "/".join(["proofs", *name.split("::")[1:], ""])
+        errors = [text for path, _, text in self.errors if path.startswith(place)]
+        if self.goals[name] or any(not CITES.search(it) for it in errors):
+            return True
+        return not errors and not WAITS.search(said)
 
-    @contextlib.contextmanager
-    def place(self, size):
-        with self.turn:
-            mine = (-size, time.monotonic(), threading.get_ident())
-            heapq.heappush(self.waiting, mine)
-            while not self.is_ended and (self.waiting[0] != mine or not self.has_place()):
-                self.turn.wait(2)
-            self.waiting.remove(mine)
-            heapq.heapify(self.waiting)
-            began = time.monotonic()
-            self.began.append(began)
-            self.turn.notify_all()
-        try:
-            yield
-        finally:
-            with self.turn:
-                self.began.remove(began)
-                self.turn.notify_all()
+    def refuses(self, edit):
+        """Returns whether a function of the edit fails, or any function if it lies in none."""
+        starts = tuple(edit.closures)
+        names = [it for it in self.functions if it in edit.names or it.startswith(starts)]
+        return any(self.fails(it) for it in (names if edit.names else self.functions))
 
-    def run(self, words, **how):
-        """Runs a command, unless the checks were ended, and returns its status and what it said."""
-        with self.turn:
-            if self.is_ended:
-                return 1, ""
-            ran = subprocess.Popen(words, **how)
-            self.running.add(ran)
-        said = ran.communicate()[0]
-        with self.turn:
-            self.running.remove(ran)
-        return ran.returncode, said
+    def proves(self, edit):
+        """Returns whether each function of the edit is proved."""
+        found = [self.functions.get(it, "") for it in edit.names]
+        return bool(found) and all(it.startswith("proved") for it in found)
 
-    def end(self):
-        with self.turn:
-            self.is_ended = True
-            for it in self.running:
-                it.kill()
-            self.turn.notify_all()
+    def unread(self):
+        """Returns the errors at which a text can't be read or compiled."""
+        if not self.came_to_prover:
+            return self.errors
+        stated = [it for it in self.errors if not it[0].startswith("proofs/")]
+        return [it for it in stated if UNREAD.search(it[2])]
 
-
-class Gate:
-    """A run of `rt ci`: the crates that it has proved, and the libraries that it made of them."""
-
-    TELLS = re.compile(r"rt: (\w+) (?:proved|is kept: .*)\n")
-    ENDS = re.compile(r"rt ci ended with status (\d+)\n")
-
-    def __init__(self, log, top, room, names):
-        self.proved = {it: threading.Event() for it in names}
-        self.status, self.ends = None, threading.Event()
-        self.log, self.top, self.room = log, f"{top}/crates", f"{room}/crates"
-
-    def follow(self):
-        """Reads what the gate says until it has ended, and takes each library."""
-        with open(self.log, encoding="utf-8", errors="replace") as log:
-            line = ""
-            while self.status is None:
-                line += log.readline()
-                if not line.endswith("\n"):
-                    time.sleep(1)
-                    continue
-                told, ended = self.TELLS.fullmatch(line), self.ENDS.fullmatch(line)
-                if told and told[1] in self.proved:
-                    self.take(told[1])
-                    self.proved[told[1]].set()
-                self.status, line = int(ended[1]) if ended else None, ""
-        self.ends.set()
-
-    def take(self, name):
-        """Takes the library of a crate, which the gate replaces when it has ended."""
-        made = f"{self.top}/{name}/out/rlib"
-        if os.path.isdir(made):
-            shutil.copytree(made, f"{self.room}/{name}/out/rlib", copy_function=link_or_copy)
-
-    def has_proved(self, names):
-        """Waits until the gate has proved these crates or has ended, and returns whether it has."""
-        for it in names:
-            while not self.proved[it].wait(1) and not self.ends.is_set():
-                pass
-        return all(self.proved[it].is_set() for it in names)
-
-    def checks(self):
-        """Returns how many checks it has under way. Each runs in the folder of a crate."""
-        found = 0
-        for it in [] if self.ends.is_set() else filter(str.isdigit, os.listdir("/proc")):
-            with contextlib.suppress(OSError):
-                program, at = os.readlink(f"/proc/{it}/exe"), os.readlink(f"/proc/{it}/cwd")
-                found += program.endswith("/rattle") and at.startswith(f"{self.top}/")
-        return found
+    def tells(self):
+        """Returns a line that says why it came to no verdict."""
+        lines = [it for it in self.said.split("\n") if "error" in it] or [self.said.strip()[-200:]]
+        return f"the check ended with status {self.status}: {lines[0][:300]}"
 
 
 class Crate:
     """A crate whose edits are tried."""
 
-    def __init__(self, kit, top, crate, lanes, jobs):
+    def __init__(self, kit, top, crate, checks, jobs):
         self.kit, self.crate, self.name, self.folder = kit, crate, crate.name, crate.folder
-        self.lanes, self.jobs, self.rounds = lanes, jobs, 0
+        self.checks, self.jobs, self.rounds, self.sources = checks, jobs, 0, {}
         self.kept = f"{self.folder}/out/incremental"
-        self.sources = Sources(self.name, self.folder)
+        for at, _, names in os.walk(f"{self.folder}/src"):
+            for name in names:
+                with open(f"{at}/{name}", encoding="utf-8") as it:
+                    self.sources[os.path.relpath(f"{at}/{name}", self.folder)] = it.read()
         self.edits = [Edit(top, it) for it in edits_of(top, self.name)]
-        for edit in self.edits:
-            why = edit.read(self.sources)
-            if why:
-                edit.settle(BAD, why)
-            else:
-                edit.find(self.sources)
 
     def check(self, folder, kept, *flags):
         """Checks the crate's text in a folder, over what was kept, and returns what was said."""
@@ -184,11 +264,31 @@ class Crate:
         words += [*self.crate.words([*flags], keeps=False), "--incremental", kept]
         how = {"cwd": folder, "stdin": subprocess.DEVNULL, "stdout": subprocess.PIPE}
         how.update(stderr=subprocess.STDOUT, encoding="utf-8", errors="replace")
-        status, said = self.lanes.run(words, **how)
-        if status == -signal.SIGKILL:
+        ran = subprocess.run(words, **how)
+        if ran.returncode == -signal.SIGKILL:
             # (most likely for memory)
-            status, said = self.lanes.run(words, **how)
-        return Verdict(status, said)
+            ran = subprocess.run(words, **how)
+        return Verdict(self.name, ran.returncode, ran.stdout)
+
+    def begin(self):
+        """Proves the crate as it stands, which rounds begin with, and returns whether it is."""
+        os.makedirs(self.kept, exist_ok=True)
+        verdict = self.checks(self.check, self.folder, self.kept, "--jobs", str(self.jobs))
+        if verdict.status:
+            print(f"{self.name} isn't proved as it stands: {verdict.tells()}", flush=True)
+            return False
+        functions = []
+        for path, text in self.sources.items():
+            lines = text.split("\n")
+            heads = [at for at, it in enumerate(lines) if Function.HEAD.match(it)]
+            functions += [Function(path, lines, at) for at in heads]
+        for edit in self.edits:
+            why = edit.read(self.sources)
+            if why:
+                edit.settle(BAD, why)
+            else:
+                edit.find(functions, self.name, verdict.functions)
+        return True
 
     def group(self):
         """Returns the open edits in rounds: in one, no two touch a function or a line."""
@@ -204,63 +304,71 @@ class Crate:
                 rounds.append(found)
             found[0].update(marks)
             found[1].append(edit)
-        return [edits for _, edits in rounds] + [[it] for it in open_edits if it.is_alone]
+        return [[it] for it in open_edits if it.is_alone] + [edits for _, edits in rounds]
 
     def try_round(self, edits, jobs):
         """Tries edits in one check of a copy."""
         texts = {}
         for edit in edits:
             for (path, at), now in edit.lines.items():
-                texts.setdefault(path, self.sources.texts[path].split("\n"))[at] = now
+                texts.setdefault(path, self.sources[path].split("\n"))[at] = now
         asked = [it for edit in edits for it in edit.names]
         flags = [word for it in asked for word in ("--only", it)]
-        os.makedirs(f"{self.folder}/out", exist_ok=True)
-        with tempfile.TemporaryDirectory(dir=f"{self.folder}/out", prefix="round-") as room:
+        with tempfile.TemporaryDirectory(dir=os.path.dirname(self.kept), prefix="round-") as room:
             for part in PARTS:
                 if os.path.isdir(f"{self.folder}/{part}"):
                     shutil.copytree(f"{self.folder}/{part}", f"{room}/{part}")
             for path, lines in texts.items():
                 with open(f"{room}/{path}", "w", encoding="utf-8") as it:
                     it.write("\n".join(lines))
-            is_first = not os.path.isdir(self.kept)
-            if is_first:
-                os.mkdir(f"{room}/kept")
-            else:
-                shutil.copytree(self.kept, f"{room}/kept", copy_function=link_or_copy)
+            shutil.copytree(self.kept, f"{room}/kept", copy_function=link_or_copy)
             verdict = self.check(room, f"{room}/kept", "--jobs", str(jobs), *flags)
-            if is_first and verdict.came_to_prover:
-                os.rename(f"{room}/kept", self.kept)
         self.rounds += 1
-        if len(edits) == 1:
-            verdict.judge_alone(edits[0])
+        (self.judge_alone if len(edits) == 1 else self.judge)(edits, verdict)
+
+    def judge(self, edits, verdict):
+        """Settles the edits that the check refuses. The others are tried again, at last alone."""
+        unread = verdict.unread()
+        guilty = [it for it in edits if any(it.holds(path, line) for path, line, _ in unread)]
+        for edit in edits:
+            if unread or not verdict.came_to_prover:
+                # (who may be guilty is tried alone, or else each)
+                edit.is_alone = edit in guilty or not guilty
+            elif verdict.refuses(edit):
+                edit.settle(REFUSED)
+            else:
+                edit.tries += 1
+                edit.is_alone = edit.tries > 1 or verdict.proves(edit)
+
+    def judge_alone(self, edits, verdict):
+        edit, unread = edits[0], verdict.unread()
+        if unread or not verdict.came_to_prover and re.search(r"\berror\[", verdict.said):
+            path, line, text = unread[0] if unread else ("", 0, "")
+            edit.settle(BAD, f"{path}:{line}{text[:200]}" if unread else verdict.tells())
+        elif verdict.refuses(edit):
+            edit.settle(REFUSED)
+        elif verdict.status == 0:
+            edit.settle(PROVED, "the crate is still proved")
+        elif verdict.status == 3 and LIMITS.search(verdict.said):
+            edit.settle(LIMIT)
+        elif verdict.came_to_prover and verdict.status == 1:
+            fails = [it for it in verdict.functions if verdict.fails(it)]
+            why = f"what fails is {' '.join(fails)}" if fails else "no goal failed"
+            edit.settle(PROVED if fails or verdict.proves(edit) else NAMED, why)
         else:
-            verdict.judge(edits)
+            edit.settle(UNTRIED, verdict.tells())
 
-    def run_round(self, edits, jobs):
-        with self.lanes.place(self.sources.size()):
-            if not self.lanes.is_ended:
-                self.try_round(edits, jobs)
-
-    def run(self, gate):
+    def run(self):
         """Tries all edits, says what is to be said, and returns how many passed and failed."""
-        if gate and not gate.has_proved([it.name for it in self.crate.below()]):
-            return self.give_up()
-        start, rounds = time.monotonic(), self.group()
-        while rounds and not self.lanes.is_ended:
-            if not os.path.isdir(self.kept):
-                # (what it keeps is there for the others)
-                self.run_round(rounds.pop(0), self.jobs)
-            jobs = max(self.jobs // max(len(rounds), 1), 1)
-            side_by_side([lambda it=it: self.run_round(it, jobs) for it in rounds])
+        start = time.monotonic()
+        if not self.begin():
+            return 0, len(self.edits)
+        rounds = self.group()
+        while rounds:
+            jobs = max(self.jobs // len(rounds), 1)
+            side_by_side([lambda it=it: self.checks(self.try_round, it, jobs) for it in rounds])
             rounds = self.group()
-        took = time.monotonic() - start
-        if gate and not gate.has_proved([self.name]):
-            return self.give_up()
-        return self.tell(took)
-
-    def give_up(self):
-        print(f"{self.name}: NOT TRIED, since the gate has proved too little", flush=True)
-        return 0, len(self.edits)
+        return self.tell(time.monotonic() - start)
 
     def tell(self, took):
         count = collections.Counter(it.state for it in self.edits)
@@ -277,11 +385,15 @@ class Crate:
         return passed, len(self.edits) - passed
 
 
+def edits_of(top, name):
+    places = (f"crates/{name}/must-fail", f"tests/wrong_bodies/{name}")
+    return [it for at in places for it in sorted(glob.glob(f"{glob.escape(top)}/{at}/*.edit"))]
+
+
 def record_of(top, crate):
     """Returns the file that stands if the edits passed, over the same files and by the same kit."""
-    made, here = hashlib.sha256(crate.stamp().encode()), os.path.dirname(os.path.realpath(__file__))
-    own = [f"{here}/{it}" for it in ("rounds.py", "edits.py", "verdicts.py")]
-    for file in (*own, *edits_of(top, crate.name)):
+    made = hashlib.sha256(crate.stamp().encode())
+    for file in (os.path.realpath(__file__), *edits_of(top, crate.name)):
         with open(file, "rb") as it:
             made.update(repr((os.path.basename(file), it.read())).encode())
     return f"{KEPT}/{crate.name}-{made.hexdigest()}"
@@ -296,7 +408,8 @@ def keep(record):
         pass
 
 
-def copy_sources(top, room):
+def prepare(top, room, lanes, begins_with, names):
+    """Makes the copy, with the libraries below the crates."""
     is_crate = lambda at: os.path.dirname(at) == f"{top}/crates"
     left_out = lambda at, found: {"out", "must-fail"} & {*found} if is_crate(at) else ()
     shutil.copytree(f"{top}/crates", f"{room}/crates", ignore=left_out)
@@ -304,29 +417,23 @@ def copy_sources(top, room):
         shutil.copy2(f"{top}/{name}", room)
     # (it is the top of a repository)
     os.mkdir(f"{room}/.git")
-
-
-def prove_by_checks(room, lanes, names):
-    """Has `rt check` prove the crates of the copy, with what is kept on the machine."""
-    for it in names:
-        how = {"cwd": f"{room}/crates/{it}", "stdin": subprocess.DEVNULL, "errors": "replace"}
-        how.update(stdout=subprocess.PIPE, stderr=subprocess.STDOUT)
-        ran = subprocess.run(["rt", "check", "--jobs", str(lanes)], **how)
+    runs = [(["rt", "check", "--jobs", lanes], f"{room}/crates/{it}") for it in names]
+    for words, folder in [(["rt", "ci"], room)] if begins_with == "gate" else runs:
+        how = {"cwd": folder, "stdin": subprocess.DEVNULL, "stdout": subprocess.PIPE}
+        ran = subprocess.run(words, **how, stderr=subprocess.STDOUT, errors="replace")
         if ran.returncode:
-            sys.exit(f"{ran.stdout[-2000:]}{it} isn't proved as it stands, so no edit was tried")
+            sys.exit(f"{ran.stdout[-2000:]}{' '.join(words)} failed, so no edit was tried")
 
 
 def side_by_side(calls):
     """Makes calls side by side, and returns what they gave."""
-    if not calls:
-        return []
     with concurrent.futures.ThreadPoolExecutor(len(calls)) as pool:
         return [it.result() for it in [pool.submit(call) for call in calls]]
 
 
 def link_or_copy(one, other):
-    """Gives a file that was made a second name. It is replaced later, and never written into."""
-    if one.endswith(".oantt") or "/rlib/" in one:
+    """Gives a kept file a second name. A check replaces such a file, and never writes into it."""
+    if one.endswith(".oantt"):
         try:
             return os.link(one, other)
         except OSError:
@@ -334,16 +441,8 @@ def link_or_copy(one, other):
     return shutil.copy2(one, other)
 
 
-def try_all(crates, gate, lanes):
-    """Tries the edits of crates side by side, and returns how many passed and failed of each."""
-    follows = [gate.follow] if gate else []
-    ends = [lambda: (gate.ends.wait(), gate.status and lanes.end())] if gate else []
-    calls = [lambda it=it: it.run(gate) for it in crates]
-    return side_by_side([*calls, *follows, *ends])[: len(crates)]
-
-
 def main(top, room, lanes, begins_with, *names):
-    kit, lanes = load_kit(), int(lanes)
+    kit = load_kit()
     # (its first call sets a signal's handler, which only the main thread may)
     kit.guarded()
     records = {it.name: record_of(top, it) for it in kit.crates_below(top) if it.name in names}
@@ -352,21 +451,18 @@ def main(top, room, lanes, begins_with, *names):
     for it in old:
         print(f"{it}: {len(edits_of(top, it))} edits refused, by an earlier run of the same files")
     if len(old) < len(records):
-        copy_sources(top, room)
-        new, gate, every = [it for it in records if it not in old], None, kit.crates_below(room)
-        if begins_with == "checks":
-            prove_by_checks(room, lanes, new)
-        else:
-            gate = Gate(begins_with, top, room, [it.name for it in every])
-        chosen, places = [it for it in every if it.name in new], Lanes(lanes, gate)
-        jobs = max(lanes // len(chosen), 1)
-        crates = [Crate(kit, top, it, places, jobs) for it in chosen]
-        for crate, found in zip(crates, try_all(crates, gate, places)):
+        prepare(top, room, lanes, begins_with, [it for it in records if it not in old])
+        pool = concurrent.futures.ThreadPoolExecutor(int(lanes))
+        checks = lambda call, *given: pool.submit(call, *given).result()
+        chosen = [it for it in kit.crates_below(room) if it.name in records and it.name not in old]
+        jobs = max(int(lanes) // len(chosen), 1)
+        crates = [Crate(kit, top, it, checks, jobs) for it in chosen]
+        # The largest begins first.
+        crates.sort(key=lambda it: -sum(map(len, it.sources.values())))
+        for crate, found in zip(crates, side_by_side([it.run for it in crates])):
             passed, failed = passed + found[0], failed + found[1]
             if not found[1]:
                 keep(records[crate.name])
-        spent = resource.getrusage(resource.RUSAGE_CHILDREN)
-        print(f"the rounds took {spent.ru_utime + spent.ru_stime:.0f} seconds of a processor")
     print(f"{passed} passed, {failed} failed")
     return 1 if failed else 0
 
