@@ -9,6 +9,7 @@
 mod empty_folders;
 mod listing;
 mod made_folder;
+mod naming;
 mod new_file;
 mod origin;
 mod syncs;
@@ -16,6 +17,7 @@ mod trail;
 
 pub use empty_folders::remove_folders;
 pub use listing::{Listing, list_below};
-pub use new_file::{Content, NewFile, Target, Wanted, name_aside, remove_seen};
+pub use naming::{Target, name_aside, remove_seen};
+pub use new_file::{Content, NewFile, Wanted};
 pub use syncs::Unsynced;
 pub use trail::Trail;

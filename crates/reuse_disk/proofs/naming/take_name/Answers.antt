@@ -2,7 +2,7 @@ use Rattle.std.proofs.Common.{◌≡◌, refl, None}
 use Rattle.reuse_system.specs.Asides.{name_in, place_of}
 use Rattle.reuse_system.specs.FileStates.{Place}
 use Rattle.reuse_disk.proofs.EditLemmas.{guarded_aside, guarded_link, guarded_then, renamed_after_link}
-use Rattle.reuse_disk.proofs.new_file.take_name.Goals as goal
+use Rattle.reuse_disk.proofs.naming.take_name.Goals as goal
 
 pub returns-in-Ok-clause-guarded : goal.returns-in-Ok-clause-guarded
 returns-in-Ok-clause-guarded g c =

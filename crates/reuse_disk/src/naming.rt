@@ -1,0 +1,167 @@
+//! Names that files get and lose. A name changes only if what was seen there stands there directly
+//! before, and a file that is made takes its name by a link, which takes no name that is there.
+ghost use Rattle.std.specs.Prelude.{◌≡◌, Bool, List, ℕ, MatchResult, None, Some, IfOk};
+ghost use Rattle.reuse_system.specs.NameChanges.{IsExpected, IsGuarded};
+ghost use Rattle.reuse_system.specs.SystemLaws.{IsAlikeBut, IsRemoved, IsRenamed, MayBeRenamed};
+ghost use Rattle.reuse_system.specs.Asides.{name_in, place_of, key_of};
+ghost use Rattle.reuse_system.specs.FileStates.{file};
+ghost use Rattle.reuse_disk.specs.Written.{IsWritten, is_named};
+
+use reuse_system::fault::{FolderFault, Obstacle};
+use reuse_system::handle::OpenFolder;
+use reuse_system::kept_out::is_in_journal;
+use reuse_system::place::{FileStatus, Found};
+use reuse_system::system::{Aside, System};
+use std::io::{self, ErrorKind};
+
+/// A name that a file is to get in an open folder, and its path below the root.
+#[derive(Clone, Copy)]
+pub struct Target<'a> {
+    /// The folder.
+    pub folder: &'a OpenFolder,
+    /// The name in it.
+    pub name: &'a str,
+    /// The path below the root.
+    pub path: &'a str,
+}
+
+/// Fails if what stands at a name isn't what was seen there.
+fn check_found(found: Found, seen: Option<FileStatus>) -> Result<(), FolderFault>
+    ensures { IfOk result (λ _. IsExpected seen (Some found)) }
+{
+    let is_same = match (found, seen) {
+        (Found::File(status), Some(seen)) => status.is_same(&seen),
+        (Found::Nothing, None) => true,
+        _ => false,
+    };
+    if is_same {
+        Ok(())
+    } else {
+        Err(FolderFault::Device(Obstacle::Changing))
+    }
+}
+
+/// Whether this tells that the file system has no links, or that this one may not be made.
+fn is_without_links(error: &io::Error) -> bool {
+    matches!(
+        error.kind(),
+        ErrorKind::PermissionDenied | ErrorKind::Unsupported | ErrorKind::TooManyLinks
+    )
+}
+
+/// Gives the file aside the name of the target, if that stands directly before as it was seen.
+fn replace<S: System>(
+    system: &mut S,
+    aside: &Aside,
+    target: Target<'_>,
+    seen: Option<FileStatus>,
+) -> Result<(), FolderFault>
+    ensures renamed { MatchResult result
+        (λ _. IsRenamed (place_of aside.now) (name_in target.entry.folder.now target.entry.name.now) (S.holds system.old) (S.holds system.new))
+        (λ _. MayBeRenamed (place_of aside.now) (name_in target.entry.folder.now target.entry.name.now) (S.holds system.old) (S.holds system.new)) }
+    ensures guarded { IsGuarded (λ place. place ≡ place_of aside.now) (name_in target.entry.folder.now target.entry.name.now) seen
+        (S.changes system.old) (S.changes system.new) (S.holds system.old) (S.holds system.new) }
+    ensures still { S.folders system.new ≡ S.folders system.old }
+    ensures earlier { S.honest system.new → S.honest system.old }
+{
+    let found = system.look(target.folder, target.name)?;
+    check_found(found, seen)?;
+    Ok(system.rename(aside, target.folder, target.name)?)
+}
+
+/// Gives the file aside the name of the target, which nothing has: by a link, which takes no name
+/// that is there. If there are no links, the name is looked at.
+fn take_name<S: System>(
+    system: &mut S,
+    aside: &Aside,
+    target: Target<'_>,
+) -> Result<(), FolderFault>
+    ensures renamed { MatchResult result
+        (λ _. IsRenamed (place_of aside.now) (name_in target.entry.folder.now target.entry.name.now) (S.holds system.old) (S.holds system.new))
+        (λ _. MayBeRenamed (place_of aside.now) (name_in target.entry.folder.now target.entry.name.now) (S.holds system.old) (S.holds system.new)) }
+    ensures guarded { IsGuarded (λ place. place ≡ place_of aside.now) (name_in target.entry.folder.now target.entry.name.now) None
+        (S.changes system.old) (S.changes system.new) (S.holds system.old) (S.holds system.new) }
+    ensures still { S.folders system.new ≡ S.folders system.old }
+    ensures earlier { S.honest system.new → S.honest system.old }
+{
+    match system.link(aside, target.folder, target.name) {
+        Ok(()) => {
+            system.discard(aside);
+            Ok(())
+        }
+        Err(error) if error.kind() == ErrorKind::AlreadyExists => {
+            Err(FolderFault::Device(Obstacle::Changing))
+        }
+        Err(error) if is_without_links(&error) => replace(system, aside, target, None),
+        Err(error) => Err(error.into()),
+    }
+}
+
+/// Gives the file aside the name of the target, if what was seen there still stands there: a file,
+/// or nothing. Nobody else makes files of the journal, so those need no link.
+pub fn give_name<S: System>(
+    system: &mut S,
+    aside: &Aside,
+    target: Target<'_>,
+    seen: Option<FileStatus>,
+) -> Result<(), FolderFault>
+    ensures renamed { MatchResult result
+        (λ _. IsRenamed (place_of aside.now) (name_in target.entry.folder.now target.entry.name.now) (S.holds system.old) (S.holds system.new))
+        (λ _. MayBeRenamed (place_of aside.now) (name_in target.entry.folder.now target.entry.name.now) (S.holds system.old) (S.holds system.new)) }
+    ensures guarded { IsGuarded (λ place. place ≡ place_of aside.now) (name_in target.entry.folder.now target.entry.name.now) seen
+        (S.changes system.old) (S.changes system.new) (S.holds system.old) (S.holds system.new) }
+    ensures still { S.folders system.new ≡ S.folders system.old }
+    ensures earlier { S.honest system.new → S.honest system.old }
+{
+    if seen.is_some() || is_in_journal(target.path) {
+        replace(system, aside, target, seen)
+    } else {
+        take_name(system, aside, target)
+    }
+}
+
+/// Removes the file of the target, if it stands directly before as it was seen.
+pub fn remove_seen<S: System>(
+    system: &mut S,
+    target: Target<'_>,
+    seen: FileStatus,
+) -> Result<(), FolderFault>
+    ensures removed { MatchResult result
+        (λ _. IsRemoved (name_in target.entry.folder.now target.entry.name.now) (S.holds system.old) (S.holds system.new))
+        (λ _. IsAlikeBut (name_in target.entry.folder.now target.entry.name.now) (S.holds system.old) (S.holds system.new)) }
+    ensures guarded { IsGuarded (λ _. ⊥) (name_in target.entry.folder.now target.entry.name.now) (Some seen)
+        (S.changes system.old) (S.changes system.new) (S.holds system.old) (S.holds system.new) }
+    ensures still { S.folders system.new ≡ S.folders system.old }
+    ensures earlier { S.honest system.new → S.honest system.old }
+{
+    let found = system.look(target.folder, target.name)?;
+    check_found(found, Some(seen))?;
+    Ok(system.remove(target.folder, target.name)?)
+}
+
+/// Gives the new file the name of the target, if that stands as it was seen directly before and it
+/// lies on the same device: says whether it does.
+pub fn name_aside<S: System>(
+    system: &mut S,
+    aside: &Aside,
+    target: Target<'_>,
+    seen: Option<FileStatus>,
+) -> Result<bool, FolderFault>
+    ensures named { (bytes : List ℕ) → (is_lasting : Bool)
+        → S.holds system.old (place_of aside.now) ≡ file (key_of aside.now) bytes is_lasting
+        → IsWritten (λ place. place ≡ place_of aside.now) (name_in target.entry.folder.now target.entry.name.now) bytes is_lasting
+        (S.holds system.old) (S.holds system.new) (is_named result) }
+    ensures guarded { IsGuarded (λ place. place ≡ place_of aside.now) (name_in target.entry.folder.now target.entry.name.now) seen
+        (S.changes system.old) (S.changes system.new) (S.holds system.old) (S.holds system.new) }
+    ensures still { S.folders system.new ≡ S.folders system.old }
+    ensures earlier { S.honest system.new → S.honest system.old }
+{
+    match give_name(system, aside, target, seen) {
+        Err(FolderFault::Device(Obstacle::System(error)))
+            if error.kind() == ErrorKind::CrossesDevices => { Ok(false) }
+        named => {
+            named?;
+            Ok(true)
+        }
+    }
+}
