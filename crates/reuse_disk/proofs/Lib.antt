@@ -3,6 +3,7 @@ pub mod LastNames
 pub mod Listed
 pub mod MadeFolders
 pub mod NextNames
+pub mod PlaceLemmas
 pub mod TrailLemmas
 pub mod WrittenLemmas
 pub mod EditLemmas

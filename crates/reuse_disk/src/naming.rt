@@ -1,11 +1,11 @@
 //! Names that files get and lose. A name changes only if what was seen there stands there directly
 //! before, and a file that is made takes its name by a link, which takes no name that is there.
-ghost use Rattle.std.specs.Prelude.{◌≡◌, Bool, List, ℕ, MatchResult, None, Some, IfOk};
+ghost use Rattle.std.specs.Prelude.{◌≡◌, ◌≢◌, Bool, List, ℕ, MatchResult, None, Some, IfOk, IsTrue};
 ghost use Rattle.reuse_system.specs.NameChanges.{IsExpected, IsGuarded};
-ghost use Rattle.reuse_system.specs.SystemLaws.{IsAlikeBut, IsRemoved, IsRenamed, MayBeRenamed};
+ghost use Rattle.reuse_system.specs.SystemLaws.{IsAlikeBut, IsOneFile, IsRemoved, IsRenamed, MayBeRenamed};
 ghost use Rattle.reuse_system.specs.Asides.{name_in, place_of, key_of};
 ghost use Rattle.reuse_system.specs.FileStates.{file};
-ghost use Rattle.reuse_disk.specs.Written.{IsWritten, is_named};
+ghost use Rattle.reuse_disk.specs.Written.{IsMoved, IsWritten, is_named};
 
 use reuse_system::fault::{FolderFault, Obstacle};
 use reuse_system::handle::OpenFolder;
@@ -59,6 +59,12 @@ fn replace<S: System>(
     ensures renamed { MatchResult result
         (λ _. IsRenamed (place_of aside.now) (name_in target.entry.folder.now target.entry.name.now) (S.holds system.old) (S.holds system.new))
         (λ _. MayBeRenamed (place_of aside.now) (name_in target.entry.folder.now target.entry.name.now) (S.holds system.old) (S.holds system.new)) }
+    // If the name wasn't another one of this file, the file has left its old one.
+    ensures gone { S.honest system.new → place_of aside.now ≢ name_in target.entry.folder.now target.entry.name.now
+        → ¬ (IsOneFile (S.holds system.old (place_of aside.now)) (S.holds system.old (name_in target.entry.folder.now target.entry.name.now)))
+        → IfOk result (λ _. S.holds system.new (place_of aside.now) ≡ None) }
+    ensures free { S.honest system.new → seen ≡ None
+        → IfOk result (λ _. S.holds system.old (name_in target.entry.folder.now target.entry.name.now) ≡ None) }
     ensures guarded { IsGuarded (λ place. place ≡ place_of aside.now) (name_in target.entry.folder.now target.entry.name.now) seen
         (S.changes system.old) (S.changes system.new) (S.holds system.old) (S.holds system.new) }
     ensures still { S.folders system.new ≡ S.folders system.old }
@@ -79,16 +85,17 @@ fn take_name<S: System>(
     ensures renamed { MatchResult result
         (λ _. IsRenamed (place_of aside.now) (name_in target.entry.folder.now target.entry.name.now) (S.holds system.old) (S.holds system.new))
         (λ _. MayBeRenamed (place_of aside.now) (name_in target.entry.folder.now target.entry.name.now) (S.holds system.old) (S.holds system.new)) }
+    // If the name wasn't another one of this file, the file has left its old one.
+    ensures gone { S.honest system.new → place_of aside.now ≢ name_in target.entry.folder.now target.entry.name.now
+        → ¬ (IsOneFile (S.holds system.old (place_of aside.now)) (S.holds system.old (name_in target.entry.folder.now target.entry.name.now)))
+        → IfOk result (λ _. S.holds system.new (place_of aside.now) ≡ None) }
     ensures guarded { IsGuarded (λ place. place ≡ place_of aside.now) (name_in target.entry.folder.now target.entry.name.now) None
         (S.changes system.old) (S.changes system.new) (S.holds system.old) (S.holds system.new) }
     ensures still { S.folders system.new ≡ S.folders system.old }
     ensures earlier { S.honest system.new → S.honest system.old }
 {
     match system.link(aside, target.folder, target.name) {
-        Ok(()) => {
-            system.discard(aside);
-            Ok(())
-        }
+        Ok(()) => Ok(system.discard(aside)?),
         Err(error) if error.kind() == ErrorKind::AlreadyExists => {
             Err(FolderFault::Device(Obstacle::Changing))
         }
@@ -99,7 +106,7 @@ fn take_name<S: System>(
 
 /// Gives the file aside the name of the target, if what was seen there still stands there: a file,
 /// or nothing. Nobody else makes files of the journal, so those need no link.
-pub fn give_name<S: System>(
+fn give_name<S: System>(
     system: &mut S,
     aside: &Aside,
     target: Target<'_>,
@@ -108,6 +115,10 @@ pub fn give_name<S: System>(
     ensures renamed { MatchResult result
         (λ _. IsRenamed (place_of aside.now) (name_in target.entry.folder.now target.entry.name.now) (S.holds system.old) (S.holds system.new))
         (λ _. MayBeRenamed (place_of aside.now) (name_in target.entry.folder.now target.entry.name.now) (S.holds system.old) (S.holds system.new)) }
+    // If the name wasn't another one of this file, the file has left its old one.
+    ensures gone { S.honest system.new → place_of aside.now ≢ name_in target.entry.folder.now target.entry.name.now
+        → ¬ (IsOneFile (S.holds system.old (place_of aside.now)) (S.holds system.old (name_in target.entry.folder.now target.entry.name.now)))
+        → IfOk result (λ _. S.holds system.new (place_of aside.now) ≡ None) }
     ensures guarded { IsGuarded (λ place. place ≡ place_of aside.now) (name_in target.entry.folder.now target.entry.name.now) seen
         (S.changes system.old) (S.changes system.new) (S.holds system.old) (S.holds system.new) }
     ensures still { S.folders system.new ≡ S.folders system.old }
@@ -151,6 +162,10 @@ pub fn name_aside<S: System>(
         → S.holds system.old (place_of aside.now) ≡ file (key_of aside.now) bytes is_lasting
         → IsWritten (λ place. place ≡ place_of aside.now) (name_in target.entry.folder.now target.entry.name.now) bytes is_lasting
         (S.holds system.old) (S.holds system.new) (is_named result) }
+    ensures moved { IsMoved (place_of aside.now) (name_in target.entry.folder.now target.entry.name.now) (S.holds system.old) (S.holds system.new) }
+    ensures gone { S.honest system.new → place_of aside.now ≢ name_in target.entry.folder.now target.entry.name.now
+        → ¬ (IsOneFile (S.holds system.old (place_of aside.now)) (S.holds system.old (name_in target.entry.folder.now target.entry.name.now)))
+        → IsTrue (is_named result) → S.holds system.new (place_of aside.now) ≡ None }
     ensures guarded { IsGuarded (λ place. place ≡ place_of aside.now) (name_in target.entry.folder.now target.entry.name.now) seen
         (S.changes system.old) (S.changes system.new) (S.holds system.old) (S.holds system.new) }
     ensures still { S.folders system.new ≡ S.folders system.old }

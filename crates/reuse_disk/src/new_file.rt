@@ -1,23 +1,22 @@
 //! Writing a file as a whole or not at all: a new one is written aside, and its data is synced
 //! before it is given its name.
-ghost use Rattle.std.specs.Prelude.{◌≡◌, MatchResult, false, is_ok, IfOk};
+ghost use Rattle.std.specs.Prelude.{◌≡◌, ◌⊎◌, [], None, MatchResult, false, is_ok, IfOk, IsErr, codes};
 ghost use Rattle.reuse_change.specs.Parts.{joined};
 ghost use Rattle.reuse_system.specs.NameChanges.{IsGuarded, OnlyChanges};
 ghost use Rattle.reuse_system.specs.SystemLaws.{IsAlikeBut, IsAlikeButFile, IsAlikeUnless, IsFilled};
-ghost use Rattle.reuse_system.specs.Asides.{name_in, place_of, key_of, IsNewIn, IsNewPlace};
-ghost use Rattle.reuse_system.specs.FileStates.{file};
-ghost use Rattle.reuse_disk.specs.Written.{StandsAlone, IsWritten, is_kept};
+ghost use Rattle.reuse_system.specs.Asides.{name_in, place_of, key_of, beside_name, new_name, IsNewIn, IsNewNameIn, IsNewPlace};
+ghost use Rattle.reuse_disk.specs.Written.{StandsAlone, IsWritten, IsPlaced, LeavesNone, is_kept, is_named};
 
-use crate::naming::{Target, give_name};
+use crate::naming::{Target, name_aside};
 use crate::syncs::Unsynced;
 use reuse_change::Parts;
 use reuse_system::fault::{FolderFault, Obstacle};
 use reuse_system::handle::OpenFolder;
-use reuse_system::kept_out::NEW;
+use reuse_system::kept_out::{NEW, is_beside_name, is_new_name};
 use reuse_system::new_name::{NewName, beside_name};
 use reuse_system::owner::{Owner, Process};
 use reuse_system::parts_writer::write_parts;
-use reuse_system::place::FileStatus;
+use reuse_system::place::{FileStatus, Found};
 use reuse_system::system::{Aside, System};
 use std::alloc::Global;
 use std::io::{self, ErrorKind};
@@ -73,7 +72,7 @@ fn make<S: System>(
     mode: Option<u32>,
 ) -> io::Result<Aside>
     ensures made { IfOk result (λ aside. (place_of aside ≡ name_in folder.now name.now)
-        × StandsAlone (place_of aside) (key_of aside) (S.holds system.new)) }
+        × StandsAlone (place_of aside) (key_of aside) [] false (S.holds system.new)) }
     ensures others { IsAlikeBut (name_in folder.now name.now) (S.holds system.old) (S.holds system.new) }
     ensures still { S.folders system.new ≡ S.folders system.old }
     ensures earlier { S.honest system.new → S.honest system.old }
@@ -188,7 +187,7 @@ impl NewFile {
     }
 
     /// Writes the content to a file that stands aside, makes its data lasting, and gives it the
-    /// name of the target.
+    /// name of the target, if that lies on the same device: says whether it does.
     fn put_in_place<S: System>(
         &mut self,
         system: &mut S,
@@ -196,20 +195,20 @@ impl NewFile {
         target: Target<'_>,
         content: Content<'_>,
         unsynced: &mut Unsynced,
-    ) -> Result<(), FolderFault>
+    ) -> Result<bool, FolderFault>
         ensures folder { self.new.folder ≡ self.old.folder }
         ensures syncs { unsynced.new.syncs ≡ unsynced.old.syncs }
-        ensures written { StandsAlone (place_of aside.now) (key_of aside.now) (S.holds system.old)
-            → IsWritten (λ place. place ≡ place_of aside.now) (name_in target.entry.folder.now target.entry.name.now) (joined content.entry.parts)
-            (is_kept unsynced.old.syncs) (S.holds system.old) (S.holds system.new) (is_ok result) }
+        ensures placed { StandsAlone (place_of aside.now) (key_of aside.now) [] false (S.holds system.old)
+            → IsPlaced (S.honest system.new) (place_of aside.now) (name_in target.entry.folder.now target.entry.name.now) (joined content.entry.parts)
+            (is_kept unsynced.old.syncs) (S.holds system.old) (S.holds system.new) (is_named result) (is_named result) }
         ensures still { S.folders system.new ≡ S.folders system.old }
         ensures earlier { S.honest system.new → S.honest system.old }
-        ensures guarded { StandsAlone (place_of aside.now) (key_of aside.now) (S.holds system.old)
+        ensures guarded { StandsAlone (place_of aside.now) (key_of aside.now) [] false (S.holds system.old)
             → IsGuarded (λ place. place ≡ place_of aside.now) (name_in target.entry.folder.now target.entry.name.now) content.entry.found
             (S.changes system.old) (S.changes system.new) (S.holds system.old) (S.holds system.new) }
     {
         self.complete(system, aside, target.path, content, unsynced)?;
-        give_name(system, aside, target, content.found)
+        name_aside(system, aside, target, content.found)
     }
 
     /// Does so, or removes the file aside.
@@ -220,24 +219,27 @@ impl NewFile {
         target: Target<'_>,
         content: Content<'_>,
         unsynced: &mut Unsynced,
-    ) -> Result<(), FolderFault>
+    ) -> Result<bool, FolderFault>
         ensures folder { self.new.folder ≡ self.old.folder }
         ensures syncs { unsynced.new.syncs ≡ unsynced.old.syncs }
-        ensures written { StandsAlone (place_of aside.now) (key_of aside.now) (S.holds system.old)
-            → IsWritten (λ place. place ≡ place_of aside.now) (name_in target.entry.folder.now target.entry.name.now) (joined content.entry.parts)
-            (is_kept unsynced.old.syncs) (S.holds system.old) (S.holds system.new) (is_ok result) }
+        ensures placed { StandsAlone (place_of aside.now) (key_of aside.now) [] false (S.holds system.old)
+            → IsPlaced (S.honest system.new) (place_of aside.now) (name_in target.entry.folder.now target.entry.name.now) (joined content.entry.parts)
+            (is_kept unsynced.old.syncs) (S.holds system.old) (S.holds system.new) (is_named result) (is_ok result) }
         ensures still { S.folders system.new ≡ S.folders system.old }
         ensures earlier { S.honest system.new → S.honest system.old }
-        ensures guarded { StandsAlone (place_of aside.now) (key_of aside.now) (S.holds system.old)
+        ensures guarded { StandsAlone (place_of aside.now) (key_of aside.now) [] false (S.holds system.old)
             → IsGuarded (λ place. place ≡ place_of aside.now) (name_in target.entry.folder.now target.entry.name.now) content.entry.found
             (S.changes system.old) (S.changes system.new) (S.holds system.old) (S.holds system.new) }
     {
-        let written = self.put_in_place(system, aside, target, content, unsynced);
-        if written.is_err() {
-            // What is left of the new file is of no use, and a fault of its removal tells no more.
-            system.discard(aside);
+        let named = self.put_in_place(system, aside, target, content, unsynced);
+        if let Ok(true) = named {
+            return named;
         }
-        written
+        let removed = system.discard(aside);
+        if named.is_ok() {
+            removed?;
+        }
+        named
     }
 
     /// What was granted, and to whom, is known of the one folder alone.
@@ -248,18 +250,31 @@ impl NewFile {
         self.made = None;
     }
 
-    /// Writes the content in the folder of new files and gives it the name of the target.
+    /// Fails if a file of the target could be taken for one that is written aside here or beside it.
+    pub fn check(&self, target: Target<'_>) -> Result<(), FolderFault>
+        ensures apart { IfOk result (λ _. ¬ (IsNewPlace self.now.folder.identity target.entry.folder.now.identity (name_in target.entry.folder.now target.entry.name.now))) }
+        ensures refused { IsErr result → IsNewNameIn self.now.folder.identity target.entry.folder.now.identity target.entry.name.now }
+    {
+        let is_here = target.folder.identity() == self.folder.identity();
+        if is_beside_name(target.name) || (is_here && is_new_name(target.name)) {
+            return Err(FolderFault::Device(Obstacle::Foreign));
+        }
+        Ok(())
+    }
+
+    /// Writes the content in the folder of new files and gives it the name of the target, if that
+    /// lies on the same device: says whether it does.
     fn write_here<S: System>(
         &mut self,
         system: &mut S,
         target: Target<'_>,
         content: Content<'_>,
         unsynced: &mut Unsynced,
-    ) -> Result<(), FolderFault>
+    ) -> Result<bool, FolderFault>
         ensures folder { self.new.folder ≡ self.old.folder }
         ensures syncs { unsynced.new.syncs ≡ unsynced.old.syncs }
-        ensures written { IsWritten (IsNewPlace self.old.folder.identity target.entry.folder.now.identity) (name_in target.entry.folder.now target.entry.name.now) (joined content.entry.parts)
-            (is_kept unsynced.old.syncs) (S.holds system.old) (S.holds system.new) (is_ok result) }
+        ensures placed { IsPlaced (S.honest system.new) (name_in self.old.folder (codes "new")) (name_in target.entry.folder.now target.entry.name.now) (joined content.entry.parts)
+            (is_kept unsynced.old.syncs) (S.holds system.old) (S.holds system.new) (is_named result) (is_ok result) }
         ensures still { S.folders system.new ≡ S.folders system.old }
         ensures earlier { S.honest system.new → S.honest system.old }
         ensures guarded { IsGuarded (IsNewPlace self.old.folder.identity target.entry.folder.now.identity) (name_in target.entry.folder.now target.entry.name.now) content.entry.found
@@ -270,7 +285,7 @@ impl NewFile {
     }
 
     /// Writes the content beside the file that it is to be, and gives it the name of that.
-    fn write_beside<S: System>(
+    pub fn write_beside<S: System>(
         &mut self,
         system: &mut S,
         alloc: Global,
@@ -280,8 +295,8 @@ impl NewFile {
     ) -> Result<(), FolderFault>
         ensures folder { self.new.folder ≡ self.old.folder }
         ensures syncs { unsynced.new.syncs ≡ unsynced.old.syncs }
-        ensures written { IsWritten (IsNewPlace self.old.folder.identity target.entry.folder.now.identity) (name_in target.entry.folder.now target.entry.name.now) (joined content.entry.parts)
-            (is_kept unsynced.old.syncs) (S.holds system.old) (S.holds system.new) (is_ok result) }
+        ensures placed { IsPlaced (S.honest system.new) (name_in target.entry.folder.now (beside_name self.old.folder.identity)) (name_in target.entry.folder.now target.entry.name.now) (joined content.entry.parts)
+            (is_kept unsynced.old.syncs) (S.holds system.old) (S.holds system.new) (is_ok result) (is_ok result) }
         ensures still { S.folders system.new ≡ S.folders system.old }
         ensures earlier { S.honest system.new → S.honest system.old }
         ensures guarded { IsGuarded (IsNewPlace self.old.folder.identity target.entry.folder.now.identity) (name_in target.entry.folder.now target.entry.name.now) content.entry.found
@@ -290,14 +305,17 @@ impl NewFile {
         let name = beside_name(alloc, &self.folder)?;
         let aside = make(system, target.folder, name.as_str(), content.mode())?;
         self.forget_granted();
-        let written = self.put_or_discard(system, &aside, target, content, unsynced);
+        let named = self.put_or_discard(system, &aside, target, content, unsynced);
         self.forget_granted();
-        written
+        if named? {
+            return Ok(());
+        }
+        let error: io::Error = ErrorKind::CrossesDevices.into();
+        Err(error.into())
     }
 
     /// Writes the content and gives the file the name of the target. Where that leads to another
     /// device, as below a mount, the new file is written beside the one that it is to be.
-    #[tactic(auto, using(crate::proofs::WrittenLemmas::written_again))]
     pub fn write<S: System>(
         &mut self,
         system: &mut S,
@@ -310,18 +328,21 @@ impl NewFile {
         ensures syncs { unsynced.new.syncs ≡ unsynced.old.syncs }
         ensures written { IsWritten (IsNewPlace self.old.folder.identity target.entry.folder.now.identity) (name_in target.entry.folder.now target.entry.name.now) (joined content.entry.parts)
             (is_kept unsynced.old.syncs) (S.holds system.old) (S.holds system.new) (is_ok result) }
+        // The target is no place of new files, or nothing is done.
+        ensures apart { ((is_ok result ≡ false) × (S.holds system.new ≡ S.holds system.old))
+            ⊎ ¬ (IsNewPlace self.old.folder.identity target.entry.folder.now.identity (name_in target.entry.folder.now target.entry.name.now)) }
+        ensures none_left { S.honest system.new
+            → IfOk result (λ _. LeavesNone (IsNewPlace self.old.folder.identity target.entry.folder.now.identity) (S.holds system.old) (S.holds system.new)) }
         ensures still { S.folders system.new ≡ S.folders system.old }
         ensures earlier { S.honest system.new → S.honest system.old }
         ensures guarded { IsGuarded (IsNewPlace self.old.folder.identity target.entry.folder.now.identity) (name_in target.entry.folder.now target.entry.name.now) content.entry.found
             (S.changes system.old) (S.changes system.new) (S.holds system.old) (S.holds system.new) }
     {
-        match self.write_here(system, target, content, unsynced) {
-            Err(FolderFault::Device(Obstacle::System(error)))
-                if error.kind() == ErrorKind::CrossesDevices => {
-                self.write_beside(system, alloc, target, content, unsynced)
-            }
-            written => written,
+        self.check(target)?;
+        if self.write_here(system, target, content, unsynced)? {
+            return Ok(());
         }
+        self.write_beside(system, alloc, target, content, unsynced)
     }
 
     /// Writes the content aside, as the file of this number.
@@ -333,9 +354,9 @@ impl NewFile {
         content: Content<'_>,
     ) -> Result<Aside, FolderFault>
         ensures folder { self.new.folder ≡ self.old.folder }
-        ensures filled { IfOk result (λ aside. IsNewIn self.old.folder.identity (place_of aside)
-            × (S.holds system.new (place_of aside) ≡ file (key_of aside) (joined content.entry.parts) false)) }
-        ensures others { IsAlikeUnless (IsNewIn self.old.folder.identity) (S.holds system.old) (S.holds system.new) }
+        ensures filled { IfOk result (λ aside. (place_of aside ≡ name_in self.old.folder (new_name number))
+            × StandsAlone (place_of aside) (key_of aside) (joined content.entry.parts) false (S.holds system.new)) }
+        ensures others { IsAlikeBut (name_in self.old.folder (new_name number)) (S.holds system.old) (S.holds system.new) }
         ensures still { S.folders system.new ≡ S.folders system.old }
         ensures earlier { S.honest system.new → S.honest system.old }
         ensures changes { OnlyChanges (IsNewIn self.old.folder.identity) (S.changes system.old) (S.changes system.new) }
@@ -343,15 +364,36 @@ impl NewFile {
         let name = NewName::of_number(alloc, number)?;
         let aside = make(system, &self.folder, name.as_str(), content.mode())?;
         if let Err(error) = self.fill(system, &aside, content) {
-            system.discard(&aside);
+            let _ = system.discard(&aside);
             return Err(error.into());
         }
         Ok(aside)
     }
 
+    /// Fails if a file of this number stands here, though it couldn't be written.
+    pub fn check_free<S: System>(
+        &self,
+        system: &mut S,
+        alloc: Global,
+        number: usize,
+    ) -> Result<(), FolderFault>
+        ensures kept { S.holds system.new ≡ S.holds system.old }
+        ensures free { S.honest system.new → IfOk result (λ _. S.holds system.new (name_in self.now.folder (new_name number)) ≡ None) }
+        ensures still { S.folders system.new ≡ S.folders system.old }
+        ensures earlier { S.honest system.new → S.honest system.old }
+        ensures changes { S.changes system.new ≡ S.changes system.old }
+    {
+        let name = NewName::of_number(alloc, number)?;
+        match system.look(&self.folder, name.as_str())? {
+            Found::File(_) => Err(FolderFault::Device(Obstacle::Changing)),
+            _ => Ok(()),
+        }
+    }
+
     /// Removes what a stopped run has left of new files here, which have these names.
     pub fn clear<S: System>(&self, system: &mut S, names: &[NewName]) -> Result<(), FolderFault>
         ensures others { IsAlikeUnless (IsNewIn self.now.folder.identity) (S.holds system.old) (S.holds system.new) }
+        ensures none_left { IfOk result (λ _. LeavesNone (IsNewIn self.now.folder.identity) (S.holds system.old) (S.holds system.new)) }
         ensures still { S.folders system.new ≡ S.folders system.old }
         ensures earlier { S.honest system.new → S.honest system.old }
         ensures changes { OnlyChanges (IsNewIn self.now.folder.identity) (S.changes system.old) (S.changes system.new) }

@@ -1,3 +1,4 @@
+pub mod Batches
 pub mod FolderReads
 pub mod FolderWrites
 pub mod Honesty
@@ -5,4 +6,5 @@ pub mod JournalOwners
 pub mod OwnerChanges
 pub mod RolledBack
 pub mod RootFolders
+pub mod Rounds
 pub mod Seen

@@ -166,6 +166,7 @@ impl<R: Files<File = File> + AllocGlobal + Clone + Drop> RootFolder<R> {
         ensures earlier { ⟦<HostSystem<R> as System>⟧.honest self.new.system
             → ⟦<HostSystem<R> as System>⟧.honest self.old.system }
         ensures syncs { self.new.unsynced.syncs ≡ self.old.unsynced.syncs }
+        ensures new_file { self.new.new_file ≡ self.old.new_file }
         ensures remembered { self.new.remembered ≡ self.old.remembered }
         ensures lies { ⟦<HostSystem<R> as System>⟧.honest self.new.system
             → IfOk result (LiesIn (⟦<HostSystem<R> as System>⟧.folders self.new.system) path.now (current_of self.new.trail)) }

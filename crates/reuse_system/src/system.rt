@@ -70,7 +70,7 @@ pub struct OpenedFile {
 /// The calls of the system on folders and files. What a call tells of them holds if the system is
 /// honest after the call; what is said of `holds` and `folders` holds always.
 pub trait System {
-    ghost use Rattle.reuse_system.specs.SystemLaws.{IsAlikeBut, IsAlikeButFile, IsMade, IsAppended, IsSynced, IsRenamed, IsRemoved, IsLinked, MayBeLinked, MayBeRenamed, IsFolderMade, IsFolderRemoved, IsSeen, IsReadOf, IsOpenedBelow};
+    ghost use Rattle.reuse_system.specs.SystemLaws.{IsAlikeBut, IsAlikeButFile, IsMade, IsAppended, IsSynced, IsRenamed, IsLeft, IsRemoved, IsLinked, MayBeLinked, MayBeRenamed, IsFolderMade, IsFolderRemoved, IsSeen, IsReadOf, IsOpenedBelow};
     ghost use Rattle.reuse_system.specs.Asides.{name_in, place_of, opened_at, key_of};
     ghost use Rattle.reuse_system.specs.NameChanges.{change_at, change_of_free};
     ghost use Rattle.reuse_system.specs.Within.{IsWithin};
@@ -126,6 +126,7 @@ pub trait System {
         ensures renamed { MatchResult result
             (λ _. IsRenamed (place_of aside.now) (name_in folder.now name.now) (holds self.old) (holds self.new))
             (λ _. MayBeRenamed (place_of aside.now) (name_in folder.now name.now) (holds self.old) (holds self.new)) }
+        ensures left { IfOk result (λ _. IsLeft (place_of aside.now) (name_in folder.now name.now) (holds self.old) (holds self.new)) }
         ensures still { folders self.new ≡ folders self.old }
         ensures earlier { honest self.new → honest self.old }
         ensures changes { changes self.new ≡ change_at (looked self.old) (name_in folder.now name.now) ∷ changes self.old };
@@ -140,9 +141,11 @@ pub trait System {
         ensures earlier { honest self.new → honest self.old }
         ensures changes { changes self.new ≡ change_of_free (name_in folder.now name.now) ∷ changes self.old };
 
-    /// Removes what stands where the file was made. A fault of that tells no more.
-    fn discard(&mut self, aside: &Aside)
-        ensures others { IsAlikeBut (place_of aside.now) (holds self.old) (holds self.new) }
+    /// Removes what stands where the file was made. Where that fails, it may be done.
+    fn discard(&mut self, aside: &Aside) -> io::Result<()>
+        ensures removed { MatchResult result
+            (λ _. IsRemoved (place_of aside.now) (holds self.old) (holds self.new))
+            (λ _. IsAlikeBut (place_of aside.now) (holds self.old) (holds self.new)) }
         ensures still { folders self.new ≡ folders self.old }
         ensures earlier { honest self.new → honest self.old }
         ensures changes { changes self.new ≡ change_at (looked self.old) (place_of aside.now) ∷ changes self.old };

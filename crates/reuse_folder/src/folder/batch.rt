@@ -1,21 +1,27 @@
 //! Writing several files at once. All are written aside before the data of the first is synced, so
 //! that the system syncs them together; then each is given its name, in order.
-ghost use Rattle.std.specs.Prelude.{◌≡◌, ◌<◌, ◌≤◌, List, [], ◌∷◌, IfErr, IfOk, length};
+ghost use Rattle.std.specs.Prelude.{◌≡◌, ◌<◌, ◌≤◌, ℕ, List, [], ◌∷◌, ◌++◌, false, is_ok, IfErr, IfOk, IsTrue, MatchResult, length};
 ghost use Rattle.std.specs.List.{All};
-ghost use Rattle.reuse_system.specs.Asides.{place_of};
+ghost use Rattle.reuse_system.specs.Asides.{place_of, key_of, IsNewIn};
 ghost use Rattle.reuse_system.specs.NameChanges.{OnlyChanges};
+ghost use Rattle.reuse_system.specs.SystemLaws.{IsAlikeBut, IsAlikeButFile, IsAlikeUnless};
+ghost use Rattle.reuse_system.specs.declared.place.Identity.{Identity};
+ghost use Rattle.reuse_change.specs.Parts.{joined};
+ghost use Rattle.reuse_disk.specs.Written.{is_kept, IsSyncedIf};
+ghost use Rattle.reuse_folder.specs.Batches.{disk_of, made_of, BeginsWithFile, IsBatch};
+ghost use Rattle.reuse_folder.specs.Rounds.{new_place, AreApart, AreAside, AreBegun, AreNamed, HavePlaces, IsAdded, IsNamed, IsNumbered, IsRound, IsRoundOf, StandsAside};
 ghost use Rattle.reuse_folder.specs.Seen.{AreKnown, IsKnownAside, IsNewFile, IsSeenBefore, LoseNoEdits};
 ghost use Rattle.reuse_folder.specs.declared.folder.seen.ReadPath.{ReadPath};
 
 use super::RootFolder;
 use super::seen::{Expected, ReadPath, expected_at};
 use reuse_change::{Parts, PathText};
-use reuse_disk::{Content, Target, name_aside};
+use reuse_disk::{Content, NewFile, Target, name_aside};
 use reuse_store::FileWrite;
 use reuse_system::fault::FolderFault;
 use reuse_system::place::{FileStatus, folder_and_name};
 use reuse_system::system::{Aside, HostSystem, System};
-use std::alloc::{AllocError, Global};
+use std::alloc::Global;
 use std::fs::File;
 use std::mem;
 use std::rt::Files;
@@ -80,15 +86,25 @@ struct NewContent {
     seen: Option<FileStatus>,
 }
 
+/// New files that are written aside, in the order of their writes, and the folder of new files.
+#[derive(Drop)]
+struct Round {
+    new_file: NewFile,
+    asides: Vec<NewContent>,
+}
+
 /// Removes new files that get no name.
 fn remove_all<S: System>(system: &mut S, asides: &[NewContent])
+    ensures others { (new_files : Identity) → All (λ one. IsNewIn new_files (place_of one.aside)) asides.now
+        → IsAlikeUnless (IsNewIn new_files) (S.holds system.old) (S.holds system.new) }
     ensures still { S.folders system.new ≡ S.folders system.old }
     ensures earlier { S.honest system.new → S.honest system.old }
     ensures changes { All (λ one. IsNewFile (place_of one.aside)) asides.now
         → OnlyChanges IsNewFile (S.changes system.old) (S.changes system.new) }
 {
     for one in asides {
-        system.discard(&one.aside);
+        // A fault of that tells no more.
+        let _ = system.discard(&one.aside);
     }
 }
 
@@ -98,6 +114,11 @@ impl<R: Files<File = File> + AllocGlobal + Clone + Drop> RootFolder<R> {
     /// synced: so the system syncs them together.
     pub fn write_all(&mut self, alloc: Global, writes: &[FileWrite]) -> Result<(), Stop>
         ensures stop { IfErr result (λ stop. stop.made < length writes.now) }
+        // The disk is as single writes make it, one after the other. If all were made, no new file
+        // is left.
+        ensures made { ⟦<HostSystem<R> as System>⟧.honest self.new.system
+            → (batch : IsBatch (is_kept self.old.unsynced.syncs) writes.now (disk_of ⟦<HostSystem<R> as System>⟧ self.old.system) (disk_of ⟦<HostSystem<R> as System>⟧ self.new.system) (is_ok result))
+            × (batch.made ≡ made_of (length writes.now) result) }
         // No path changes at which something else stands than was read there.
         ensures keeps_edits { LoseNoEdits self.old.reads.items writes.now
             (⟦<HostSystem<R> as System>⟧.changes self.old.system) (⟦<HostSystem<R> as System>⟧.changes self.new.system) }
@@ -127,87 +148,143 @@ impl<R: Files<File = File> + AllocGlobal + Clone + Drop> RootFolder<R> {
         requires { 0 < length writes.now }
         ensures some { IfOk result (λ count. (0 < count) × (count ≤ length writes.now)) }
         ensures stop { IfErr result (λ stop. stop.made < length writes.now) }
+        ensures made { ⟦<HostSystem<R> as System>⟧.honest self.new.system → IsRound (is_kept self.old.unsynced.syncs) writes.now self.old.new_file self.new.new_file
+            (disk_of ⟦<HostSystem<R> as System>⟧ self.old.system) (disk_of ⟦<HostSystem<R> as System>⟧ self.new.system) result }
+        ensures syncs { self.new.unsynced.syncs ≡ self.old.unsynced.syncs }
+        ensures earlier { ⟦<HostSystem<R> as System>⟧.honest self.new.system → ⟦<HostSystem<R> as System>⟧.honest self.old.system }
         ensures keeps_edits { LoseNoEdits seen.old.reads.items writes.now
             (⟦<HostSystem<R> as System>⟧.changes self.old.system) (⟦<HostSystem<R> as System>⟧.changes self.new.system) }
         ensures reads { seen.new.reads ≡ seen.old.reads }
     {
-        if let Some(FileWrite { path, file: None }) = writes.first() {
-            let expected = seen.next_at(path);
-            self.remove_expected(alloc, path, expected)
+        let write = &writes[0];
+        if write.file.is_none() {
+            let expected = seen.next_at(write.path);
+            self.remove_expected(alloc, write.path, expected)
                 .map_err(Stop::at_first)?;
             return Ok(1);
         }
         match self.write_aside(alloc, writes, seen) {
-            Ok(asides) => {
-                self.name_all(alloc, writes, &asides)?;
-                Ok(asides.len().clamp(1, writes.len()))
+            Ok(
+                Round {
+                    mut new_file,
+                    asides,
+                },
+            ) => {
+                let named = self.name_all(alloc, writes, &mut new_file, &asides);
+                self.new_file = Some(new_file);
+                named?;
+                Ok(asides.len())
             }
             Err(fault) => Err(Stop::at_first(fault)),
         }
     }
 
-    /// Writes the new files up to the first removal aside, or up to one that fails, if it isn't the
-    /// first.
+    /// Writes the new files up to the first removal aside, or up to one that can't be written now,
+    /// if it isn't the first.
     fn write_aside(
         &mut self,
         alloc: Global,
         writes: &[FileWrite],
         seen: &mut Seen,
-    ) -> Result<Vec<NewContent>, FolderFault>
+    ) -> Result<Round, FolderFault>
+        requires { BeginsWithFile writes.now }
+        ensures round { IsRoundOf (⟦<HostSystem<R> as System>⟧.honest self.new.system) writes.now self.old.new_file (⟦<HostSystem<R> as System>⟧.holds self.old.system) (⟦<HostSystem<R> as System>⟧.holds self.new.system) result }
+        ensures syncs { self.new.unsynced.syncs ≡ self.old.unsynced.syncs }
+        ensures earlier { ⟦<HostSystem<R> as System>⟧.honest self.new.system → ⟦<HostSystem<R> as System>⟧.honest self.old.system }
         ensures changes { OnlyChanges IsNewFile (⟦<HostSystem<R> as System>⟧.changes self.old.system) (⟦<HostSystem<R> as System>⟧.changes self.new.system) }
-        ensures known { IfOk result (λ asides. AreKnown seen.old.reads.items writes.now asides.items) }
+        ensures known { IfOk result (λ round. AreKnown seen.old.reads.items writes.now round.asides.items) }
         ensures reads { seen.new.reads ≡ seen.old.reads }
     {
-        let mut asides = Vec::new(alloc);
-        for write in writes {
-            let Some(parts) = write.file else {
-                break;
-            };
-            match self.write_one_aside(alloc, write, parts, asides.len(), seen) {
-                Ok(aside) => asides.push(aside).map_err(AllocError::from)?,
-                Err(fault) if asides.is_empty() => return Err(fault),
-                Err(_) => break,
+        self.keeping.check_hold()?;
+        let mut round = Round {
+            new_file: self.take_new_file(alloc)?,
+            asides: Vec::new(alloc),
+        };
+        match self.fill_round(alloc, writes, &mut round, seen) {
+            Ok(()) => Ok(round),
+            Err(fault) => {
+                remove_all(&mut self.system, &round.asides);
+                self.new_file = Some(round.new_file);
+                Err(fault)
             }
         }
-        Ok(asides)
     }
 
-    fn write_one_aside(
+    /// Writes these new files aside, in a round that has none yet.
+    fn fill_round(
+        &mut self,
+        alloc: Global,
+        writes: &[FileWrite],
+        round: &mut Round,
+        seen: &mut Seen,
+    ) -> Result<(), FolderFault>
+        requires { round.old.asides.items ≡ [] }
+        ensures folder { round.new.new_file.folder ≡ round.old.new_file.folder }
+        ensures begun { AreBegun (⟦<HostSystem<R> as System>⟧.honest self.new.system × IsTrue (is_ok result)) round.old.new_file.folder.identity writes.now round.new.asides.items
+            (⟦<HostSystem<R> as System>⟧.holds self.old.system) (⟦<HostSystem<R> as System>⟧.holds self.new.system) }
+        ensures some { BeginsWithFile writes.now → IfOk result (λ _. 0 < length round.new.asides.items) }
+        ensures syncs { self.new.unsynced.syncs ≡ self.old.unsynced.syncs }
+        ensures earlier { ⟦<HostSystem<R> as System>⟧.honest self.new.system → ⟦<HostSystem<R> as System>⟧.honest self.old.system }
+        ensures changes { OnlyChanges IsNewFile (⟦<HostSystem<R> as System>⟧.changes self.old.system) (⟦<HostSystem<R> as System>⟧.changes self.new.system) }
+        ensures known { AreKnown seen.old.reads.items writes.now round.new.asides.items }
+        ensures reads { seen.new.reads ≡ seen.old.reads }
+    {
+        for write in writes {
+            let Some(parts) = write.file else {
+                return Ok(());
+            };
+            let number = round.asides.len();
+            if let Err(fault) = self.add_aside(alloc, write, parts, round, seen) {
+                if number == 0 {
+                    return Err(fault);
+                }
+                return round.new_file.check_free(&mut self.system, alloc, number);
+            }
+        }
+        Ok(())
+    }
+
+    /// Writes one more new file aside, if there is room for a file at its path.
+    fn add_aside(
         &mut self,
         alloc: Global,
         write: &FileWrite,
         parts: Parts,
-        number: usize,
+        round: &mut Round,
         seen: &mut Seen,
-    ) -> Result<NewContent, FolderFault>
+    ) -> Result<(), FolderFault>
+        ensures folder { round.new.new_file.folder ≡ round.old.new_file.folder }
+        ensures others { IsAlikeBut (new_place round.old.new_file.folder.identity (length round.old.asides.items)) (⟦<HostSystem<R> as System>⟧.holds self.old.system) (⟦<HostSystem<R> as System>⟧.holds self.new.system) }
+        ensures added { IsAdded round.old.new_file.folder.identity (⟦<HostSystem<R> as System>⟧.holds self.new.system) (joined parts.entry) round.old.asides.items round.new.asides.items (is_ok result) }
+        ensures syncs { self.new.unsynced.syncs ≡ self.old.unsynced.syncs }
+        ensures earlier { ⟦<HostSystem<R> as System>⟧.honest self.new.system → ⟦<HostSystem<R> as System>⟧.honest self.old.system }
         ensures changes { OnlyChanges IsNewFile (⟦<HostSystem<R> as System>⟧.changes self.old.system) (⟦<HostSystem<R> as System>⟧.changes self.new.system) }
-        ensures known { IfOk result (IsKnownAside seen.old.reads.items write.now.path.now) }
+        ensures known { IfOk result (λ _. (one : NewContent) × (round.new.asides.items ≡ round.old.asides.items ++ one ∷ []) × IsKnownAside seen.old.reads.items write.now.path.now one) }
         ensures reads { seen.new.reads ≡ seen.old.reads }
     {
         let (folder, _) = folder_and_name(write.path.text());
         let found = self.make_room(alloc, write.path, seen.next_at(write.path))?;
         self.unsynced.note(alloc, folder)?;
-        let mut new_file = self.take_new_file(alloc)?;
-        if let Err(fault) = self.trail.enter_seen(&mut self.system, alloc, folder) {
-            // The new files before this one are still to be named, by the folder that it holds
-            // open.
-            self.new_file = Some(new_file);
-            return Err(fault);
-        }
-        let target = self.trail.current()?;
+        self.trail.enter_seen(&mut self.system, alloc, folder)?;
         let content = Content {
             parts,
-            wanted: self.keeping.wanted(target, found),
+            wanted: self.keeping.wanted(self.trail.current()?, found),
             found,
         };
-        let aside = new_file.write_one_aside(&mut self.system, alloc, number, content);
-        if aside.is_ok() {
-            self.keeping
-                .note_written(write.path.text(), found, new_file.kept());
+        let number = round.asides.len();
+        let aside = round
+            .new_file
+            .write_one_aside(&mut self.system, alloc, number, content)?;
+        self.keeping
+            .note_written(write.path.text(), found, round.new_file.kept());
+        let one = NewContent { aside, seen: found };
+        match round.asides.push(one) {
+            Ok(()) => Ok(()),
+            Err(full) => {
+                let _ = self.system.discard(&full.value.aside);
+                Err(FolderFault::Memory)
+            }
         }
-        self.new_file = Some(new_file);
-        let aside = aside?;
-        Ok(NewContent { aside, seen: found })
     }
 
     /// Makes the data of the new files lasting and gives each its name, in order: the first so many
@@ -216,10 +293,18 @@ impl<R: Files<File = File> + AllocGlobal + Clone + Drop> RootFolder<R> {
         &mut self,
         alloc: Global,
         writes: &[FileWrite],
+        new_file: &mut NewFile,
         asides: &[NewContent],
     ) -> Result<(), Stop>
         requires { 0 < length writes.now }
         ensures stop { IfErr result (λ stop. stop.made < length writes.now) }
+        ensures folder { new_file.new.folder ≡ new_file.old.folder }
+        ensures named { ⟦<HostSystem<R> as System>⟧.honest self.new.system → 0 < length asides.now → length asides.now ≤ length writes.now
+            → HavePlaces new_file.old.folder.identity asides.now → AreApart asides.now
+            → AreAside new_file.old.folder.identity false (⟦<HostSystem<R> as System>⟧.holds self.old.system) 0 (length asides.now) writes.now asides.now
+            → AreNamed new_file.old.folder.identity (is_kept self.old.unsynced.syncs) writes.now asides.now (disk_of ⟦<HostSystem<R> as System>⟧ self.old.system) (disk_of ⟦<HostSystem<R> as System>⟧ self.new.system) result }
+        ensures syncs { self.new.unsynced.syncs ≡ self.old.unsynced.syncs }
+        ensures earlier { ⟦<HostSystem<R> as System>⟧.honest self.new.system → ⟦<HostSystem<R> as System>⟧.honest self.old.system }
         ensures keeps_edits { (reads : List ReadPath) → AreKnown reads writes.now asides.now
             → LoseNoEdits reads writes.now (⟦<HostSystem<R> as System>⟧.changes self.old.system) (⟦<HostSystem<R> as System>⟧.changes self.new.system) }
     {
@@ -227,12 +312,19 @@ impl<R: Files<File = File> + AllocGlobal + Clone + Drop> RootFolder<R> {
             remove_all(&mut self.system, asides);
             return Err(Stop::at_first(fault));
         }
-        self.name_each(alloc, writes, asides)
+        self.name_each(alloc, writes, new_file, asides)
     }
 
     /// Makes the data of the new files lasting.
     fn sync_all(&mut self, writes: &[FileWrite], asides: &[NewContent]) -> Result<(), FolderFault>
-        ensures { ⟦<HostSystem<R> as System>⟧.changes self.new.system ≡ ⟦<HostSystem<R> as System>⟧.changes self.old.system }
+        ensures synced { (new_files : Identity) → length asides.now ≤ length writes.now → AreApart asides.now
+            → AreAside new_files false (⟦<HostSystem<R> as System>⟧.holds self.old.system) 0 (length asides.now) writes.now asides.now
+            → IfOk result (λ _. AreAside new_files (is_kept self.old.unsynced.syncs) (⟦<HostSystem<R> as System>⟧.holds self.new.system) 0 (length asides.now) writes.now asides.now)
+            × IsAlikeUnless (IsNumbered new_files (length asides.now)) (⟦<HostSystem<R> as System>⟧.holds self.old.system) (⟦<HostSystem<R> as System>⟧.holds self.new.system) }
+        ensures syncs { self.new.unsynced.syncs ≡ self.old.unsynced.syncs }
+        ensures still { ⟦<HostSystem<R> as System>⟧.folders self.new.system ≡ ⟦<HostSystem<R> as System>⟧.folders self.old.system }
+        ensures earlier { ⟦<HostSystem<R> as System>⟧.honest self.new.system → ⟦<HostSystem<R> as System>⟧.honest self.old.system }
+        ensures changes { ⟦<HostSystem<R> as System>⟧.changes self.new.system ≡ ⟦<HostSystem<R> as System>⟧.changes self.old.system }
     {
         for (at, new) in asides.iter().enumerate() {
             let Some(write) = writes.get(at) else {
@@ -243,14 +335,36 @@ impl<R: Files<File = File> + AllocGlobal + Clone + Drop> RootFolder<R> {
         Ok(())
     }
 
+    /// Makes the data of the new file lasting that is to get this path.
+    fn sync_aside(&mut self, aside: &Aside, path: &PathText) -> Result<(), FolderFault>
+        ensures synced { MatchResult result
+            (λ _. IsSyncedIf (is_kept self.old.unsynced.syncs) (key_of aside.now) (⟦<HostSystem<R> as System>⟧.holds self.old.system) (⟦<HostSystem<R> as System>⟧.holds self.new.system))
+            (λ _. IsAlikeButFile (key_of aside.now) (⟦<HostSystem<R> as System>⟧.holds self.old.system) (⟦<HostSystem<R> as System>⟧.holds self.new.system)) }
+        ensures syncs { self.new.unsynced.syncs ≡ self.old.unsynced.syncs }
+        ensures still { ⟦<HostSystem<R> as System>⟧.folders self.new.system ≡ ⟦<HostSystem<R> as System>⟧.folders self.old.system }
+        ensures earlier { ⟦<HostSystem<R> as System>⟧.honest self.new.system → ⟦<HostSystem<R> as System>⟧.honest self.old.system }
+        ensures changes { ⟦<HostSystem<R> as System>⟧.changes self.new.system ≡ ⟦<HostSystem<R> as System>⟧.changes self.old.system }
+    {
+        let unsynced = &mut self.unsynced;
+        Ok(unsynced.sync_data(&mut self.system, aside, path.text())?)
+    }
+
     /// Gives each new file its name, in order. If one fails, it and those behind it are removed.
     fn name_each(
         &mut self,
         alloc: Global,
         writes: &[FileWrite],
+        new_file: &mut NewFile,
         asides: &[NewContent],
     ) -> Result<(), Stop>
         ensures stop { IfErr result (λ stop. stop.made < length writes.now) }
+        ensures folder { new_file.new.folder ≡ new_file.old.folder }
+        ensures named { ⟦<HostSystem<R> as System>⟧.honest self.new.system → length asides.now ≤ length writes.now
+            → HavePlaces new_file.old.folder.identity asides.now → AreApart asides.now
+            → AreAside new_file.old.folder.identity (is_kept self.old.unsynced.syncs) (⟦<HostSystem<R> as System>⟧.holds self.old.system) 0 (length asides.now) writes.now asides.now
+            → AreNamed new_file.old.folder.identity (is_kept self.old.unsynced.syncs) writes.now asides.now (disk_of ⟦<HostSystem<R> as System>⟧ self.old.system) (disk_of ⟦<HostSystem<R> as System>⟧ self.new.system) result }
+        ensures syncs { self.new.unsynced.syncs ≡ self.old.unsynced.syncs }
+        ensures earlier { ⟦<HostSystem<R> as System>⟧.honest self.new.system → ⟦<HostSystem<R> as System>⟧.honest self.old.system }
         ensures keeps_edits { (reads : List ReadPath) → AreKnown reads writes.now asides.now
             → LoseNoEdits reads writes.now (⟦<HostSystem<R> as System>⟧.changes self.old.system) (⟦<HostSystem<R> as System>⟧.changes self.new.system) }
     {
@@ -258,7 +372,7 @@ impl<R: Files<File = File> + AllocGlobal + Clone + Drop> RootFolder<R> {
             let Some(new) = asides.get(made) else {
                 return Ok(());
             };
-            if let Err(fault) = self.name_one(alloc, new, write) {
+            if let Err(fault) = self.name_one(alloc, new_file, new, write) {
                 remove_all(&mut self.system, &asides[made..]);
                 return Err(Stop { made, fault });
             }
@@ -266,23 +380,22 @@ impl<R: Files<File = File> + AllocGlobal + Clone + Drop> RootFolder<R> {
         Ok(())
     }
 
-    /// Makes the data of the new file lasting that is to get this path.
-    fn sync_aside(&mut self, aside: &Aside, path: &PathText) -> Result<(), FolderFault>
-        ensures { ⟦<HostSystem<R> as System>⟧.changes self.new.system ≡ ⟦<HostSystem<R> as System>⟧.changes self.old.system }
-    {
-        let unsynced = &mut self.unsynced;
-        Ok(unsynced.sync_data(&mut self.system, aside, path.text())?)
-    }
-
     /// Gives the new file its name, if what was seen at the path stands there. If that leads to
     /// another device, the file is written anew beside the one that it is to be.
     fn name_one(
         &mut self,
         alloc: Global,
+        new_file: &mut NewFile,
         new: &NewContent,
         write: &FileWrite,
     ) -> Result<(), FolderFault>
-        ensures { (reads : List ReadPath) → IsKnownAside reads write.now.path.now new.now
+        ensures folder { new_file.new.folder ≡ new_file.old.folder }
+        ensures named { ⟦<HostSystem<R> as System>⟧.honest self.new.system → (count number : ℕ)
+            → StandsAside new_file.old.folder.identity count (is_kept self.old.unsynced.syncs) (⟦<HostSystem<R> as System>⟧.holds self.old.system) number write.now new.now
+            → IsNamed new_file.old.folder.identity count (is_kept self.old.unsynced.syncs) number write.now new.now (disk_of ⟦<HostSystem<R> as System>⟧ self.old.system) (disk_of ⟦<HostSystem<R> as System>⟧ self.new.system) (is_ok result) }
+        ensures syncs { self.new.unsynced.syncs ≡ self.old.unsynced.syncs }
+        ensures earlier { ⟦<HostSystem<R> as System>⟧.honest self.new.system → ⟦<HostSystem<R> as System>⟧.honest self.old.system }
+        ensures keeps_edits { (reads : List ReadPath) → IsKnownAside reads write.now.path.now new.now
             → LoseNoEdits reads (write.now ∷ []) (⟦<HostSystem<R> as System>⟧.changes self.old.system) (⟦<HostSystem<R> as System>⟧.changes self.new.system) }
     {
         let path = write.path.text();
@@ -293,16 +406,19 @@ impl<R: Files<File = File> + AllocGlobal + Clone + Drop> RootFolder<R> {
             name,
             path,
         };
+        new_file.check(target)?;
         if name_aside(&mut self.system, &new.aside, target, new.seen)? {
             return Ok(());
         }
-        self.system.discard(&new.aside);
-        match write.file {
-            Some(parts) => {
-                let expected = Expected::of(new.seen);
-                self.put_expected(alloc, write.path, parts, expected)
-            }
-            None => Ok(()),
-        }
+        self.system.discard(&new.aside)?;
+        let Some(parts) = write.file else {
+            return Ok(());
+        };
+        let content = Content {
+            parts,
+            wanted: self.keeping.wanted(target.folder, new.seen),
+            found: new.seen,
+        };
+        new_file.write_beside(&mut self.system, alloc, target, content, &mut self.unsynced)
     }
 }

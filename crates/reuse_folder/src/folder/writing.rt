@@ -1,6 +1,7 @@
 //! Putting and removing a file. What a put makes of the names is stated by what each call of the
 //! system makes of them, whatever was there.
-ghost use Rattle.std.specs.Prelude.{◌≡◌, is_ok, IfOk, IsErr, IsTrue};
+ghost use Rattle.std.specs.Prelude.{◌≡◌, is_ok, IfOk, IsErr, IsTrue, None};
+ghost use Rattle.reuse_system.specs.declared.place.Identity.{Identity};
 ghost use Rattle.reuse_system.specs.KeptOut.{is_kept_out};
 
 use super::RootFolder;
@@ -17,8 +18,8 @@ use std::fs::File;
 use std::rt::Files;
 
 impl<R: Files<File = File> + AllocGlobal + Clone + Drop> RootFolder<R> {
-    ghost use Rattle.reuse_folder.specs.FolderWrites.{IsCleared, IsGone, IsPutAt, IsPutIn, IsRemovedAt, IsRemovedIn, IsStoredAt};
-    ghost use Rattle.reuse_disk.specs.Written.{is_kept};
+    ghost use Rattle.reuse_folder.specs.FolderWrites.{IsCleared, IsGone, IsPutBy, IsPutIn, IsRemovedAt, IsRemovedIn, IsStoredAt, IsTidy};
+    ghost use Rattle.reuse_disk.specs.Written.{is_kept, LeavesNone};
     ghost use Rattle.reuse_folder.specs.Seen.{IsSeenAs, IsSeenBefore, LosesNoEdit, LosesNoEditAfter};
     ghost use Rattle.reuse_change.specs.Parts.{joined};
 
@@ -37,11 +38,12 @@ impl<R: Files<File = File> + AllocGlobal + Clone + Drop> RootFolder<R> {
     /// Makes the parts joined the file at the path, as a whole or not at all, and folders as
     /// needed.
     pub fn put(&mut self, alloc: Global, path: &PathText, parts: Parts) -> Result<(), FolderFault>
-        ensures written { IsPutAt path.now (joined parts.entry) (is_kept self.old.unsynced.syncs)
+        ensures written { (new_files : Identity) × IsPutBy new_files path.now (joined parts.entry) (is_kept self.old.unsynced.syncs)
             (⟦<HostSystem<R> as System>⟧.holds self.old.system) (⟦<HostSystem<R> as System>⟧.holds self.new.system) (is_ok result) }
         ensures place { ⟦<HostSystem<R> as System>⟧.honest self.new.system
-            → IsPutIn (⟦<HostSystem<R> as System>⟧.folders self.new.system) path.now (joined parts.entry) (is_kept self.old.unsynced.syncs)
-            (⟦<HostSystem<R> as System>⟧.holds self.old.system) (⟦<HostSystem<R> as System>⟧.holds self.new.system) (is_ok result) }
+            → (new_files : Identity) × IsPutIn new_files (⟦<HostSystem<R> as System>⟧.folders self.new.system) path.now (joined parts.entry) (is_kept self.old.unsynced.syncs)
+            (⟦<HostSystem<R> as System>⟧.holds self.old.system) (⟦<HostSystem<R> as System>⟧.holds self.new.system) (is_ok result)
+            × IsTidy new_files (⟦<HostSystem<R> as System>⟧.holds self.old.system) (⟦<HostSystem<R> as System>⟧.holds self.new.system) (is_ok result) }
         ensures stands { ⟦<HostSystem<R> as System>⟧.honest self.new.system
             → IfOk result (λ _. IsStoredAt (⟦<HostSystem<R> as System>⟧.folders self.new.system) (⟦<HostSystem<R> as System>⟧.holds self.new.system) path.now (joined parts.entry) (is_kept self.old.unsynced.syncs)) }
         ensures earlier { ⟦<HostSystem<R> as System>⟧.honest self.new.system → ⟦<HostSystem<R> as System>⟧.honest self.old.system }
@@ -55,18 +57,19 @@ impl<R: Files<File = File> + AllocGlobal + Clone + Drop> RootFolder<R> {
     }
 
     /// Does so if what is expected stands at the path.
-    pub(super) fn put_expected(
+    fn put_expected(
         &mut self,
         alloc: Global,
         path: &PathText,
         parts: Parts,
         expected: Expected,
     ) -> Result<(), FolderFault>
-        ensures written { IsPutAt path.now (joined parts.entry) (is_kept self.old.unsynced.syncs)
+        ensures written { (new_files : Identity) × IsPutBy new_files path.now (joined parts.entry) (is_kept self.old.unsynced.syncs)
             (⟦<HostSystem<R> as System>⟧.holds self.old.system) (⟦<HostSystem<R> as System>⟧.holds self.new.system) (is_ok result) }
         ensures place { ⟦<HostSystem<R> as System>⟧.honest self.new.system
-            → IsPutIn (⟦<HostSystem<R> as System>⟧.folders self.new.system) path.now (joined parts.entry) (is_kept self.old.unsynced.syncs)
-            (⟦<HostSystem<R> as System>⟧.holds self.old.system) (⟦<HostSystem<R> as System>⟧.holds self.new.system) (is_ok result) }
+            → (new_files : Identity) × IsPutIn new_files (⟦<HostSystem<R> as System>⟧.folders self.new.system) path.now (joined parts.entry) (is_kept self.old.unsynced.syncs)
+            (⟦<HostSystem<R> as System>⟧.holds self.old.system) (⟦<HostSystem<R> as System>⟧.holds self.new.system) (is_ok result)
+            × IsTidy new_files (⟦<HostSystem<R> as System>⟧.holds self.old.system) (⟦<HostSystem<R> as System>⟧.holds self.new.system) (is_ok result) }
         ensures stands { ⟦<HostSystem<R> as System>⟧.honest self.new.system
             → IfOk result (λ _. IsStoredAt (⟦<HostSystem<R> as System>⟧.folders self.new.system) (⟦<HostSystem<R> as System>⟧.holds self.new.system) path.now (joined parts.entry) (is_kept self.old.unsynced.syncs)) }
         ensures earlier { ⟦<HostSystem<R> as System>⟧.honest self.new.system → ⟦<HostSystem<R> as System>⟧.honest self.old.system }
@@ -124,11 +127,12 @@ impl<R: Files<File = File> + AllocGlobal + Clone + Drop> RootFolder<R> {
         parts: Parts,
         found: Option<FileStatus>,
     ) -> Result<(), FolderFault>
-        ensures written { IsPutAt path.now (joined parts.entry) (is_kept self.old.unsynced.syncs)
+        ensures written { (new_files : Identity) × IsPutBy new_files path.now (joined parts.entry) (is_kept self.old.unsynced.syncs)
             (⟦<HostSystem<R> as System>⟧.holds self.old.system) (⟦<HostSystem<R> as System>⟧.holds self.new.system) (is_ok result) }
         ensures place { ⟦<HostSystem<R> as System>⟧.honest self.new.system
-            → IsPutIn (⟦<HostSystem<R> as System>⟧.folders self.new.system) path.now (joined parts.entry) (is_kept self.old.unsynced.syncs)
-            (⟦<HostSystem<R> as System>⟧.holds self.old.system) (⟦<HostSystem<R> as System>⟧.holds self.new.system) (is_ok result) }
+            → (new_files : Identity) × IsPutIn new_files (⟦<HostSystem<R> as System>⟧.folders self.new.system) path.now (joined parts.entry) (is_kept self.old.unsynced.syncs)
+            (⟦<HostSystem<R> as System>⟧.holds self.old.system) (⟦<HostSystem<R> as System>⟧.holds self.new.system) (is_ok result)
+            × IsTidy new_files (⟦<HostSystem<R> as System>⟧.holds self.old.system) (⟦<HostSystem<R> as System>⟧.holds self.new.system) (is_ok result) }
         ensures earlier { ⟦<HostSystem<R> as System>⟧.honest self.new.system → ⟦<HostSystem<R> as System>⟧.honest self.old.system }
         ensures keeps_edits { (expected : Expected) → IsSeenAs expected found → LosesNoEdit path.now expected
             (⟦<HostSystem<R> as System>⟧.changes self.old.system) (⟦<HostSystem<R> as System>⟧.changes self.new.system) (⟦<HostSystem<R> as System>⟧.holds self.old.system) (⟦<HostSystem<R> as System>⟧.holds self.new.system) }
@@ -172,7 +176,7 @@ impl<R: Files<File = File> + AllocGlobal + Clone + Drop> RootFolder<R> {
 
     /// The place of new files, opened as needed.
     pub(super) fn take_new_file(&mut self, alloc: Global) -> Result<NewFile, FolderFault>
-        ensures cleared { IsCleared (⟦<HostSystem<R> as System>⟧.changes self.old.system) (⟦<HostSystem<R> as System>⟧.changes self.new.system) (⟦<HostSystem<R> as System>⟧.holds self.old.system) (⟦<HostSystem<R> as System>⟧.holds self.new.system) result }
+        ensures cleared { IsCleared (⟦<HostSystem<R> as System>⟧.changes self.old.system) (⟦<HostSystem<R> as System>⟧.changes self.new.system) self.old.new_file (⟦<HostSystem<R> as System>⟧.holds self.old.system) (⟦<HostSystem<R> as System>⟧.holds self.new.system) result }
         ensures earlier { ⟦<HostSystem<R> as System>⟧.honest self.new.system → ⟦<HostSystem<R> as System>⟧.honest self.old.system }
         ensures syncs { self.new.unsynced.syncs ≡ self.old.unsynced.syncs }
     {
@@ -184,7 +188,7 @@ impl<R: Files<File = File> + AllocGlobal + Clone + Drop> RootFolder<R> {
 
     /// Opens the journal's folder for new files; it is made as needed.
     fn open_new_file(&mut self, alloc: Global) -> Result<NewFile, FolderFault>
-        ensures cleared { IsCleared (⟦<HostSystem<R> as System>⟧.changes self.old.system) (⟦<HostSystem<R> as System>⟧.changes self.new.system) (⟦<HostSystem<R> as System>⟧.holds self.old.system) (⟦<HostSystem<R> as System>⟧.holds self.new.system) result }
+        ensures cleared { IsCleared (⟦<HostSystem<R> as System>⟧.changes self.old.system) (⟦<HostSystem<R> as System>⟧.changes self.new.system) None (⟦<HostSystem<R> as System>⟧.holds self.old.system) (⟦<HostSystem<R> as System>⟧.holds self.new.system) result }
         ensures earlier { ⟦<HostSystem<R> as System>⟧.honest self.new.system → ⟦<HostSystem<R> as System>⟧.honest self.old.system }
         ensures syncs { self.new.unsynced.syncs ≡ self.old.unsynced.syncs }
     {
@@ -243,6 +247,10 @@ impl<R: Files<File = File> + AllocGlobal + Clone + Drop> RootFolder<R> {
             → IsRemovedIn (⟦<HostSystem<R> as System>⟧.folders self.new.system) path.now (⟦<HostSystem<R> as System>⟧.holds self.old.system) (⟦<HostSystem<R> as System>⟧.holds self.new.system) }
         ensures gone { ⟦<HostSystem<R> as System>⟧.honest self.new.system
             → IfOk result (λ _. IsGone (⟦<HostSystem<R> as System>⟧.folders self.new.system) (⟦<HostSystem<R> as System>⟧.holds self.new.system) path.now) }
+        ensures none_left { IfOk result (λ _. LeavesNone (λ _. Unit {0}) (⟦<HostSystem<R> as System>⟧.holds self.old.system) (⟦<HostSystem<R> as System>⟧.holds self.new.system)) }
+        ensures earlier { ⟦<HostSystem<R> as System>⟧.honest self.new.system → ⟦<HostSystem<R> as System>⟧.honest self.old.system }
+        ensures syncs { self.new.unsynced.syncs ≡ self.old.unsynced.syncs }
+        ensures new_file { self.new.new_file ≡ self.old.new_file }
         ensures keeps_edits { LosesNoEdit path.now expected (⟦<HostSystem<R> as System>⟧.changes self.old.system) (⟦<HostSystem<R> as System>⟧.changes self.new.system)
             (⟦<HostSystem<R> as System>⟧.holds self.old.system) (⟦<HostSystem<R> as System>⟧.holds self.new.system) }
     {

@@ -166,10 +166,11 @@ impl<R: Files<File = File> + AllocGlobal + Drop> System for HostSystem<R> {
         answer
     }
 
-    fn discard(&mut self, aside: &Aside) {
+    fn discard(&mut self, aside: &Aside) -> io::Result<()> {
         let answer = fs::remove_file(&self.rt, aside.path.as_str());
         let kind = CallKind::Remove(aside.folder, answer.is_ok());
         self.noted.note(&kind, aside.name.as_bytes(), b"");
+        answer
     }
 
     fn remove(&mut self, folder: &OpenFolder, name: &str) -> io::Result<()> {

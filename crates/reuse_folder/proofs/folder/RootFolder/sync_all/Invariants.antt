@@ -1,6 +1,23 @@
-use Rattle.std.proofs.Common.{◌≡◌}
+use Rattle.std.proofs.Common.{◌≡◌, ◌≤◌, false, length}
 use Rattle.reuse_system.specs.SystemCalls.{changes_of}
+use Rattle.reuse_system.specs.SystemLaws.{IsAlikeUnless}
+use Rattle.reuse_system.specs.declared.place.Identity.{Identity}
+use Rattle.reuse_disk.specs.Written.{is_kept}
+use Rattle.reuse_folder.specs.Rounds.{AreApart, AreAside, IsNumbered}
+use Rattle.reuse_folder.proofs.Noted.{folders_of, held_of, Honest_of}
+use Rattle.reuse_folder.proofs.RoundLemmas.{AreSynced}
 use Rattle.reuse_folder.proofs.folder.RootFolder.sync_all.Given as goal
 
+-- so far the new files before this one are synced, and only new files differ
 abbrev pub invariant-loop-at : goal.invariant-loop-at
-invariant-loop-at g l = changes_of l.self.system.noted.calls ≡ changes_of l.fn.self.system.noted.calls
+invariant-loop-at g l =
+    let first = l.fn.self.system.noted in
+    let now = l.self.system.noted in
+    record {
+      synced : (new_files : Identity) → length l.asides ≤ length l.writes → AreApart l.asides → AreAside new_files false (held_of first) 0 (length l.asides) l.writes l.asides
+          → AreSynced new_files (is_kept l.fn.self.unsynced.syncs) (held_of now) l.at l.writes l.asides × IsAlikeUnless (IsNumbered new_files (length l.asides)) (held_of first) (held_of now);
+      syncs : l.self.unsynced.syncs ≡ l.fn.self.unsynced.syncs;
+      still : folders_of now ≡ folders_of first;
+      earlier : Honest_of now → Honest_of first;
+      changes : changes_of now.calls ≡ changes_of first.calls;
+    }

@@ -5,48 +5,87 @@ use Rattle.reuse_system.specs.FileStates.{place_in}
 use Rattle.reuse_disk.specs.Trails.{current_of, AreOpened}
 use Rattle.reuse_system.specs.NameChanges.{OnlyChanges}
 use Rattle.reuse_system.specs.Names.{IsNameOf, IsSplit}
-use Rattle.reuse_system.specs.SystemCalls.{changes_of, folders_after, held_after}
+use Rattle.reuse_system.specs.SystemCalls.{changes_of, held_after}
 use Rattle.reuse_system.specs.SystemLaws.{IsAlikeUnless}
-use Rattle.reuse_disk.specs.Written.{IsWritten, is_kept}
-use Rattle.reuse_folder.proofs.FolderLemmas.{nothing_put, cleared_alone, put_at}
-use Rattle.reuse_folder.proofs.PutLemmas.{nothing_put_in, not_put_in, put_in}
+use Rattle.reuse_disk.specs.Written.{IsWritten, LeavesNone, is_kept}
+use Rattle.reuse_folder.proofs.Noted.{folders_of, held_of}
+use Rattle.reuse_folder.proofs.PutLemmas.{not_put_by, not_put_in, nothing_put_by, nothing_put_in, of_ok, put_by, put_in}
+use Rattle.reuse_folder.proofs.ReadLemmas.{named_of}
 use Rattle.reuse_folder.proofs.SeenLemmas.{loses_none, loses_only, loses_put}
 use Rattle.reuse_folder.proofs.folder.RootFolder.write.Goals as goal
 
 pub returns-in_err-note-clause-written : goal.returns-in_err-note-clause-written
-returns-in_err-note-clause-written g c = let failed : is_ok c.from_residual.result ≡ false = search rules in rw failed (nothing_put _ _ _ _)
+returns-in_err-note-clause-written g c =
+    let failed : is_ok c.from_residual.result ≡ false = search rules in
+    nothing_put_by c.args.path.now (joined c.args.parts) (is_kept c.args.self.now.unsynced.syncs) (held_of c.args.self.now.system.noted) (is_ok c.from_residual.result) failed
+
+pub returns-in_err-note-clause-place : goal.returns-in_err-note-clause-place
+returns-in_err-note-clause-place g c honest =
+    let failed : is_ok c.from_residual.result ≡ false = search rules in
+    nothing_put_in (folders_of c.args.self.now.system.noted) c.args.path.now (joined c.args.parts) (is_kept c.args.self.now.unsynced.syncs) (held_of c.args.self.now.system.noted) (is_ok c.from_residual.result) failed
 
 pub returns-in_err-new_file-clause-written : goal.returns-in_err-new_file-clause-written
 returns-in_err-new_file-clause-written g c =
     let failed : is_ok c.from_residual-in_err-new_file.result ≡ false = search rules in
-    let name = c.folder_and_name.result.1.now in
-    let named : IsNameOf c.args.path.now name = search rules in
     let cleared = c.take_new_file.ensures.cleared in
-    rw failed (cleared_alone c.args.path.now name cleared.folder _ _ _ _ named cleared.others)
+    not_put_by cleared.folder c.args.path.now (joined c.args.parts) (is_kept c.args.self.now.unsynced.syncs) (held_of c.args.self.now.system.noted) (held_of c.take_new_file.new.self.system.noted)
+    (is_ok c.from_residual-in_err-new_file.result) failed cleared.others
+
+pub returns-in_err-new_file-clause-place : goal.returns-in_err-new_file-clause-place
+returns-in_err-new_file-clause-place g c honest =
+    let failed : is_ok c.from_residual-in_err-new_file.result ≡ false = search rules in
+    let cleared = c.take_new_file.ensures.cleared in
+    not_put_in (folders_of c.take_new_file.new.self.system.noted) c.args.path.now (joined c.args.parts) (is_kept c.args.self.now.unsynced.syncs) (held_of c.args.self.now.system.noted)
+    (held_of c.take_new_file.new.self.system.noted) (is_ok c.from_residual-in_err-new_file.result) cleared.folder failed cleared.others
+
+pub returns-in_err-enter_seen-clause-written : goal.returns-in_err-enter_seen-clause-written
+returns-in_err-enter_seen-clause-written g c =
+    let failed : is_ok c.from_residual-in_err-enter_seen.result ≡ false = search rules in
+    let cleared = c.take_new_file.ensures.cleared in
+    not_put_by cleared.folder c.args.path.now (joined c.args.parts) (is_kept c.args.self.now.unsynced.syncs) (held_of c.args.self.now.system.noted) (held_of c.enter_seen.new.system.noted)
+    (is_ok c.from_residual-in_err-enter_seen.result) failed (rw c.enter_seen.ensures.kept cleared.others)
+
+pub returns-in_err-enter_seen-clause-place : goal.returns-in_err-enter_seen-clause-place
+returns-in_err-enter_seen-clause-place g c honest =
+    let failed : is_ok c.from_residual-in_err-enter_seen.result ≡ false = search rules in
+    let cleared = c.take_new_file.ensures.cleared in
+    not_put_in (folders_of c.enter_seen.new.system.noted) c.args.path.now (joined c.args.parts) (is_kept c.args.self.now.unsynced.syncs) (held_of c.args.self.now.system.noted)
+    (held_of c.enter_seen.new.system.noted) (is_ok c.from_residual-in_err-enter_seen.result) cleared.folder failed (rw c.enter_seen.ensures.kept cleared.others)
+
+pub returns-in_err-current-clause-written : goal.returns-in_err-current-clause-written
+returns-in_err-current-clause-written g c =
+    let failed : is_ok c.from_residual-in_err-current.result ≡ false = search rules in
+    let cleared = c.take_new_file.ensures.cleared in
+    not_put_by cleared.folder c.args.path.now (joined c.args.parts) (is_kept c.args.self.now.unsynced.syncs) (held_of c.args.self.now.system.noted) (held_of c.enter_seen.new.system.noted)
+    (is_ok c.from_residual-in_err-current.result) failed (rw c.enter_seen.ensures.kept cleared.others)
+
+pub returns-in_err-current-clause-place : goal.returns-in_err-current-clause-place
+returns-in_err-current-clause-place g c honest =
+    let failed : is_ok c.from_residual-in_err-current.result ≡ false = search rules in
+    let cleared = c.take_new_file.ensures.cleared in
+    not_put_in (folders_of c.enter_seen.new.system.noted) c.args.path.now (joined c.args.parts) (is_kept c.args.self.now.unsynced.syncs) (held_of c.args.self.now.system.noted)
+    (held_of c.enter_seen.new.system.noted) (is_ok c.from_residual-in_err-current.result) cleared.folder failed (rw c.enter_seen.ensures.kept cleared.others)
 
 pub returns-clause-written : goal.returns-clause-written
 returns-clause-written g c =
     let path = c.args.path.now in
+    let above = c.folder_and_name.result.0.now in
     let name = c.folder_and_name.result.1.now in
-    let named : IsNameOf path name = search rules in
+    let split : IsSplit path above name = search rules in
     let bytes = joined c.args.parts in
     let is = is_kept c.args.self.now.unsynced.syncs in
     let is_done = is_ok c.write-written.result in
     let folder = c.in_ok-current.field-0.now.identity in
     let new_files = c.in_ok-new_file.new_file.folder.identity in
-    let first = c.args.self.now.system.noted in
-    let between = c.take_new_file.new.self.system.noted in
-    let second = c.enter_seen.new.system.noted in
-    let third = c.write-written.new.system.noted in
-    let a = held_after first.files first.fates first.calls in
-    let b = held_after second.files second.fates second.calls in
-    let d = held_after third.files third.fates third.calls in
+    let a = held_of c.args.self.now.system.noted in
+    let b = held_of c.enter_seen.new.system.noted in
+    let d = held_of c.write-written.new.system.noted in
     let cleared = c.in_ok-new_file.ensures.cleared in
-    let cleared_alike : IsAlikeUnless (IsNewIn new_files) a (held_after between.files between.fates between.calls) = rw cleared.is_folder cleared.others in
+    let cleared_alike : IsAlikeUnless (IsNewIn new_files) a (held_of c.take_new_file.new.self.system.noted) = rw cleared.is_folder cleared.others in
     let alike : IsAlikeUnless (IsNewIn new_files) a b = rw c.enter_seen.ensures.kept cleared_alike in
-    let written : IsWritten (IsNewPlace new_files folder) (place_in folder name) bytes is b d is_done = search rules in
-    let put = put_at path name new_files folder bytes is a b d is_done named alike written in
-    search rules
+    let syncs : c.take_new_file.new.self.unsynced.syncs ≡ c.args.self.now.unsynced.syncs = search rules in
+    let written : IsWritten (IsNewPlace new_files folder) (place_in folder name) bytes is b d is_done = rw syncs at c.write-written.ensures.written in
+    rw c.note_written.ensures (put_by new_files folder path name bytes is a b d is_done (named_of path above name split) alike c.write-written.ensures.apart written)
 
 pub returns-clause-place : goal.returns-clause-place
 returns-clause-place g c honest =
@@ -59,36 +98,21 @@ returns-clause-place g c honest =
     let is_done = is_ok c.write-written.result in
     let folder = c.in_ok-current.field-0.now.identity in
     let new_files = c.in_ok-new_file.new_file.folder.identity in
-    let first = c.args.self.now.system.noted in
-    let between = c.take_new_file.new.self.system.noted in
-    let second = c.enter_seen.new.system.noted in
-    let third = c.write-written.new.system.noted in
-    let a = held_after first.files first.fates first.calls in
-    let b = held_after second.files second.fates second.calls in
-    let d = held_after third.files third.fates third.calls in
+    let a = held_of c.args.self.now.system.noted in
+    let b = held_of c.enter_seen.new.system.noted in
+    let d = held_of c.write-written.new.system.noted in
     let cleared = c.in_ok-new_file.ensures.cleared in
-    let cleared_alike : IsAlikeUnless (IsNewIn new_files) a (held_after between.files between.fates between.calls) = rw cleared.is_folder cleared.others in
+    let cleared_alike : IsAlikeUnless (IsNewIn new_files) a (held_of c.take_new_file.new.self.system.noted) = rw cleared.is_folder cleared.others in
     let alike : IsAlikeUnless (IsNewIn new_files) a b = rw c.enter_seen.ensures.kept cleared_alike in
-    let written : IsWritten (IsNewPlace new_files folder) (place_in folder name) bytes is b d is_done = search rules in
-    let entered = c.in_ok-enter_seen.ensures.entered c.take_new_file.new.self.opened (c.write-written.ensures.earlier (rw c.note_written.ensures at honest)) in
-    rw c.note_written.ensures (put_in (folders_after third.folders third.fates third.calls) (folders_after second.folders second.fates second.calls) path above name (current_of c.enter_seen.new.self) new_files folder bytes is a b d is_done
-    c.write-written.ensures.still split entered c.in_ok-current.ensures alike written)
-
-pub returns-in_err-note-clause-place : goal.returns-in_err-note-clause-place
-returns-in_err-note-clause-place g c honest =
-    let noted = c.args.self.now.system.noted in
-    let failed : is_ok c.from_residual.result ≡ false = search rules in
-    nothing_put_in (folders_after noted.folders noted.fates noted.calls) c.args.path.now (joined c.args.parts) (is_kept c.args.self.now.unsynced.syncs) (held_after noted.files noted.fates noted.calls) (is_ok c.from_residual.result) failed
-
-pub returns-in_err-new_file-clause-place : goal.returns-in_err-new_file-clause-place
-returns-in_err-new_file-clause-place g c honest =
-    let first = c.args.self.now.system.noted in
-    let second = c.take_new_file.new.self.system.noted in
-    let result = c.from_residual-in_err-new_file.result in
-    let failed : is_ok result ≡ false = search rules in
-    let cleared = c.take_new_file.ensures.cleared in
-    not_put_in (folders_after second.folders second.fates second.calls) c.args.path.now (joined c.args.parts) (is_kept c.args.self.now.unsynced.syncs) (held_after first.files first.fates first.calls)
-    (held_after second.files second.fates second.calls) (is_ok result) cleared.folder failed cleared.others
+    let syncs : c.take_new_file.new.self.unsynced.syncs ≡ c.args.self.now.unsynced.syncs = search rules in
+    let written : IsWritten (IsNewPlace new_files folder) (place_in folder name) bytes is b d is_done = rw syncs at c.write-written.ensures.written in
+    let late = rw c.note_written.ensures at honest in
+    let entered = c.in_ok-enter_seen.ensures.entered c.take_new_file.new.self.opened (c.write-written.ensures.earlier late) in
+    let none : LeavesNone (IsNewIn new_files) a (held_of c.take_new_file.new.self.system.noted) = rw cleared.is_folder cleared.none_left in
+    let none_left : LeavesNone (IsNewIn new_files) a b = rw c.enter_seen.ensures.kept none in
+    rw c.note_written.ensures (put_in (folders_of c.write-written.new.system.noted) (folders_of c.enter_seen.new.system.noted) path above name (current_of c.enter_seen.new.self) new_files folder bytes is a b d is_done
+    c.write-written.ensures.still split entered c.in_ok-current.ensures alike none_left c.write-written.ensures.apart written
+    (of_ok c.write-written.result (LeavesNone (IsNewPlace new_files folder) b d) (c.write-written.ensures.none_left late)))
 
 pub invariant_of-self-2 : goal.invariant_of-self-2
 invariant_of-self-2 g c =
