@@ -175,6 +175,7 @@ impl NewFile {
     ) -> io::Result<()>
         ensures folder { self.new.folder ≡ self.old.folder }
         ensures syncs { unsynced.new.syncs ≡ unsynced.old.syncs }
+        ensures folders { unsynced.new.folders ≡ unsynced.old.folders }
         ensures filled { MatchResult result
             (λ _. IsFilled (key_of aside.now) (joined content.entry.parts) (is_kept unsynced.old.syncs) (S.holds system.old) (S.holds system.new))
             (λ _. IsAlikeButFile (key_of aside.now) (S.holds system.old) (S.holds system.new)) }
@@ -198,6 +199,7 @@ impl NewFile {
     ) -> Result<bool, FolderFault>
         ensures folder { self.new.folder ≡ self.old.folder }
         ensures syncs { unsynced.new.syncs ≡ unsynced.old.syncs }
+        ensures folders { unsynced.new.folders ≡ unsynced.old.folders }
         ensures placed { StandsAlone (place_of aside.now) (key_of aside.now) [] false (S.holds system.old)
             → IsPlaced (S.honest system.new) (place_of aside.now) (name_in target.entry.folder.now target.entry.name.now) (joined content.entry.parts)
             (is_kept unsynced.old.syncs) (S.holds system.old) (S.holds system.new) (is_named result) (is_named result) }
@@ -222,6 +224,7 @@ impl NewFile {
     ) -> Result<bool, FolderFault>
         ensures folder { self.new.folder ≡ self.old.folder }
         ensures syncs { unsynced.new.syncs ≡ unsynced.old.syncs }
+        ensures folders { unsynced.new.folders ≡ unsynced.old.folders }
         ensures placed { StandsAlone (place_of aside.now) (key_of aside.now) [] false (S.holds system.old)
             → IsPlaced (S.honest system.new) (place_of aside.now) (name_in target.entry.folder.now target.entry.name.now) (joined content.entry.parts)
             (is_kept unsynced.old.syncs) (S.holds system.old) (S.holds system.new) (is_named result) (is_ok result) }
@@ -273,6 +276,7 @@ impl NewFile {
     ) -> Result<bool, FolderFault>
         ensures folder { self.new.folder ≡ self.old.folder }
         ensures syncs { unsynced.new.syncs ≡ unsynced.old.syncs }
+        ensures folders { unsynced.new.folders ≡ unsynced.old.folders }
         ensures placed { IsPlaced (S.honest system.new) (name_in self.old.folder (codes "new")) (name_in target.entry.folder.now target.entry.name.now) (joined content.entry.parts)
             (is_kept unsynced.old.syncs) (S.holds system.old) (S.holds system.new) (is_named result) (is_ok result) }
         ensures still { S.folders system.new ≡ S.folders system.old }
@@ -295,6 +299,7 @@ impl NewFile {
     ) -> Result<(), FolderFault>
         ensures folder { self.new.folder ≡ self.old.folder }
         ensures syncs { unsynced.new.syncs ≡ unsynced.old.syncs }
+        ensures folders { unsynced.new.folders ≡ unsynced.old.folders }
         ensures placed { IsPlaced (S.honest system.new) (name_in target.entry.folder.now (beside_name self.old.folder.identity)) (name_in target.entry.folder.now target.entry.name.now) (joined content.entry.parts)
             (is_kept unsynced.old.syncs) (S.holds system.old) (S.holds system.new) (is_ok result) (is_ok result) }
         ensures still { S.folders system.new ≡ S.folders system.old }
@@ -326,6 +331,7 @@ impl NewFile {
     ) -> Result<(), FolderFault>
         ensures folder { self.new.folder ≡ self.old.folder }
         ensures syncs { unsynced.new.syncs ≡ unsynced.old.syncs }
+        ensures folders { unsynced.new.folders ≡ unsynced.old.folders }
         ensures written { IsWritten (IsNewPlace self.old.folder.identity target.entry.folder.now.identity) (name_in target.entry.folder.now target.entry.name.now) (joined content.entry.parts)
             (is_kept unsynced.old.syncs) (S.holds system.old) (S.holds system.new) (is_ok result) }
         // The target is no place of new files, or nothing is done.

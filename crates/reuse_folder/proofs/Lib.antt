@@ -1,3 +1,4 @@
+pub mod BarrierLemmas
 pub mod BatchLemmas
 pub mod FolderLemmas
 pub mod HonestFiles

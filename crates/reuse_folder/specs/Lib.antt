@@ -1,3 +1,4 @@
+pub mod Barriers
 pub mod Batches
 pub mod FolderReads
 pub mod FolderWrites

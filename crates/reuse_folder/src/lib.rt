@@ -10,6 +10,7 @@ ghost use Rattle.std.specs.Prelude.{◌≡◌, ◌≢◌, ◌<◌, ◌+◌, ℕ,
 ghost use Rattle.std.specs.FinMap as map;
 ghost use Rattle.reuse_store.specs.Store.{reading_of};
 ghost use Rattle.reuse_folder.specs.FolderReads.{IsReadWith};
+ghost use Rattle.reuse_folder.specs.Barriers.{HasNoted, HaveNoted};
 ghost use Rattle.reuse_folder.specs.Batches.{disk_of, made_of, IsBatch};
 ghost use Rattle.reuse_folder.specs.FolderWrites.{IsGone, IsPutIn, IsRemovedIn, IsStoredAt, IsTidy};
 ghost use Rattle.reuse_system.specs.declared.place.Identity.{Identity};
@@ -352,6 +353,8 @@ impl<R: Files<File = File> + AllocGlobal + Clone + Drop> Store for DiskStore<R> 
             → (new_files : Identity) × IsPutIn new_files (⟦<HostSystem<R> as System>⟧.folders self.new.folder.system) path.now (joined parts.entry) (is_kept self.old.folder.unsynced.syncs)
             (⟦<HostSystem<R> as System>⟧.holds self.old.folder.system) (⟦<HostSystem<R> as System>⟧.holds self.new.folder.system) (is_ok result)
             × IsTidy new_files (⟦<HostSystem<R> as System>⟧.holds self.old.folder.system) (⟦<HostSystem<R> as System>⟧.holds self.new.folder.system) (is_ok result) }
+        // The folder above the path is noted for the next barrier, if that got or lost a file.
+        ensures noted { self.old.folder.unsynced.syncs ≡ Syncs.Kept → HasNoted self.new.folder.unsynced path.now (⟦<HostSystem<R> as System>⟧.changes self.old.folder.system) (⟦<HostSystem<R> as System>⟧.changes self.new.folder.system) }
         // The file at the path stays if it isn't what was read there.
         ensures keeps_edits { LosesNoEditAfter self.old.folder.reads.items path.now
             (⟦<HostSystem<R> as System>⟧.changes self.old.folder.system) (⟦<HostSystem<R> as System>⟧.changes self.new.folder.system)
@@ -369,6 +372,8 @@ impl<R: Files<File = File> + AllocGlobal + Clone + Drop> Store for DiskStore<R> 
             → IfOk result (λ _. IsGone (⟦<HostSystem<R> as System>⟧.folders self.new.folder.system) (⟦<HostSystem<R> as System>⟧.holds self.new.folder.system) path.now) }
         ensures place { ⟦<HostSystem<R> as System>⟧.honest self.new.folder.system
             → IsRemovedIn (⟦<HostSystem<R> as System>⟧.folders self.new.folder.system) path.now (⟦<HostSystem<R> as System>⟧.holds self.old.folder.system) (⟦<HostSystem<R> as System>⟧.holds self.new.folder.system) }
+        // The folder above the path is noted for the next barrier, if that got or lost a file.
+        ensures noted { self.old.folder.unsynced.syncs ≡ Syncs.Kept → HasNoted self.new.folder.unsynced path.now (⟦<HostSystem<R> as System>⟧.changes self.old.folder.system) (⟦<HostSystem<R> as System>⟧.changes self.new.folder.system) }
         // The file at the path stays if it isn't what was read there.
         ensures keeps_edits { LosesNoEditAfter self.old.folder.reads.items path.now
             (⟦<HostSystem<R> as System>⟧.changes self.old.folder.system) (⟦<HostSystem<R> as System>⟧.changes self.new.folder.system)
@@ -384,6 +389,8 @@ impl<R: Files<File = File> + AllocGlobal + Clone + Drop> Store for DiskStore<R> 
         ensures made { ⟦<HostSystem<R> as System>⟧.honest self.new.folder.system
             → (batch : IsBatch (is_kept self.old.folder.unsynced.syncs) writes.now (disk_of ⟦<HostSystem<R> as System>⟧ self.old.folder.system) (disk_of ⟦<HostSystem<R> as System>⟧ self.new.folder.system) (is_ok result))
             × (⟦<DiskStore<R> as Store>⟧.mutations self.new ≡ ⟦<DiskStore<R> as Store>⟧.mutations self.old + min (batch.made + 1) (length writes.now)) }
+        // The folder above each path that got or lost a file is noted for the next barrier.
+        ensures noted { self.old.folder.unsynced.syncs ≡ Syncs.Kept → HaveNoted self.new.folder.unsynced writes.now (⟦<HostSystem<R> as System>⟧.changes self.old.folder.system) (⟦<HostSystem<R> as System>⟧.changes self.new.folder.system) }
         // No path changes at which something else stands than was read there.
         ensures keeps_edits { LoseNoEdits self.old.folder.reads.items writes.now
             (⟦<HostSystem<R> as System>⟧.changes self.old.folder.system) (⟦<HostSystem<R> as System>⟧.changes self.new.folder.system) }

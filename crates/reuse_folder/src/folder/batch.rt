@@ -6,8 +6,11 @@ ghost use Rattle.reuse_system.specs.Asides.{place_of, key_of, IsNewIn};
 ghost use Rattle.reuse_system.specs.NameChanges.{OnlyChanges};
 ghost use Rattle.reuse_system.specs.SystemLaws.{IsAlikeBut, IsAlikeButFile, IsAlikeUnless};
 ghost use Rattle.reuse_system.specs.declared.place.Identity.{Identity};
+ghost use Rattle.reuse_system.specs.declared.syncs.Syncs.TheVariants.{Kept};
 ghost use Rattle.reuse_change.specs.Parts.{joined};
+ghost use Rattle.reuse_disk.specs.Noted.{StayNoted};
 ghost use Rattle.reuse_disk.specs.Written.{is_kept, IsSyncedIf};
+ghost use Rattle.reuse_folder.specs.Barriers.{AreNotedAbove, HasNoted, HaveNoted, IsNotedAbove};
 ghost use Rattle.reuse_folder.specs.Batches.{disk_of, made_of, BeginsWithFile, IsBatch};
 ghost use Rattle.reuse_folder.specs.Rounds.{new_place, AreApart, AreAside, AreBegun, AreNamed, HavePlaces, IsAdded, IsNamed, IsNumbered, IsRound, IsRoundOf, StandsAside};
 ghost use Rattle.reuse_folder.specs.Seen.{AreKnown, IsKnownAside, IsNewFile, IsSeenBefore, LoseNoEdits};
@@ -119,6 +122,8 @@ impl<R: Files<File = File> + AllocGlobal + Clone + Drop> RootFolder<R> {
         ensures made { ⟦<HostSystem<R> as System>⟧.honest self.new.system
             → (batch : IsBatch (is_kept self.old.unsynced.syncs) writes.now (disk_of ⟦<HostSystem<R> as System>⟧ self.old.system) (disk_of ⟦<HostSystem<R> as System>⟧ self.new.system) (is_ok result))
             × (batch.made ≡ made_of (length writes.now) result) }
+        // The folder above each path that got or lost a file is noted for the next barrier.
+        ensures noted { self.old.unsynced.syncs ≡ Kept → HaveNoted self.new.unsynced writes.now (⟦<HostSystem<R> as System>⟧.changes self.old.system) (⟦<HostSystem<R> as System>⟧.changes self.new.system) }
         // No path changes at which something else stands than was read there.
         ensures keeps_edits { LoseNoEdits self.old.reads.items writes.now
             (⟦<HostSystem<R> as System>⟧.changes self.old.system) (⟦<HostSystem<R> as System>⟧.changes self.new.system) }
@@ -151,6 +156,8 @@ impl<R: Files<File = File> + AllocGlobal + Clone + Drop> RootFolder<R> {
         ensures made { ⟦<HostSystem<R> as System>⟧.honest self.new.system → IsRound (is_kept self.old.unsynced.syncs) writes.now self.old.new_file self.new.new_file
             (disk_of ⟦<HostSystem<R> as System>⟧ self.old.system) (disk_of ⟦<HostSystem<R> as System>⟧ self.new.system) result }
         ensures syncs { self.new.unsynced.syncs ≡ self.old.unsynced.syncs }
+        ensures stay_noted { StayNoted self.old.unsynced self.new.unsynced }
+        ensures noted { self.old.unsynced.syncs ≡ Kept → HaveNoted self.new.unsynced writes.now (⟦<HostSystem<R> as System>⟧.changes self.old.system) (⟦<HostSystem<R> as System>⟧.changes self.new.system) }
         ensures earlier { ⟦<HostSystem<R> as System>⟧.honest self.new.system → ⟦<HostSystem<R> as System>⟧.honest self.old.system }
         ensures keeps_edits { LoseNoEdits seen.old.reads.items writes.now
             (⟦<HostSystem<R> as System>⟧.changes self.old.system) (⟦<HostSystem<R> as System>⟧.changes self.new.system) }
@@ -190,6 +197,8 @@ impl<R: Files<File = File> + AllocGlobal + Clone + Drop> RootFolder<R> {
         requires { BeginsWithFile writes.now }
         ensures round { IsRoundOf (⟦<HostSystem<R> as System>⟧.honest self.new.system) writes.now self.old.new_file (⟦<HostSystem<R> as System>⟧.holds self.old.system) (⟦<HostSystem<R> as System>⟧.holds self.new.system) result }
         ensures syncs { self.new.unsynced.syncs ≡ self.old.unsynced.syncs }
+        ensures stay_noted { StayNoted self.old.unsynced self.new.unsynced }
+        ensures above { self.old.unsynced.syncs ≡ Kept → IfOk result (λ round. AreNotedAbove self.new.unsynced writes.now (length round.asides.items)) }
         ensures earlier { ⟦<HostSystem<R> as System>⟧.honest self.new.system → ⟦<HostSystem<R> as System>⟧.honest self.old.system }
         ensures changes { OnlyChanges IsNewFile (⟦<HostSystem<R> as System>⟧.changes self.old.system) (⟦<HostSystem<R> as System>⟧.changes self.new.system) }
         ensures known { IfOk result (λ round. AreKnown seen.old.reads.items writes.now round.asides.items) }
@@ -224,6 +233,8 @@ impl<R: Files<File = File> + AllocGlobal + Clone + Drop> RootFolder<R> {
             (⟦<HostSystem<R> as System>⟧.holds self.old.system) (⟦<HostSystem<R> as System>⟧.holds self.new.system) }
         ensures some { BeginsWithFile writes.now → IfOk result (λ _. 0 < length round.new.asides.items) }
         ensures syncs { self.new.unsynced.syncs ≡ self.old.unsynced.syncs }
+        ensures stay_noted { StayNoted self.old.unsynced self.new.unsynced }
+        ensures above { self.old.unsynced.syncs ≡ Kept → AreNotedAbove self.new.unsynced writes.now (length round.new.asides.items) }
         ensures earlier { ⟦<HostSystem<R> as System>⟧.honest self.new.system → ⟦<HostSystem<R> as System>⟧.honest self.old.system }
         ensures changes { OnlyChanges IsNewFile (⟦<HostSystem<R> as System>⟧.changes self.old.system) (⟦<HostSystem<R> as System>⟧.changes self.new.system) }
         ensures known { AreKnown seen.old.reads.items writes.now round.new.asides.items }
@@ -257,6 +268,8 @@ impl<R: Files<File = File> + AllocGlobal + Clone + Drop> RootFolder<R> {
         ensures others { IsAlikeBut (new_place round.old.new_file.folder.identity (length round.old.asides.items)) (⟦<HostSystem<R> as System>⟧.holds self.old.system) (⟦<HostSystem<R> as System>⟧.holds self.new.system) }
         ensures added { IsAdded round.old.new_file.folder.identity (⟦<HostSystem<R> as System>⟧.holds self.new.system) (joined parts.entry) round.old.asides.items round.new.asides.items (is_ok result) }
         ensures syncs { self.new.unsynced.syncs ≡ self.old.unsynced.syncs }
+        ensures stay_noted { StayNoted self.old.unsynced self.new.unsynced }
+        ensures above { self.old.unsynced.syncs ≡ Kept → IfOk result (λ _. IsNotedAbove self.new.unsynced write.now.path.now) }
         ensures earlier { ⟦<HostSystem<R> as System>⟧.honest self.new.system → ⟦<HostSystem<R> as System>⟧.honest self.old.system }
         ensures changes { OnlyChanges IsNewFile (⟦<HostSystem<R> as System>⟧.changes self.old.system) (⟦<HostSystem<R> as System>⟧.changes self.new.system) }
         ensures known { IfOk result (λ _. (one : NewContent) × (round.new.asides.items ≡ round.old.asides.items ++ one ∷ []) × IsKnownAside seen.old.reads.items write.now.path.now one) }
@@ -304,6 +317,9 @@ impl<R: Files<File = File> + AllocGlobal + Clone + Drop> RootFolder<R> {
             → AreAside new_file.old.folder.identity false (⟦<HostSystem<R> as System>⟧.holds self.old.system) 0 (length asides.now) writes.now asides.now
             → AreNamed new_file.old.folder.identity (is_kept self.old.unsynced.syncs) writes.now asides.now (disk_of ⟦<HostSystem<R> as System>⟧ self.old.system) (disk_of ⟦<HostSystem<R> as System>⟧ self.new.system) result }
         ensures syncs { self.new.unsynced.syncs ≡ self.old.unsynced.syncs }
+        ensures folders { self.new.unsynced.folders ≡ self.old.unsynced.folders }
+        ensures noted { (reads : List ReadPath) → AreKnown reads writes.now asides.now → AreNotedAbove self.old.unsynced writes.now (length asides.now)
+            → HaveNoted self.new.unsynced writes.now (⟦<HostSystem<R> as System>⟧.changes self.old.system) (⟦<HostSystem<R> as System>⟧.changes self.new.system) }
         ensures earlier { ⟦<HostSystem<R> as System>⟧.honest self.new.system → ⟦<HostSystem<R> as System>⟧.honest self.old.system }
         ensures keeps_edits { (reads : List ReadPath) → AreKnown reads writes.now asides.now
             → LoseNoEdits reads writes.now (⟦<HostSystem<R> as System>⟧.changes self.old.system) (⟦<HostSystem<R> as System>⟧.changes self.new.system) }
@@ -322,6 +338,7 @@ impl<R: Files<File = File> + AllocGlobal + Clone + Drop> RootFolder<R> {
             → IfOk result (λ _. AreAside new_files (is_kept self.old.unsynced.syncs) (⟦<HostSystem<R> as System>⟧.holds self.new.system) 0 (length asides.now) writes.now asides.now)
             × IsAlikeUnless (IsNumbered new_files (length asides.now)) (⟦<HostSystem<R> as System>⟧.holds self.old.system) (⟦<HostSystem<R> as System>⟧.holds self.new.system) }
         ensures syncs { self.new.unsynced.syncs ≡ self.old.unsynced.syncs }
+        ensures folders { self.new.unsynced.folders ≡ self.old.unsynced.folders }
         ensures still { ⟦<HostSystem<R> as System>⟧.folders self.new.system ≡ ⟦<HostSystem<R> as System>⟧.folders self.old.system }
         ensures earlier { ⟦<HostSystem<R> as System>⟧.honest self.new.system → ⟦<HostSystem<R> as System>⟧.honest self.old.system }
         ensures changes { ⟦<HostSystem<R> as System>⟧.changes self.new.system ≡ ⟦<HostSystem<R> as System>⟧.changes self.old.system }
@@ -341,6 +358,7 @@ impl<R: Files<File = File> + AllocGlobal + Clone + Drop> RootFolder<R> {
             (λ _. IsSyncedIf (is_kept self.old.unsynced.syncs) (key_of aside.now) (⟦<HostSystem<R> as System>⟧.holds self.old.system) (⟦<HostSystem<R> as System>⟧.holds self.new.system))
             (λ _. IsAlikeButFile (key_of aside.now) (⟦<HostSystem<R> as System>⟧.holds self.old.system) (⟦<HostSystem<R> as System>⟧.holds self.new.system)) }
         ensures syncs { self.new.unsynced.syncs ≡ self.old.unsynced.syncs }
+        ensures folders { self.new.unsynced.folders ≡ self.old.unsynced.folders }
         ensures still { ⟦<HostSystem<R> as System>⟧.folders self.new.system ≡ ⟦<HostSystem<R> as System>⟧.folders self.old.system }
         ensures earlier { ⟦<HostSystem<R> as System>⟧.honest self.new.system → ⟦<HostSystem<R> as System>⟧.honest self.old.system }
         ensures changes { ⟦<HostSystem<R> as System>⟧.changes self.new.system ≡ ⟦<HostSystem<R> as System>⟧.changes self.old.system }
@@ -364,6 +382,9 @@ impl<R: Files<File = File> + AllocGlobal + Clone + Drop> RootFolder<R> {
             → AreAside new_file.old.folder.identity (is_kept self.old.unsynced.syncs) (⟦<HostSystem<R> as System>⟧.holds self.old.system) 0 (length asides.now) writes.now asides.now
             → AreNamed new_file.old.folder.identity (is_kept self.old.unsynced.syncs) writes.now asides.now (disk_of ⟦<HostSystem<R> as System>⟧ self.old.system) (disk_of ⟦<HostSystem<R> as System>⟧ self.new.system) result }
         ensures syncs { self.new.unsynced.syncs ≡ self.old.unsynced.syncs }
+        ensures folders { self.new.unsynced.folders ≡ self.old.unsynced.folders }
+        ensures noted { (reads : List ReadPath) → AreKnown reads writes.now asides.now → AreNotedAbove self.old.unsynced writes.now (length asides.now)
+            → HaveNoted self.new.unsynced writes.now (⟦<HostSystem<R> as System>⟧.changes self.old.system) (⟦<HostSystem<R> as System>⟧.changes self.new.system) }
         ensures earlier { ⟦<HostSystem<R> as System>⟧.honest self.new.system → ⟦<HostSystem<R> as System>⟧.honest self.old.system }
         ensures keeps_edits { (reads : List ReadPath) → AreKnown reads writes.now asides.now
             → LoseNoEdits reads writes.now (⟦<HostSystem<R> as System>⟧.changes self.old.system) (⟦<HostSystem<R> as System>⟧.changes self.new.system) }
@@ -394,6 +415,9 @@ impl<R: Files<File = File> + AllocGlobal + Clone + Drop> RootFolder<R> {
             → StandsAside new_file.old.folder.identity count (is_kept self.old.unsynced.syncs) (⟦<HostSystem<R> as System>⟧.holds self.old.system) number write.now new.now
             → IsNamed new_file.old.folder.identity count (is_kept self.old.unsynced.syncs) number write.now new.now (disk_of ⟦<HostSystem<R> as System>⟧ self.old.system) (disk_of ⟦<HostSystem<R> as System>⟧ self.new.system) (is_ok result) }
         ensures syncs { self.new.unsynced.syncs ≡ self.old.unsynced.syncs }
+        ensures folders { self.new.unsynced.folders ≡ self.old.unsynced.folders }
+        ensures noted { IsNewFile (place_of new.now.aside) → IsNotedAbove self.old.unsynced write.now.path.now
+            → HasNoted self.new.unsynced write.now.path.now (⟦<HostSystem<R> as System>⟧.changes self.old.system) (⟦<HostSystem<R> as System>⟧.changes self.new.system) }
         ensures earlier { ⟦<HostSystem<R> as System>⟧.honest self.new.system → ⟦<HostSystem<R> as System>⟧.honest self.old.system }
         ensures keeps_edits { (reads : List ReadPath) → IsKnownAside reads write.now.path.now new.now
             → LoseNoEdits reads (write.now ∷ []) (⟦<HostSystem<R> as System>⟧.changes self.old.system) (⟦<HostSystem<R> as System>⟧.changes self.new.system) }

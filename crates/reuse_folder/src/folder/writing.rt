@@ -19,7 +19,10 @@ use std::rt::Files;
 
 impl<R: Files<File = File> + AllocGlobal + Clone + Drop> RootFolder<R> {
     ghost use Rattle.reuse_folder.specs.FolderWrites.{IsCleared, IsGone, IsPutBy, IsPutIn, IsRemovedAt, IsRemovedIn, IsStoredAt, IsTidy};
+    ghost use Rattle.reuse_disk.specs.Noted.{StayNoted};
     ghost use Rattle.reuse_disk.specs.Written.{is_kept, LeavesNone};
+    ghost use Rattle.reuse_folder.specs.Barriers.{HasNoted};
+    ghost use Rattle.reuse_system.specs.declared.syncs.Syncs.TheVariants.{Kept};
     ghost use Rattle.reuse_folder.specs.Seen.{IsSeenAs, IsSeenBefore, LosesNoEdit, LosesNoEditAfter};
     ghost use Rattle.reuse_change.specs.Parts.{joined};
 
@@ -27,7 +30,7 @@ impl<R: Files<File = File> + AllocGlobal + Clone + Drop> RootFolder<R> {
     fn take_expected(&mut self, path: &PathText) -> Expected
         ensures kept { self.new.system ≡ self.old.system }
         ensures trail { self.new.trail ≡ self.old.trail }
-        ensures syncs { self.new.unsynced.syncs ≡ self.old.unsynced.syncs }
+        ensures unsynced { self.new.unsynced ≡ self.old.unsynced }
         ensures expected { IsSeenBefore self.old.reads.items path.now result }
     {
         let expected = expected_at(&self.reads, path);
@@ -46,6 +49,8 @@ impl<R: Files<File = File> + AllocGlobal + Clone + Drop> RootFolder<R> {
             × IsTidy new_files (⟦<HostSystem<R> as System>⟧.holds self.old.system) (⟦<HostSystem<R> as System>⟧.holds self.new.system) (is_ok result) }
         ensures stands { ⟦<HostSystem<R> as System>⟧.honest self.new.system
             → IfOk result (λ _. IsStoredAt (⟦<HostSystem<R> as System>⟧.folders self.new.system) (⟦<HostSystem<R> as System>⟧.holds self.new.system) path.now (joined parts.entry) (is_kept self.old.unsynced.syncs)) }
+        // The folder above the path is noted for the next barrier, if that got or lost a file.
+        ensures noted { self.old.unsynced.syncs ≡ Kept → HasNoted self.new.unsynced path.now (⟦<HostSystem<R> as System>⟧.changes self.old.system) (⟦<HostSystem<R> as System>⟧.changes self.new.system) }
         ensures earlier { ⟦<HostSystem<R> as System>⟧.honest self.new.system → ⟦<HostSystem<R> as System>⟧.honest self.old.system }
         ensures kept_out { IsTrue (is_kept_out path.now) → IsErr result }
         // The file at the path stays if it isn't what was read there.
@@ -72,6 +77,8 @@ impl<R: Files<File = File> + AllocGlobal + Clone + Drop> RootFolder<R> {
             × IsTidy new_files (⟦<HostSystem<R> as System>⟧.holds self.old.system) (⟦<HostSystem<R> as System>⟧.holds self.new.system) (is_ok result) }
         ensures stands { ⟦<HostSystem<R> as System>⟧.honest self.new.system
             → IfOk result (λ _. IsStoredAt (⟦<HostSystem<R> as System>⟧.folders self.new.system) (⟦<HostSystem<R> as System>⟧.holds self.new.system) path.now (joined parts.entry) (is_kept self.old.unsynced.syncs)) }
+        // The folder above the path is noted for the next barrier, if that got or lost a file.
+        ensures noted { self.old.unsynced.syncs ≡ Kept → HasNoted self.new.unsynced path.now (⟦<HostSystem<R> as System>⟧.changes self.old.system) (⟦<HostSystem<R> as System>⟧.changes self.new.system) }
         ensures earlier { ⟦<HostSystem<R> as System>⟧.honest self.new.system → ⟦<HostSystem<R> as System>⟧.honest self.old.system }
         ensures kept_out { IsTrue (is_kept_out path.now) → IsErr result }
         ensures keeps_edits { LosesNoEdit path.now expected (⟦<HostSystem<R> as System>⟧.changes self.old.system) (⟦<HostSystem<R> as System>⟧.changes self.new.system)
@@ -93,6 +100,7 @@ impl<R: Files<File = File> + AllocGlobal + Clone + Drop> RootFolder<R> {
         ensures changes { ⟦<HostSystem<R> as System>⟧.changes self.new.system ≡ ⟦<HostSystem<R> as System>⟧.changes self.old.system }
         ensures earlier { ⟦<HostSystem<R> as System>⟧.honest self.new.system → ⟦<HostSystem<R> as System>⟧.honest self.old.system }
         ensures syncs { self.new.unsynced.syncs ≡ self.old.unsynced.syncs }
+        ensures stay_noted { StayNoted self.old.unsynced self.new.unsynced }
         ensures kept_out { IsTrue (is_kept_out path.now) → IsErr result }
         ensures seen { IfOk result (IsSeenAs expected) }
     {
@@ -133,6 +141,8 @@ impl<R: Files<File = File> + AllocGlobal + Clone + Drop> RootFolder<R> {
             → (new_files : Identity) × IsPutIn new_files (⟦<HostSystem<R> as System>⟧.folders self.new.system) path.now (joined parts.entry) (is_kept self.old.unsynced.syncs)
             (⟦<HostSystem<R> as System>⟧.holds self.old.system) (⟦<HostSystem<R> as System>⟧.holds self.new.system) (is_ok result)
             × IsTidy new_files (⟦<HostSystem<R> as System>⟧.holds self.old.system) (⟦<HostSystem<R> as System>⟧.holds self.new.system) (is_ok result) }
+        // The folder above the path is noted for the next barrier, if that got or lost a file.
+        ensures noted { self.old.unsynced.syncs ≡ Kept → HasNoted self.new.unsynced path.now (⟦<HostSystem<R> as System>⟧.changes self.old.system) (⟦<HostSystem<R> as System>⟧.changes self.new.system) }
         ensures earlier { ⟦<HostSystem<R> as System>⟧.honest self.new.system → ⟦<HostSystem<R> as System>⟧.honest self.old.system }
         ensures keeps_edits { (expected : Expected) → IsSeenAs expected found → LosesNoEdit path.now expected
             (⟦<HostSystem<R> as System>⟧.changes self.old.system) (⟦<HostSystem<R> as System>⟧.changes self.new.system) (⟦<HostSystem<R> as System>⟧.holds self.old.system) (⟦<HostSystem<R> as System>⟧.holds self.new.system) }
@@ -179,6 +189,7 @@ impl<R: Files<File = File> + AllocGlobal + Clone + Drop> RootFolder<R> {
         ensures cleared { IsCleared (⟦<HostSystem<R> as System>⟧.changes self.old.system) (⟦<HostSystem<R> as System>⟧.changes self.new.system) self.old.new_file (⟦<HostSystem<R> as System>⟧.holds self.old.system) (⟦<HostSystem<R> as System>⟧.holds self.new.system) result }
         ensures earlier { ⟦<HostSystem<R> as System>⟧.honest self.new.system → ⟦<HostSystem<R> as System>⟧.honest self.old.system }
         ensures syncs { self.new.unsynced.syncs ≡ self.old.unsynced.syncs }
+        ensures stay_noted { StayNoted self.old.unsynced self.new.unsynced }
     {
         match self.new_file.take() {
             Some(new_file) => Ok(new_file),
@@ -191,6 +202,7 @@ impl<R: Files<File = File> + AllocGlobal + Clone + Drop> RootFolder<R> {
         ensures cleared { IsCleared (⟦<HostSystem<R> as System>⟧.changes self.old.system) (⟦<HostSystem<R> as System>⟧.changes self.new.system) None (⟦<HostSystem<R> as System>⟧.holds self.old.system) (⟦<HostSystem<R> as System>⟧.holds self.new.system) result }
         ensures earlier { ⟦<HostSystem<R> as System>⟧.honest self.new.system → ⟦<HostSystem<R> as System>⟧.honest self.old.system }
         ensures syncs { self.new.unsynced.syncs ≡ self.old.unsynced.syncs }
+        ensures stay_noted { StayNoted self.old.unsynced self.new.unsynced }
     {
         self.trail
             .make(&mut self.system, alloc, JOURNAL, &mut self.unsynced)?;
@@ -207,6 +219,7 @@ impl<R: Files<File = File> + AllocGlobal + Clone + Drop> RootFolder<R> {
         ensures changes { ⟦<HostSystem<R> as System>⟧.changes self.new.system ≡ ⟦<HostSystem<R> as System>⟧.changes self.old.system }
         ensures earlier { ⟦<HostSystem<R> as System>⟧.honest self.new.system → ⟦<HostSystem<R> as System>⟧.honest self.old.system }
         ensures syncs { self.new.unsynced.syncs ≡ self.old.unsynced.syncs }
+        ensures stay_noted { StayNoted self.old.unsynced self.new.unsynced }
     {
         let (system, trail) = (&mut self.system, &mut self.trail);
         let files = list_below(system, alloc, trail, path.text(), &mut self.listed)?;
@@ -226,6 +239,8 @@ impl<R: Files<File = File> + AllocGlobal + Clone + Drop> RootFolder<R> {
             → IsRemovedIn (⟦<HostSystem<R> as System>⟧.folders self.new.system) path.now (⟦<HostSystem<R> as System>⟧.holds self.old.system) (⟦<HostSystem<R> as System>⟧.holds self.new.system) }
         ensures gone { ⟦<HostSystem<R> as System>⟧.honest self.new.system
             → IfOk result (λ _. IsGone (⟦<HostSystem<R> as System>⟧.folders self.new.system) (⟦<HostSystem<R> as System>⟧.holds self.new.system) path.now) }
+        // The folder above the path is noted for the next barrier, if that got or lost a file.
+        ensures noted { self.old.unsynced.syncs ≡ Kept → HasNoted self.new.unsynced path.now (⟦<HostSystem<R> as System>⟧.changes self.old.system) (⟦<HostSystem<R> as System>⟧.changes self.new.system) }
         // The file at the path stays if it isn't what was read there.
         ensures keeps_edits { LosesNoEditAfter self.old.reads.items path.now (⟦<HostSystem<R> as System>⟧.changes self.old.system) (⟦<HostSystem<R> as System>⟧.changes self.new.system)
             (⟦<HostSystem<R> as System>⟧.holds self.old.system) (⟦<HostSystem<R> as System>⟧.holds self.new.system) }
@@ -250,6 +265,9 @@ impl<R: Files<File = File> + AllocGlobal + Clone + Drop> RootFolder<R> {
         ensures none_left { IfOk result (λ _. LeavesNone (λ _. Unit {0}) (⟦<HostSystem<R> as System>⟧.holds self.old.system) (⟦<HostSystem<R> as System>⟧.holds self.new.system)) }
         ensures earlier { ⟦<HostSystem<R> as System>⟧.honest self.new.system → ⟦<HostSystem<R> as System>⟧.honest self.old.system }
         ensures syncs { self.new.unsynced.syncs ≡ self.old.unsynced.syncs }
+        ensures stay_noted { StayNoted self.old.unsynced self.new.unsynced }
+        // The folder above the path is noted for the next barrier, if that got or lost a file.
+        ensures noted { self.old.unsynced.syncs ≡ Kept → HasNoted self.new.unsynced path.now (⟦<HostSystem<R> as System>⟧.changes self.old.system) (⟦<HostSystem<R> as System>⟧.changes self.new.system) }
         ensures new_file { self.new.new_file ≡ self.old.new_file }
         ensures keeps_edits { LosesNoEdit path.now expected (⟦<HostSystem<R> as System>⟧.changes self.old.system) (⟦<HostSystem<R> as System>⟧.changes self.new.system)
             (⟦<HostSystem<R> as System>⟧.holds self.old.system) (⟦<HostSystem<R> as System>⟧.holds self.new.system) }
