@@ -1,2 +1,3 @@
+pub mod LeftFiles
 pub mod Trails
 pub mod Written

@@ -9,6 +9,7 @@
 mod empty_folders;
 mod listing;
 mod made_folder;
+mod mounted_folders;
 mod new_file;
 mod origin;
 mod syncs;
@@ -16,6 +17,7 @@ mod trail;
 
 pub use empty_folders::remove_folders;
 pub use listing::{Listing, list_below};
+pub use mounted_folders::MountedFolders;
 pub use new_file::{Content, NewFile, Target, Wanted, name_aside, remove_seen};
 pub use syncs::Unsynced;
 pub use trail::Trail;

@@ -75,6 +75,7 @@ impl<R: Files<File = File> + AllocGlobal + Clone + Drop> RootFolder<R> {
             → IfOk result (IsReadWith foreign (⟦<HostSystem<R> as System>⟧.folders self.new.system) (⟦<HostSystem<R> as System>⟧.holds self.new.system) path.now limit) }
     {
         let reading = self.read(alloc, path, limit)?;
+        self.mounted.note(alloc, &self.trail);
         match (&reading, foreign) {
             (Reading::Absent, Foreign::TooLong) if !is_kept_out(path.text()) => {
                 self.foreign_or(alloc, path, reading)

@@ -1,0 +1,140 @@
+//! Folders on another device than the journal's, as below a mount. No file is renamed to there from
+//! the journal's folder: a new one is written beside the file that it is to be, and a run that is
+//! stopped may leave it. Tested by `odd_folders.sh` in `tests/`.
+ghost use Rattle.std.specs.Prelude.{◌≡◌, IfOk};
+ghost use Rattle.reuse_disk.specs.LeftFiles.{ClearsLeft, IsClearedAt, IsJournalIf};
+ghost use Rattle.reuse_disk.specs.Trails.{AreOpenedIf};
+
+use crate::syncs::Unsynced;
+use crate::trail::Trail;
+use reuse_system::fault::FolderFault;
+use reuse_system::kept_out::JOURNAL;
+use reuse_system::new_name::beside_name;
+use reuse_system::place::{Found, Identity};
+use reuse_system::system::System;
+use std::alloc::{AllocError, Global};
+use std::collections::BTreeSet;
+
+/// The folders of that kind which were entered.
+#[derive(Drop)]
+pub struct MountedFolders {
+    /// The journal's folder, once it was entered.
+    journal: Option<Identity>,
+    /// The paths of those that were entered since, and not cleared.
+    paths: BTreeSet<String>,
+}
+
+impl MountedFolders {
+    /// None so far.
+    pub fn none(alloc: Global) -> MountedFolders {
+        MountedFolders {
+            journal: None,
+            paths: BTreeSet::new(alloc),
+        }
+    }
+
+    /// Notes the folder that was entered last, if it is of that kind. For an allocation failure it
+    /// is left out.
+    pub fn note(&mut self, alloc: Global, trail: &Trail) {
+        let _ = self.try_note(alloc, trail);
+    }
+
+    fn try_note(&mut self, alloc: Global, trail: &Trail) -> Result<(), FolderFault> {
+        let folder = trail.current()?.identity();
+        let path = trail.path();
+        if path == JOURNAL {
+            self.journal = Some(folder);
+        }
+        let is_mounted = match self.journal {
+            Some(journal) => journal.is_elsewhere(folder),
+            None => false,
+        };
+        if is_mounted && !self.paths.contains(path) {
+            let path = String::from_str(alloc, path)?;
+            self.paths.insert(path).map_err(AllocError::from)?;
+        }
+        Ok(())
+    }
+
+    /// Removes the new files that a stopped run has left in these folders. A fault of that tells no
+    /// more: such a file is no part of the tree, and the next new file there takes its place.
+    pub fn clear<S: System>(
+        &mut self,
+        system: &mut S,
+        alloc: Global,
+        trail: &mut Trail,
+        unsynced: &mut Unsynced,
+    )
+        ensures cleared { AreOpenedIf (S.honest system.old) (S.folders system.old) trail.old
+            → ClearsLeft (S.honest system.new) (S.folders system.new) (S.changes system.old) (S.changes system.new) (S.holds system.old) (S.holds system.new) }
+        ensures still { S.folders system.new ≡ S.folders system.old }
+        ensures earlier { S.honest system.new → S.honest system.old }
+        ensures opened { AreOpenedIf (S.honest system.old) (S.folders system.old) trail.old
+            → AreOpenedIf (S.honest system.new) (S.folders system.new) trail.new }
+        ensures syncs { unsynced.new.syncs ≡ unsynced.old.syncs }
+    {
+        if !self.paths.is_empty() {
+            let _ = self.clear_each(system, alloc, trail, unsynced);
+            self.paths.clear();
+        }
+    }
+
+    fn clear_each<S: System>(
+        &self,
+        system: &mut S,
+        alloc: Global,
+        trail: &mut Trail,
+        unsynced: &mut Unsynced,
+    ) -> Result<(), FolderFault>
+        ensures cleared { AreOpenedIf (S.honest system.old) (S.folders system.old) trail.old
+            → ClearsLeft (S.honest system.new) (S.folders system.new) (S.changes system.old) (S.changes system.new) (S.holds system.old) (S.holds system.new) }
+        ensures still { S.folders system.new ≡ S.folders system.old }
+        ensures earlier { S.honest system.new → S.honest system.old }
+        ensures opened { AreOpenedIf (S.honest system.old) (S.folders system.old) trail.old
+            → AreOpenedIf (S.honest system.new) (S.folders system.new) trail.new }
+        ensures syncs { unsynced.new.syncs ≡ unsynced.old.syncs }
+    {
+        trail.enter_seen(system, alloc, JOURNAL)?;
+        let journal = trail.current()?.identity();
+        for path in &self.paths {
+            let _ = clear_folder(system, alloc, trail, unsynced, path.as_str(), journal);
+        }
+        Ok(())
+    }
+}
+
+/// Removes the new file that a stopped run has left in the folder at this path, if it lies on
+/// another device than the journal's. What has its name and is no regular file stays.
+fn clear_folder<S: System>(
+    system: &mut S,
+    alloc: Global,
+    trail: &mut Trail,
+    unsynced: &mut Unsynced,
+    path: &str,
+    journal: Identity,
+) -> Result<(), FolderFault>
+    ensures cleared { AreOpenedIf (S.honest system.old) (S.folders system.old) trail.old
+        → IsJournalIf (S.honest system.old) (S.folders system.old) journal
+        → ClearsLeft (S.honest system.new) (S.folders system.new) (S.changes system.old) (S.changes system.new) (S.holds system.old) (S.holds system.new) }
+    ensures gone { AreOpenedIf (S.honest system.old) (S.folders system.old) trail.old
+        → S.honest system.new → IfOk result (λ _. IsClearedAt (S.folders system.new) (S.holds system.new) journal path.now) }
+    ensures still { S.folders system.new ≡ S.folders system.old }
+    ensures earlier { S.honest system.new → S.honest system.old }
+    ensures opened { AreOpenedIf (S.honest system.old) (S.folders system.old) trail.old
+        → AreOpenedIf (S.honest system.new) (S.folders system.new) trail.new }
+    ensures syncs { unsynced.new.syncs ≡ unsynced.old.syncs }
+{
+    trail.enter_seen(system, alloc, path)?;
+    let folder = trail.current()?;
+    if !journal.is_elsewhere(folder.identity()) {
+        return Ok(());
+    }
+    let name = beside_name(alloc, journal)?;
+    match system.look(folder, name.as_str())? {
+        Found::File(_) => {
+            unsynced.note(alloc, path)?;
+            Ok(system.remove(folder, name.as_str())?)
+        }
+        _ => Ok(()),
+    }
+}
