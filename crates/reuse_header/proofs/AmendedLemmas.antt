@@ -24,9 +24,9 @@ use Rattle.reuse_notice.specs.Settled.{WritePlainTexts}
 use Rattle.reuse_notice.proofs.ClassLemmas.{text_kept}
 use Rattle.reuse_notice.proofs.UnnamedLemmas.{are_amended}
 use Rattle.reuse_notice.proofs.ShapeLemmas.{IsWhole, whole_kept, feedless_kept}
-use Rattle.reuse_header.specs.declared.style.Style.{Style}
-use Rattle.reuse_header.specs.declared.style.Form.{Form}
-use Rattle.reuse_header.specs.Styles.{punctuation_of}
+use Rattle.reuse_style.specs.declared.style.Style.{Style}
+use Rattle.reuse_style.specs.declared.style.Form.{Form}
+use Rattle.reuse_style.specs.Styles.{punctuation_of}
 use Rattle.reuse_header.specs.Marks.{LineMarks, marks_of}
 use Rattle.reuse_header.specs.Blocks.{without_returns}
 use Rattle.reuse_header.specs.Header.{HeaderSpan, span_in, header_of, neighbour_contents}

@@ -16,10 +16,10 @@ use Rattle.reuse_notice.proofs.SoundLemmas.{IsSound, sound_append}
 use Rattle.reuse_notice.proofs.NoticeSoundLemmas.{written_sound}
 use Rattle.reuse_notice.proofs.ShapeLemmas.{plain_sound, sound_kept}
 use Rattle.reuse_notice.proofs.OrdinaryLemmas.{amended_digits}
-use Rattle.reuse_header.specs.declared.style.Style.{Style}
+use Rattle.reuse_style.specs.declared.style.Style.{Style}
 use Rattle.reuse_header.specs.declared.annotation.HeaderRefusal.TheVariants.{NotText}
 use Rattle.reuse_header.specs.declared.amendment.AmendHeaderRefusal.TheVariants.{Header as HeaderRefused}
-use Rattle.reuse_header.specs.Styles.{punctuation_of}
+use Rattle.reuse_style.specs.Styles.{punctuation_of}
 use Rattle.reuse_header.specs.Header.{HeaderSpan, span_in, header_of, neighbour_contents}
 use Rattle.reuse_header.specs.Writing.{block_text, block_lines, neighbour_marks, ended_by}
 use Rattle.reuse_header.specs.Annotation.{Edit, edited, kind_of_file}

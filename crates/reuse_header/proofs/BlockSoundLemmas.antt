@@ -11,11 +11,11 @@ use Rattle.std.proofs.lemmas.Slice.Eq.{starts_is}
 use Rattle.reuse_notice.specs.Tags.{is_blank, drop_front, drop_end}
 use Rattle.reuse_notice.proofs.SoundLemmas.{IsSound, is_low, is_nul, sound_low, sound_to_low, sound_after, sound_front, sound_end}
 use Rattle.reuse_header.specs.declared.blocks.BlockSize.{BlockSize}
-use Rattle.reuse_header.specs.declared.style.Style.{Style}
-use Rattle.reuse_header.specs.declared.style.Style.TheVariants.{Python, C, Css, Html, Haskell, Tex, Lisp, Semicolon, Ml, Vim}
-use Rattle.reuse_header.specs.declared.style.Form.TheVariants.{Single, Multi}
+use Rattle.reuse_style.specs.declared.style.Style.{Style}
+use Rattle.reuse_style.specs.declared.style.Style.TheVariants.{Python, C, Css, Html, Haskell, Tex, Lisp, Semicolon, Ml, Vim}
+use Rattle.reuse_style.specs.declared.style.Form.TheVariants.{Single, Multi}
 use Rattle.reuse_header.specs.Search.{place_of, is_return, is_indent}
-use Rattle.reuse_header.specs.Styles.{LineForm, BlockForm, c_block, html_block, ml_block, line_comment_of, block_comment_of}
+use Rattle.reuse_style.specs.Styles.{LineForm, BlockForm, c_block, html_block, ml_block, line_comment_of, block_comment_of}
 use Rattle.reuse_header.specs.Blocks.{count_to_closer, multi_count, multi_lines, marked_lines, block_of, block_at, without_star, between_marks, is_blank_content, single_content, multi_content, without_returns, contents_from, contents_of}
 use Rattle.reuse_header.proofs.SayableLemmas.{Each, each_both, of_picked}
 use Rattle.reuse_header.proofs.LineSoundLemmas.{blank_low, return_low}

@@ -8,12 +8,12 @@ use Rattle.std.proofs.lemmas.List.{append-nil}
 use Rattle.reuse_notice.specs.declared.infos.Info.{Info}
 use Rattle.reuse_notice.specs.Tags.{is_blank, is_filler, drop_front, drop_end, stripped, tag_in, tag_of}
 use Rattle.reuse_notice.specs.Contents.{is_blank_content}
-use Rattle.reuse_header.specs.declared.style.Style.{Style}
-use Rattle.reuse_header.specs.declared.style.Style.TheVariants.{Python, C, Css, Html, Haskell, Tex, Lisp, Semicolon, Ml, Vim}
-use Rattle.reuse_header.specs.declared.style.Form.{Form}
-use Rattle.reuse_header.specs.declared.style.Form.TheVariants.{Single, Multi}
+use Rattle.reuse_style.specs.declared.style.Style.{Style}
+use Rattle.reuse_style.specs.declared.style.Style.TheVariants.{Python, C, Css, Html, Haskell, Tex, Lisp, Semicolon, Ml, Vim}
+use Rattle.reuse_style.specs.declared.style.Form.{Form}
+use Rattle.reuse_style.specs.declared.style.Form.TheVariants.{Single, Multi}
 use Rattle.reuse_header.specs.Search.{is_return, place_of}
-use Rattle.reuse_header.specs.Styles.{punctuation_of, block_comment_of}
+use Rattle.reuse_style.specs.Styles.{punctuation_of, block_comment_of}
 use Rattle.reuse_header.specs.Marks.{LineMarks, marks_of}
 use Rattle.reuse_header.specs.Blocks.{without_returns, without_star, between_marks, single_content, multi_content, contents_from, contents_of}
 use Rattle.reuse_header.specs.Writing.{neighbour_marks, separator_of, inner_lines, block_lines}

@@ -12,13 +12,13 @@ use Rattle.reuse_notice.specs.Tags.{is_blank}
 use Rattle.reuse_notice.specs.Plain.{ArePlain, AreUtf8}
 use Rattle.reuse_notice.proofs.SoundLemmas.{IsSound, is_low, sound_append, sound_before}
 use Rattle.reuse_header.specs.declared.blocks.BlockSize.{BlockSize}
-use Rattle.reuse_header.specs.declared.style.Style.{Style}
-use Rattle.reuse_header.specs.declared.style.Style.TheVariants.{Python, C, Css, Html, Haskell, Tex, Lisp, Semicolon, Ml, Vim}
-use Rattle.reuse_header.specs.declared.style.Form.{Form}
-use Rattle.reuse_header.specs.declared.style.Form.TheVariants.{Single, Multi}
+use Rattle.reuse_style.specs.declared.style.Style.{Style}
+use Rattle.reuse_style.specs.declared.style.Style.TheVariants.{Python, C, Css, Html, Haskell, Tex, Lisp, Semicolon, Ml, Vim}
+use Rattle.reuse_style.specs.declared.style.Form.{Form}
+use Rattle.reuse_style.specs.declared.style.Form.TheVariants.{Single, Multi}
 use Rattle.reuse_header.specs.declared.annotation.How.{How}
 use Rattle.reuse_header.specs.declared.annotation.HeaderRefusal.{HeaderRefusal}
-use Rattle.reuse_header.specs.Styles.{LineForm, BlockForm, line_comment_of, block_comment_of, punctuation_of}
+use Rattle.reuse_style.specs.Styles.{LineForm, BlockForm, line_comment_of, block_comment_of, punctuation_of}
 use Rattle.reuse_header.specs.Marks.{LineMarks, marks_of}
 use Rattle.reuse_header.specs.Body.{PlacedLines, body_lines, open_contents, place_in}
 use Rattle.reuse_header.specs.Blocks.{block_at}

@@ -10,7 +10,7 @@ use Rattle.std.proofs.Math.Seq.{take-append_seam}
 use Rattle.reuse_text.specs.declared.LineKind.{LineKind}
 use Rattle.reuse_text.specs.declared.LineKind.TheVariants.{Lf, Crlf}
 use Rattle.reuse_text.specs.Text.{TextLine, AreLines, line_bytes, text_of, ending_bytes, is_line_feed, is_empty, onto_first, lines_of, placed, kind_of, file_lines, after_mark, mark_len_of, byte_order_mark, ends_in_return}
-use Rattle.reuse_header.specs.declared.style.Style.{Style}
+use Rattle.reuse_style.specs.declared.style.Style.{Style}
 use Rattle.reuse_header.specs.Body.{PlacedLines, is_shebang, is_declaration, without_first, body_lines, place_in, open_contents}
 use Rattle.reuse_header.specs.Header.{Header, HeaderSpan, span_in, header_of}
 use Rattle.reuse_header.specs.Split.{bytes_of, size_of}

@@ -5,11 +5,11 @@ use Rattle.std.specs.List.{list_any, list_all, starts_with}
 use Rattle.std.specs.Option.{option_map_or, option_to_list}
 use Rattle.std.proofs.lemmas.Bool.{cases_Bool as truth}
 use Rattle.reuse_notice.specs.Tags.{is_blank, drop_front, drop_end}
-use Rattle.reuse_header.specs.declared.style.Style.{Style}
-use Rattle.reuse_header.specs.declared.style.Form.{Form}
-use Rattle.reuse_header.specs.declared.style.Form.TheVariants.{Single, Multi}
+use Rattle.reuse_style.specs.declared.style.Style.{Style}
+use Rattle.reuse_style.specs.declared.style.Form.{Form}
+use Rattle.reuse_style.specs.declared.style.Form.TheVariants.{Single, Multi}
 use Rattle.reuse_header.specs.Search.{is_return, is_indent, place_of}
-use Rattle.reuse_header.specs.Styles.{BlockForm, line_comment_of, block_comment_of}
+use Rattle.reuse_style.specs.Styles.{BlockForm, line_comment_of, block_comment_of}
 use Rattle.reuse_header.specs.Body.{PlacedLines, is_shebang, is_declaration, is_barrier, without_first, body_lines, open_contents}
 use Rattle.reuse_header.specs.Blocks.{without_returns, without_star, between_marks, is_blank_content as is_blank_line, single_content, multi_content, line_content, contents_from}
 use Rattle.reuse_header.proofs.SayableLemmas.{Each, each_both, of_picked}

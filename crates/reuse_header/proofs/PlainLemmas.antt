@@ -12,9 +12,9 @@ use Rattle.reuse_notice.specs.Tags.{a_notice, a_contributor, a_licence, is_blank
 use Rattle.reuse_notice.specs.Contents.{notice_text}
 use Rattle.reuse_notice.specs.Adding.{Arguments, is_space, is_control, notice_written, years_text, chosen_years, additions_of}
 use Rattle.reuse_notice.specs.Plain.{IsPlain, ArePlain}
-use Rattle.reuse_header.specs.declared.style.Style.{Style}
-use Rattle.reuse_header.specs.declared.style.Style.TheVariants.{Python, C, Css, Html, Haskell, Tex, Lisp, Semicolon, Ml, Vim}
-use Rattle.reuse_header.specs.Styles.{punctuation_of}
+use Rattle.reuse_style.specs.declared.style.Style.{Style}
+use Rattle.reuse_style.specs.declared.style.Style.TheVariants.{Python, C, Css, Html, Haskell, Tex, Lisp, Semicolon, Ml, Vim}
+use Rattle.reuse_style.specs.Styles.{punctuation_of}
 use Rattle.reuse_header.specs.Reading.{AreSayable}
 use Rattle.std.proofs.lemmas.Bool.{cases_Bool as truth}
 use Rattle.reuse_header.proofs.SayableLemmas.{IsValue, Each, all_of_each, each_of_all, each_front, end_behind, value_whole, contributor_again, licence_again}

@@ -8,9 +8,9 @@ use Rattle.reuse_notice.specs.Infos.{info_of, says_the_same}
 use Rattle.reuse_notice.specs.Amending.{amended}
 use Rattle.reuse_notice.specs.Settled.{BringNothingBack, WritePlainTexts}
 use Rattle.reuse_notice.proofs.UnnamedLemmas.{is_same}
-use Rattle.reuse_header.specs.declared.style.Style.{Style}
+use Rattle.reuse_style.specs.declared.style.Style.{Style}
 use Rattle.reuse_header.specs.declared.amendment.AmendHeaderRefusal.{AmendHeaderRefusal}
-use Rattle.reuse_header.specs.Styles.{punctuation_of}
+use Rattle.reuse_style.specs.Styles.{punctuation_of}
 use Rattle.reuse_header.specs.Header.{Header, HeaderSpan, span_in, header_of, neighbour_contents}
 use Rattle.reuse_header.specs.Blocks.{without_returns}
 use Rattle.reuse_header.specs.Writing.{block_text, block_lines, neighbour_marks, ended_by}

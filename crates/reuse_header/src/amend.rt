@@ -15,9 +15,9 @@ use crate::annotation::{HeaderRefusal, Splice};
 use crate::blocks::Contents;
 use crate::finder::{Block, find};
 use crate::neighbour::{is_text_file, replaced_contents, write_neighbour};
-use crate::style::Style;
 use crate::writer::marks_of;
 use reuse_notice::{AmendRefusal, Amendments, Info};
+use reuse_style::Style;
 use reuse_text::LONGEST_FILE;
 use std::alloc::{AllocError, Global};
 

@@ -8,11 +8,11 @@ ghost use Rattle.reuse_header.specs.Found.{block_view};
 ghost use Rattle.reuse_header.specs.Annotation.{first_if, prefix_lines, has_lines, is_last_ended, begins_full, kind_of_file, edit_of};
 ghost use Rattle.reuse_header.specs.Neighbour.{closed_lines, neighbour_end, neighbour_edit};
 ghost use Rattle.reuse_header.specs.Drafts.{IsWithin, edit_at};
-ghost use Rattle.reuse_header.specs.declared.style.Style.{Style};
+ghost use Rattle.reuse_style.specs.declared.style.Style.{Style};
 
 use crate::body::{after_shebang, body_of, is_barrier, is_declaration, is_shebang, place_in};
 use crate::finder::Block;
-use crate::style::Style;
+use reuse_style::Style;
 use reuse_text::{Line, Lines, lines_are_one, mark_len};
 
 // The range of a file that a block's text takes, and the endings round the text: one that ends the

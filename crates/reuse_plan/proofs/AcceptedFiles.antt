@@ -7,12 +7,12 @@ use Rattle.reuse_text.specs.declared.TheConstants.{LONGEST_FILE}
 use Rattle.reuse_notice.specs.declared.adding.Additions.{Additions}
 use Rattle.reuse_header.specs.Annotation as header
 use Rattle.reuse_header.specs.Header.{header_of}
-use Rattle.reuse_header.specs.Names.{kind_in}
+use Rattle.reuse_style.specs.Names.{kind_in}
 use Rattle.reuse_header.specs.Neighbour.{is_text, neighbour_annotated, neighbour_annotation_of}
 use Rattle.reuse_header.specs.declared.annotation.How.{How}
-use Rattle.reuse_header.specs.declared.style.Kind.{Kind}
-use Rattle.reuse_header.specs.declared.style.Kind.TheVariants as kind
-use Rattle.reuse_header.specs.declared.style.Style.{Style}
+use Rattle.reuse_style.specs.declared.style.Kind.{Kind}
+use Rattle.reuse_style.specs.declared.style.Kind.TheVariants as kind
+use Rattle.reuse_style.specs.declared.style.Style.{Style}
 use Rattle.reuse_change.specs.Files.{Files, Clashes}
 use Rattle.reuse_plan.specs.Accepted.{IsUnread, HasRoomBeside, RulesAccept, CanBeAnnotated}
 use Rattle.reuse_plan.specs.Annotate.{neighbour_of, neighbour_is_tagged, goes_beside, target_of, target_of_unknown, target_by_name, target_by_style, target_by_bytes, edit_by, edit_inside, edit_neighbour, edit_beside, edit_target, annotated_where, annotated_at}

@@ -1,6 +1,6 @@
 //! The styles that a tree gives to its own names.
 ghost use Rattle.std.specs.Prelude.{◌≡◌, List, ℕ, Option, IfOk, IfErr, Ok, Err};
-ghost use Rattle.reuse_header.specs.Names.{lookup};
+ghost use Rattle.reuse_style.specs.Names.{lookup};
 ghost use Rattle.reuse_command.specs.Reading.{reading_of, tree_of, IsOfPlan, ReadsAlone};
 ghost use Rattle.reuse_plan.specs.Plan.{IsRefusalOf};
 ghost use Rattle.reuse_command.specs.Refused.{IsNoFault};

@@ -1,6 +1,6 @@
 //! The choice of where the licensing information of a file goes.
 ghost use Rattle.std.specs.Prelude.{◌≡◌, ◌≤◌, IfOk, IfErr, length};
-ghost use Rattle.reuse_header.specs.Names.{kind_in, lookup};
+ghost use Rattle.reuse_style.specs.Names.{kind_in, lookup};
 ghost use Rattle.reuse_change.specs.Files.{Files};
 ghost use Rattle.reuse_text.specs.declared.TheConstants.{LONGEST_FILE};
 ghost use Rattle.reuse_plan.specs.Annotate.{neighbour_of, is_uncommentable, goes_beside, goes_beside_unread, target_of_unknown, target_by_name, target_by_style};

@@ -1,0 +1,4 @@
+pub mod NameLemmas
+pub mod KeyedLemmas
+pub mod StyleFileLemmas
+pub mod DocumentLemmas

@@ -1,0 +1,4 @@
+pub mod Styles
+pub mod Names
+pub mod StyleFile
+pub mod Keyed
