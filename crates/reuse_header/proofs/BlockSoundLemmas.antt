@@ -14,7 +14,8 @@ use Rattle.reuse_header.specs.declared.blocks.BlockSize.{BlockSize}
 use Rattle.reuse_style.specs.declared.style.Style.{Style}
 use Rattle.reuse_style.specs.declared.style.Style.TheVariants.{Python, C, Css, Html, Haskell, Tex, Lisp, Semicolon, Ml, Vim}
 use Rattle.reuse_style.specs.declared.style.Form.TheVariants.{Single, Multi}
-use Rattle.reuse_header.specs.Search.{place_of, is_return, is_indent}
+use Rattle.reuse_style.specs.Search.{place_of}
+use Rattle.reuse_header.specs.Ends.{is_return, is_indent}
 use Rattle.reuse_style.specs.Styles.{LineForm, BlockForm, c_block, html_block, ml_block, line_comment_of, block_comment_of}
 use Rattle.reuse_header.specs.Blocks.{count_to_closer, multi_count, multi_lines, marked_lines, block_of, block_at, without_star, between_marks, is_blank_content, single_content, multi_content, without_returns, contents_from, contents_of}
 use Rattle.reuse_header.proofs.SayableLemmas.{Each, each_both, of_picked}

@@ -12,7 +12,8 @@ use Rattle.reuse_style.specs.declared.style.Style.{Style}
 use Rattle.reuse_style.specs.declared.style.Style.TheVariants.{Python, C, Css, Html, Haskell, Tex, Lisp, Semicolon, Ml, Vim}
 use Rattle.reuse_style.specs.declared.style.Form.{Form}
 use Rattle.reuse_style.specs.declared.style.Form.TheVariants.{Single, Multi}
-use Rattle.reuse_header.specs.Search.{is_return, place_of}
+use Rattle.reuse_style.specs.Search.{place_of}
+use Rattle.reuse_header.specs.Ends.{is_return}
 use Rattle.reuse_style.specs.Styles.{punctuation_of, block_comment_of}
 use Rattle.reuse_header.specs.Marks.{LineMarks, marks_of}
 use Rattle.reuse_header.specs.Blocks.{without_returns, without_star, between_marks, single_content, multi_content, contents_from, contents_of}

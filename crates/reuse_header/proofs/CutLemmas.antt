@@ -13,7 +13,7 @@ use Rattle.reuse_header.specs.Header.{Header, HeaderSpan, span_in, header_of}
 use Rattle.reuse_header.specs.Split.{IsSplit, IsHeaderBlock, HasNoHeader, bytes_of, size_of}
 use Rattle.reuse_header.specs.Found.{block_view}
 use Rattle.std.proofs.lemmas.Bool.{cases_Bool as truth}
-use Rattle.reuse_header.proofs.PlaceLemmas.{front_occurs}
+use Rattle.reuse_style.proofs.PlaceLemmas.{front_occurs}
 use Rattle.reuse_header.proofs.SplitLemmas.{begins_in-within, split_found, split_only}
 
 -- ---- the bytes of lines

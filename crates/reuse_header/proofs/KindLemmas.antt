@@ -18,7 +18,7 @@ use Rattle.reuse_header.specs.Writing.{ended_by}
 use Rattle.reuse_header.specs.Annotation.{Edit, new_bytes, edited, ending_if, first_if, prefix_lines, kind_of_file}
 use Rattle.reuse_header.specs.Laws.{AreContents, EndsPlainly}
 use Rattle.std.proofs.lemmas.Bool.{cases_Bool as truth}
-use Rattle.reuse_header.proofs.PlaceLemmas.{front_occurs}
+use Rattle.reuse_style.proofs.PlaceLemmas.{front_occurs}
 use Rattle.reuse_header.proofs.SplitLemmas.{begins_in-within, split_found}
 use Rattle.reuse_header.proofs.CutLemmas.{bytes_of-append, bytes_of-placed, place_behind, file_size, before_body, mark_within}
 use Rattle.reuse_header.proofs.FeedLemmas.{is_feed, Feedless, feedless_from}

@@ -14,7 +14,7 @@ use Rattle.reuse_notice.proofs.NoneLemmas.{or_none}
 use Rattle.reuse_style.specs.declared.style.Style.{Style}
 use Rattle.reuse_header.specs.declared.blocks.BlockSize.{BlockSize}
 use Rattle.reuse_style.specs.Styles.{punctuation_of}
-use Rattle.reuse_header.specs.Search.{place_of, holds}
+use Rattle.reuse_style.specs.Search.{place_of, holds}
 use Rattle.reuse_header.specs.Tagged.{has_tag, holds_lead}
 use Rattle.reuse_header.specs.Body.{PlacedLines, is_barrier, body_lines, open_contents}
 use Rattle.reuse_header.specs.Blocks.{block_at}

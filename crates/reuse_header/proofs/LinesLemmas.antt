@@ -17,7 +17,7 @@ use Rattle.reuse_style.specs.declared.style.Style.TheVariants.{Python, C, Css, H
 use Rattle.reuse_style.specs.declared.style.Form.{Form}
 use Rattle.reuse_style.specs.declared.style.Form.TheVariants.{Single, Multi}
 use Rattle.reuse_header.specs.declared.annotation.How.{How}
-use Rattle.reuse_header.specs.Search.{is_return}
+use Rattle.reuse_header.specs.Ends.{is_return}
 use Rattle.reuse_style.specs.Styles.{punctuation_of}
 use Rattle.reuse_header.specs.Marks.{LineMarks, marks_of}
 use Rattle.reuse_header.specs.Blocks.{without_returns}

@@ -8,7 +8,8 @@ use Rattle.reuse_notice.specs.Tags.{is_blank, drop_front, drop_end}
 use Rattle.reuse_style.specs.declared.style.Style.{Style}
 use Rattle.reuse_style.specs.declared.style.Form.{Form}
 use Rattle.reuse_style.specs.declared.style.Form.TheVariants.{Single, Multi}
-use Rattle.reuse_header.specs.Search.{is_return, is_indent, place_of}
+use Rattle.reuse_style.specs.Search.{place_of}
+use Rattle.reuse_header.specs.Ends.{is_return, is_indent}
 use Rattle.reuse_style.specs.Styles.{BlockForm, line_comment_of, block_comment_of}
 use Rattle.reuse_header.specs.Body.{PlacedLines, is_shebang, is_declaration, is_barrier, without_first, body_lines, open_contents}
 use Rattle.reuse_header.specs.Blocks.{without_returns, without_star, between_marks, is_blank_content as is_blank_line, single_content, multi_content, line_content, contents_from}

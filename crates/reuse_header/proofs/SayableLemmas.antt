@@ -17,7 +17,7 @@ use Rattle.reuse_text.specs.Text.{file_lines}
 use Rattle.reuse_style.specs.declared.style.Style.{Style}
 use Rattle.reuse_style.specs.declared.style.Form.{Form}
 use Rattle.reuse_style.specs.declared.style.Form.TheVariants.{Single, Multi}
-use Rattle.reuse_header.specs.Search.{is_return}
+use Rattle.reuse_header.specs.Ends.{is_return}
 use Rattle.reuse_style.specs.Styles.{block_comment_of}
 use Rattle.reuse_header.specs.Body.{body_lines, open_contents}
 use Rattle.reuse_header.specs.Blocks.{without_returns, is_blank_content as is_blank_line, between_marks, single_content, multi_content, line_content, contents_from, contents_of}

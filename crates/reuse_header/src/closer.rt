@@ -1,13 +1,13 @@
 //! Whether a line of a new block would end it.
 ghost use Rattle.std.specs.Prelude.{◌≡◌, ◌++◌, map, IfOk, not, ◌&&◌, ◌||◌};
 ghost use Rattle.std.specs.List.{list_any};
-ghost use Rattle.reuse_header.specs.Search.{holds};
+ghost use Rattle.reuse_style.specs.Search.{holds};
 ghost use Rattle.reuse_header.specs.MarkViews.{marks_view};
 ghost use Rattle.reuse_header.specs.Writing.{holds_closer, inner_lines, no_lines};
 
-use crate::search::holds;
 use crate::writer::{Marks, is_joined};
 use reuse_notice::{Info, trim_blank_end};
+use reuse_style::holds;
 use reuse_text::Bytes;
 use std::alloc::{AllocError, Global};
 

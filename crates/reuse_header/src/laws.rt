@@ -4,7 +4,7 @@ ghost use Rattle.reuse_style.specs.declared.style.Style.{Style};
 ghost use Rattle.reuse_header.specs.declared.blocks.BlockSize.{BlockSize};
 ghost use Rattle.reuse_header.specs.Body.{PlacedLines, body_lines, place_in};
 ghost use Rattle.std.specs.Option.{option_map};
-ghost use Rattle.reuse_header.specs.Search.{place_of};
+ghost use Rattle.reuse_style.specs.Search.{place_of};
 ghost use Rattle.reuse_header.specs.Header.{Header, HeaderSpan, header_in, header_of, span_in, neighbour_contents};
 ghost use Rattle.reuse_notice.specs.declared.adding.Additions.{Additions};
 ghost use Rattle.reuse_header.specs.declared.annotation.How.{How};

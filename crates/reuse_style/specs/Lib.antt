@@ -1,3 +1,4 @@
+pub mod Search
 pub mod Styles
 pub mod Names
 pub mod StyleFile
