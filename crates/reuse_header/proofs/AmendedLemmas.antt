@@ -25,7 +25,7 @@ use Rattle.reuse_notice.proofs.ClassLemmas.{text_kept}
 use Rattle.reuse_notice.proofs.UnnamedLemmas.{are_amended}
 use Rattle.reuse_notice.proofs.ShapeLemmas.{IsWhole, whole_kept, feedless_kept}
 use Rattle.reuse_style.specs.declared.style.Style.{Style}
-use Rattle.reuse_style.specs.declared.style.Form.{Form}
+use Rattle.reuse_style.specs.declared.marks.Form.{Form}
 use Rattle.reuse_style.specs.Styles.{punctuation_of}
 use Rattle.reuse_header.specs.Marks.{LineMarks, marks_of}
 use Rattle.reuse_header.specs.Blocks.{without_returns}

@@ -30,7 +30,8 @@ use Rattle.reuse_header.proofs.LawLemmas.{text_of_edit, text_lines, neighbour_te
 use Rattle.reuse_header.proofs.LineSoundLemmas.{mark_sound}
 use Rattle.reuse_header.proofs.InfoSoundLemmas.{IsSoundInfo, holder_sound, info_sound}
 use Rattle.reuse_header.proofs.MadeTextLemmas.{block_sound, ended_sound, no_punctuation, no_marks, text_is, text_made, contents_are, behind_end}
-use Rattle.reuse_header.proofs.FileTextLemmas.{marks_sound, low_filler, low_punctuation, span_sound}
+use Rattle.reuse_header.proofs.FileTextLemmas.{marks_sound, low_filler, span_sound}
+use Rattle.reuse_header.proofs.MarkLemmas.{low_punctuation}
 use Rattle.reuse_header.proofs.AmendmentLawLemmas.{amendment_ok, amending_replaces, none_stays, neighbour_amendment_ok, amending_replaces_neighbour}
 use Rattle.reuse_header.proofs.AmendedLemmas.{text_kept_by, notice_becomes, Turns, turned}
 use Rattle.reuse_header.proofs.SecondLemmas.{of_edit, both}

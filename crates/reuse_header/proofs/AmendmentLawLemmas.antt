@@ -10,7 +10,7 @@ use Rattle.reuse_notice.specs.Infos.{info_of, says_the_same, says_nothing}
 use Rattle.reuse_notice.specs.Sets.{set_of, IsSorted}
 use Rattle.reuse_notice.specs.Amending.{amended, notices_amended, contributors_amended, licences_amended}
 use Rattle.reuse_style.specs.declared.style.Style.{Style}
-use Rattle.reuse_style.specs.declared.style.Form.{Form}
+use Rattle.reuse_style.specs.declared.marks.Form.{Form}
 use Rattle.reuse_header.specs.declared.annotation.HeaderRefusal.{HeaderRefusal}
 use Rattle.reuse_header.specs.declared.annotation.HeaderRefusal.TheVariants.{NotText}
 use Rattle.reuse_header.specs.declared.amendment.AmendHeaderRefusal.{AmendHeaderRefusal}

@@ -13,7 +13,7 @@ use Rattle.reuse_notice.specs.Contents.{notice_text}
 use Rattle.reuse_notice.specs.Adding.{Arguments, is_space, is_control, notice_written, years_text, chosen_years, additions_of}
 use Rattle.reuse_notice.specs.Plain.{IsPlain, ArePlain}
 use Rattle.reuse_style.specs.declared.style.Style.{Style}
-use Rattle.reuse_style.specs.declared.style.Style.TheVariants.{Python, C, Css, Html, Haskell, Tex, Lisp, Semicolon, Ml, Vim}
+use Rattle.reuse_style.proofs.GoodLemmas.{no_punctuation}
 use Rattle.reuse_style.specs.Styles.{punctuation_of}
 use Rattle.reuse_header.specs.Reading.{AreSayable}
 use Rattle.std.proofs.lemmas.Bool.{cases_Bool as truth}
@@ -122,16 +122,7 @@ pub record NoFillers (punct : List ℕ) : Type 0 where
 
 -- they are punctuation of no style, nor of neighbours
 pub letters : (style : Style) → NoFillers (punctuation_of style)
-letters Python = record { s = refl; c = refl; sign = refl }
-letters C = record { s = refl; c = refl; sign = refl }
-letters Css = record { s = refl; c = refl; sign = refl }
-letters Html = record { s = refl; c = refl; sign = refl }
-letters Haskell = record { s = refl; c = refl; sign = refl }
-letters Tex = record { s = refl; c = refl; sign = refl }
-letters Lisp = record { s = refl; c = refl; sign = refl }
-letters Semicolon = record { s = refl; c = refl; sign = refl }
-letters Ml = record { s = refl; c = refl; sign = refl }
-letters Vim = record { s = refl; c = refl; sign = refl }
+letters style = record { s = no_punctuation style 83 refl; c = no_punctuation style 67 refl; sign = no_punctuation style 194 refl }
 
 pub no_letters : NoFillers []
 no_letters = record { s = refl; c = refl; sign = refl }

@@ -14,7 +14,7 @@ use Rattle.reuse_notice.specs.Infos.{info_of, union_of, merged_of}
 use Rattle.reuse_notice.specs.Adding.{Arguments, additions_of}
 use Rattle.reuse_notice.specs.Plain.{ArePlain}
 use Rattle.reuse_style.specs.declared.style.Style.{Style}
-use Rattle.reuse_style.specs.declared.style.Form.{Form}
+use Rattle.reuse_style.specs.declared.marks.Form.{Form}
 use Rattle.reuse_header.specs.declared.annotation.How.{How}
 use Rattle.reuse_header.specs.declared.annotation.Splice.{Splice}
 use Rattle.reuse_header.specs.declared.annotation.HeaderRefusal.{HeaderRefusal}

@@ -15,8 +15,8 @@ use Rattle.reuse_notice.specs.Sets.{byte_order, with_text, set_of, IsSorted}
 use Rattle.reuse_notice.specs.Infos.{info_of, union_of}
 use Rattle.reuse_text.specs.Text.{file_lines}
 use Rattle.reuse_style.specs.declared.style.Style.{Style}
-use Rattle.reuse_style.specs.declared.style.Form.{Form}
-use Rattle.reuse_style.specs.declared.style.Form.TheVariants.{Single, Multi}
+use Rattle.reuse_style.specs.declared.marks.Form.{Form}
+use Rattle.reuse_style.specs.declared.marks.Form.TheVariants.{Single, Multi}
 use Rattle.reuse_header.specs.Ends.{is_return}
 use Rattle.reuse_style.specs.Styles.{block_comment_of}
 use Rattle.reuse_header.specs.Body.{body_lines, open_contents}

@@ -13,8 +13,8 @@ use std::alloc::{AllocError, Global};
 
 // Whether a line between the first and the last of a new block holds the closer.
 #[tactic(auto, unfolding(crate::specs::Writing::holds_closer))]
-pub(crate) fn holds_closer(alloc: Global, marks: Marks, info: &Info) -> Result<bool, AllocError>
-    ensures { IfOk result (λ answer. answer ≡ holds_closer (marks_view marks) info.now) }
+pub(crate) fn holds_closer(alloc: Global, marks: Marks<'_>, info: &Info) -> Result<bool, AllocError>
+    ensures { IfOk result (λ answer. answer ≡ holds_closer (marks_view marks.entry) info.now) }
 {
     match marks.closer {
         None => Ok(false),
@@ -23,8 +23,13 @@ pub(crate) fn holds_closer(alloc: Global, marks: Marks, info: &Info) -> Result<b
 }
 
 // Whether a line between the first and the last of a new block holds a text.
-fn any_line_holds(alloc: Global, text: &[u8], marks: Marks, info: &Info) -> Result<bool, AllocError>
-    ensures { IfOk result (λ answer. answer ≡ list_any (holds text.now) (inner_lines (marks_view marks) info.now)) }
+fn any_line_holds(
+    alloc: Global,
+    text: &[u8],
+    marks: Marks<'_>,
+    info: &Info,
+) -> Result<bool, AllocError>
+    ensures { IfOk result (λ answer. answer ≡ list_any (holds text.now) (inner_lines (marks_view marks.entry) info.now)) }
 {
     let separator = has_separator(info) & holds(trim_blank_end(marks.lead), text);
     let notices = line_holds(alloc, text, marks.lead, b"", info.notices())?;

@@ -44,9 +44,9 @@ impl Place {
 
 // The place of the old block, if that is replaced, else behind the prefix lines.
 #[tactic(auto, unfolding(crate::specs::Annotation::edit_of))]
-pub(crate) fn file_place(file: &[u8], style: Style, old: Option<Block>) -> Place
+pub(crate) fn file_place(file: &[u8], style: &Style<'_>, old: Option<Block>) -> Place
     requires { IsWithin file.now (option_map block_view old) }
-    ensures edit { (text : List ℕ) → edit_at result (kind_of_file file.now) text ≡ edit_of style file.now (option_map block_view old.entry) text }
+    ensures edit { (text : List ℕ) → edit_at result (kind_of_file file.now) text ≡ edit_of style.now file.now (option_map block_view old.entry) text }
     ensures within { result.start + result.old_len ≤ length file.now }
 {
     match old {
@@ -57,8 +57,8 @@ pub(crate) fn file_place(file: &[u8], style: Style, old: Option<Block>) -> Place
 
 // The place behind the prefix lines.
 #[tactic(auto, unfolding(crate::specs::Annotation::edit_of))]
-fn place_behind_prefix(file: &[u8], style: Style) -> Place
-    ensures edit { (text : List ℕ) → edit_at result (kind_of_file file.now) text ≡ edit_of style file.now None text }
+fn place_behind_prefix(file: &[u8], style: &Style<'_>) -> Place
+    ensures edit { (text : List ℕ) → edit_at result (kind_of_file file.now) text ≡ edit_of style.now file.now None text }
     ensures within { result.start + result.old_len ≤ length file.now }
 {
     places_fit();
@@ -85,9 +85,9 @@ fn is_ended(line: Option<Line>) -> bool
 
 // The last of the prefix lines.
 #[tactic(auto, unfolding(crate::specs::Annotation::prefix_lines))]
-fn last_prefix_line<'a>(lines: Lines<'a>, style: Style) -> Option<Line<'a>>
-    ensures some { is_some result ≡ has_lines (prefix_lines style (lines_left lines.entry)) }
-    ensures ended { option_map_or (λ line. is_some line.ending) result true ≡ is_last_ended (prefix_lines style (lines_left lines.entry)) }
+fn last_prefix_line<'a>(lines: Lines<'a>, style: &Style<'_>) -> Option<Line<'a>>
+    ensures some { is_some result ≡ has_lines (prefix_lines style.now (lines_left lines.entry)) }
+    ensures ended { option_map_or (λ line. is_some line.ending) result true ≡ is_last_ended (prefix_lines style.now (lines_left lines.entry)) }
 {
     match declaration_line(after_shebang(lines), style) {
         None => shebang_line(lines),
@@ -107,8 +107,8 @@ fn shebang_line<'a>(lines: Lines<'a>) -> Option<Line<'a>>
 }
 
 // The first line, if it has to stay in front in the style.
-fn declaration_line<'a>(lines: Lines<'a>, style: Style) -> Option<Line<'a>>
-    ensures { option_to_list (option_map line_view result) ≡ first_if (is_declaration style) (lines_left lines.entry) }
+fn declaration_line<'a>(lines: Lines<'a>, style: &Style<'_>) -> Option<Line<'a>>
+    ensures { option_to_list (option_map line_view result) ≡ first_if (is_declaration style.now) (lines_left lines.entry) }
 {
     let mut rest = lines;
     match rest.next() {

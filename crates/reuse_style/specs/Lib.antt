@@ -1,4 +1,6 @@
 pub mod Search
+pub mod Marks
+pub mod MarkViews
 pub mod Styles
 pub mod Names
 pub mod StyleFile

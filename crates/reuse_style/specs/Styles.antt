@@ -1,103 +1,133 @@
--- The comment styles: how each writes comments on single lines and over several, and its punctuation
--- (docs/RULES.md, "Styles").
-use Rattle.std.specs.Prelude.{ℕ, List, [], ◌∷◌, Option, Some, None, find, codes}
+-- The comment styles of the table: their names and marks, and what a style says of comments (docs/RULES.md, "Styles").
+use Rattle.std.specs.Prelude.{◌≡◌, ℕ, true, List, [], ◌∷◌, map, Option, Some, None, find, codes, refl}
 use Rattle.std.specs.Str.{bytes_eq}
-use Rattle.reuse_style.specs.declared.style.Style.{Style}
-use Rattle.reuse_style.specs.declared.style.Style.TheVariants.{Python, C, Css, Html, Haskell, Tex, Lisp, Semicolon, Ml, Vim}
-use Rattle.reuse_style.specs.declared.style.LineComment as line
-use Rattle.reuse_style.specs.declared.style.BlockComment as block
+use Rattle.std.specs.Char.{is_ascii_graphic}
+use Rattle.reuse_style.specs.declared.table.TableStyle.{TableStyle}
+use Rattle.reuse_style.specs.declared.table.TableStyle.TheVariants.{Python, C, Css, Html, Haskell, Tex, Lisp, Semicolon, Ml, Vim}
+use Rattle.reuse_style.specs.declared.marks.Declaration.{Declaration}
+use Rattle.reuse_style.specs.declared.marks.Declaration.TheVariants as declarations
+use Rattle.reuse_style.specs.Search.{place_of}
+use Rattle.reuse_style.specs.Marks.{LineForm, BlockForm, CommentMarks, GoodStyle, is_good, first_mark_fault, forms_fault, punctuation_in}
 
--- comments on single lines: what marks one, and what a tag is written after
-pub record LineForm : Type 0 where
-  pub marker : List ℕ
-  pub lead : List ℕ
+-- ---- what a style says of comments
 
--- comments over several lines: what opens one, what stands before a content, what closes one in reading
--- and as the last line, and what a tag is written after
-pub record BlockForm : Type 0 where
-  pub opener : List ℕ
-  pub middle : List ℕ
-  pub closer : List ℕ
-  pub last_line : List ℕ
-  pub lead : List ℕ
+abbrev pub style_name : GoodStyle → List ℕ
+style_name style = style.name
+
+abbrev pub line_comment_of : GoodStyle → Option LineForm
+line_comment_of style = style.marks.line
+
+abbrev pub block_comment_of : GoodStyle → Option BlockForm
+block_comment_of style = style.marks.block
+
+abbrev pub punctuation_of : GoodStyle → List ℕ
+punctuation_of style = punctuation_in style.marks
+
+abbrev pub declaration_of : GoodStyle → Declaration
+declaration_of style = style.marks.declaration
+
+-- ---- the styles of the table
 
 -- the name of each style
-abbrev pub style_name : Style → List ℕ
-style_name Python = codes "python"
-style_name C = codes "c"
-style_name Css = codes "css"
-style_name Html = codes "html"
-style_name Haskell = codes "haskell"
-style_name Tex = codes "tex"
-style_name Lisp = codes "lisp"
-style_name Semicolon = codes "semicolon"
-style_name Ml = codes "ml"
-style_name Vim = codes "vim"
-
--- all styles
-unfoldable pub all_styles : List Style
-all_styles = Python ∷ C ∷ Css ∷ Html ∷ Haskell ∷ Tex ∷ Lisp ∷ Semicolon ∷ Ml ∷ Vim ∷ []
-
--- the style that has a name, if one has
-abbrev pub style_named : List ℕ → Option Style
-style_named name = find (λ style. bytes_eq (style_name style) name) all_styles
+abbrev pub table_name : TableStyle → List ℕ
+table_name Python = codes "python"
+table_name C = codes "c"
+table_name Css = codes "css"
+table_name Html = codes "html"
+table_name Haskell = codes "haskell"
+table_name Tex = codes "tex"
+table_name Lisp = codes "lisp"
+table_name Semicolon = codes "semicolon"
+table_name Ml = codes "ml"
+table_name Vim = codes "vim"
 
 -- a single-line form of some texts
 abbrev pub marked : List ℕ → List ℕ → Option LineForm
 marked marker lead = Some (record { marker = marker; lead = lead })
 
 -- the single-line form of each style
-abbrev pub line_comment_of : Style → Option LineForm
-line_comment_of Python = marked (codes "#") (codes "# ")
-line_comment_of C = marked (codes "//") (codes "// ")
-line_comment_of Css = None
-line_comment_of Html = None
-line_comment_of Haskell = marked (codes "--") (codes "-- ")
-line_comment_of Tex = marked (codes "%") (codes "% ")
-line_comment_of Lisp = marked (codes ";") (codes ";; ")
-line_comment_of Semicolon = marked (codes ";") (codes "; ")
-line_comment_of Ml = None
-line_comment_of Vim = marked (34 ∷ []) (34 ∷ 32 ∷ [])
+abbrev pub table_line : TableStyle → Option LineForm
+table_line Python = marked (codes "#") (codes "# ")
+table_line C = marked (codes "//") (codes "// ")
+table_line Css = None
+table_line Html = None
+table_line Haskell = marked (codes "--") (codes "-- ")
+table_line Tex = marked (codes "%") (codes "% ")
+table_line Lisp = marked (codes ";") (codes ";; ")
+table_line Semicolon = marked (codes ";") (codes "; ")
+table_line Ml = None
+table_line Vim = marked (34 ∷ []) (34 ∷ 32 ∷ [])
 
 -- the multi-line form of c and css, of html, and of ml
 abbrev pub c_block : BlockForm
-c_block = record { opener = codes "/*"; middle = codes " *"; closer = codes "*/"; last_line = codes " */"; lead = codes " * " }
+c_block = record { opener = codes "/*"; middle = Some (codes " *"); closer = codes "*/"; last_line = codes " */"; lead = codes " * " }
 
 abbrev pub html_block : BlockForm
-html_block = record { opener = codes "<!--"; middle = []; closer = codes "-->"; last_line = codes "-->"; lead = [] }
+html_block = record { opener = codes "<!--"; middle = None; closer = codes "-->"; last_line = codes "-->"; lead = [] }
 
 abbrev pub ml_block : BlockForm
-ml_block = record { opener = codes "(*"; middle = codes " *"; closer = codes "*)"; last_line = codes " *)"; lead = codes " * " }
+ml_block = record { opener = codes "(*"; middle = Some (codes " *"); closer = codes "*)"; last_line = codes " *)"; lead = codes " * " }
 
 -- the multi-line form of each style
-abbrev pub block_comment_of : Style → Option BlockForm
-block_comment_of Python = None
-block_comment_of C = Some c_block
-block_comment_of Css = Some c_block
-block_comment_of Html = Some html_block
-block_comment_of Haskell = None
-block_comment_of Tex = None
-block_comment_of Lisp = None
-block_comment_of Semicolon = None
-block_comment_of Ml = Some ml_block
-block_comment_of Vim = None
+abbrev pub table_block : TableStyle → Option BlockForm
+table_block Python = None
+table_block C = Some c_block
+table_block Css = Some c_block
+table_block Html = Some html_block
+table_block Haskell = None
+table_block Tex = None
+table_block Lisp = None
+table_block Semicolon = None
+table_block Ml = Some ml_block
+table_block Vim = None
+
+-- the line that stays in front of comments in each style
+abbrev pub table_declaration : TableStyle → Declaration
+table_declaration Python = declarations.Encoding
+table_declaration C = declarations.PhpTag
+table_declaration Html = declarations.XmlDeclaration
+table_declaration other = declarations.Nothing
+
+-- the marks of each style, which are good
+abbrev pub table_marks : TableStyle → CommentMarks
+table_marks style = record { line = table_line style; block = table_block style; declaration = table_declaration style }
+
+pub table_good : (style : TableStyle) → is_good (table_marks style) ≡ true
+unfolding is_good first_mark_fault forms_fault punctuation_in place_of
+table_good Python = refl
+table_good C = refl
+table_good Css = refl
+table_good Html = refl
+table_good Haskell = refl
+table_good Tex = refl
+table_good Lisp = refl
+table_good Semicolon = refl
+table_good Ml = refl
+table_good Vim = refl
+
+abbrev pub table_style : TableStyle → GoodStyle
+table_style style = record { name = table_name style; marks = table_marks style; good = table_good style }
 
 -- the punctuation of each style
-abbrev pub punctuation_of : Style → List ℕ
-punctuation_of Python = codes "#"
-punctuation_of C = codes "/*"
-punctuation_of Css = codes "/*"
-punctuation_of Html = codes "<!->"
-punctuation_of Haskell = codes "-"
-punctuation_of Tex = codes "%"
-punctuation_of Lisp = codes ";"
-punctuation_of Semicolon = codes ";"
-punctuation_of Ml = codes "(*)"
-punctuation_of Vim = 34 ∷ []
+abbrev pub table_punctuation : TableStyle → List ℕ
+table_punctuation Python = codes "#"
+table_punctuation C = codes "/*"
+table_punctuation Css = codes "/*"
+table_punctuation Html = codes "<!->"
+table_punctuation Haskell = codes "-"
+table_punctuation Tex = codes "%"
+table_punctuation Lisp = codes ";"
+table_punctuation Semicolon = codes ";"
+table_punctuation Ml = codes "(*)"
+table_punctuation Vim = 34 ∷ []
 
--- the forms as the code holds them
-abbrev pub line_view : line.LineComment → LineForm
-line_view form = record { marker = form.marker.now; lead = form.lead.now }
+-- all styles
+unfoldable pub table_styles : List TableStyle
+table_styles = Python ∷ C ∷ Css ∷ Html ∷ Haskell ∷ Tex ∷ Lisp ∷ Semicolon ∷ Ml ∷ Vim ∷ []
 
-abbrev pub block_view : block.BlockComment → BlockForm
-block_view form = record { opener = form.opener.now; middle = form.middle.now; closer = form.closer.now; last_line = form.last_line.now; lead = form.lead.now }
+abbrev pub all_styles : List GoodStyle
+all_styles = map table_style table_styles
+
+-- the style that has a name, if one has
+abbrev pub style_named : List ℕ → Option GoodStyle
+style_named name = find (λ style. bytes_eq (style_name style) name) all_styles

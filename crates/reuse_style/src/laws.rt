@@ -1,9 +1,11 @@
 //! Laws of the definitions that the contracts cite.
-ghost use Rattle.std.specs.Prelude.{◌≡◌, ◌↔◌, ◌==◌, ℕ, List, Option, None, Some, Ok, true, []};
-ghost use Rattle.std.specs.List.{after_last};
+ghost use Rattle.std.specs.Prelude.{◌≡◌, ◌↔◌, ◌==◌, ◌∷◌, ℕ, List, Option, None, Some, Ok, true, false, []};
+ghost use Rattle.std.specs.List.{after_last, list_any};
 ghost use Rattle.std.specs.Str.{str_eq_ignore_ascii_case};
 ghost use Rattle.toml.specs.Data.{Members};
 ghost use Rattle.reuse_style.specs.declared.style.Kind.{Kind};
+ghost use Rattle.reuse_style.specs.Marks.{GoodStyle, is_filling};
+ghost use Rattle.reuse_style.specs.Styles.{punctuation_of};
 ghost use Rattle.reuse_style.specs.Names.{slash, dot, from_last, kind_of_name, kind_in, lookup};
 ghost use Rattle.reuse_style.specs.StyleFile.{NamedText, texts_of_document, document_of, own_names};
 
@@ -24,4 +26,10 @@ pub fn own_names_stand_first()
 /// and `version` alone, the one a table of these texts, and the other the number 1.
 pub fn style_documents_are_stated()
     ensures { (document : Members) (texts : List NamedText) → (texts_of_document document ≡ Some texts) ↔ (document ≡ document_of texts) }
+{}
+
+/// No byte that a tag begins with is punctuation of a style: neither `S` nor `C`, nor the first byte
+/// of `©`.
+pub fn punctuation_keeps_tags()
+    ensures { (style : GoodStyle) → list_any (is_filling (punctuation_of style)) (83 ∷ 67 ∷ 194 ∷ []) ≡ false }
 {}

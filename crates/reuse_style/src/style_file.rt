@@ -18,7 +18,10 @@ use toml::{Table, Value};
 type NamedTexts<'t> = Vec<(&'t str, &'t str)>;
 
 /// The names of a file in lower case, with their kinds.
-pub(crate) fn read_names(alloc: Global, file: &[u8]) -> Result<BTreeMap<Bytes, Kind>, StylesRefusal>
+pub(crate) fn read_names<'a>(
+    alloc: Global,
+    file: &[u8],
+) -> Result<BTreeMap<Bytes, Kind<'a>>, StylesRefusal>
     ensures ok { IfOk result (λ names. (own : List ℕ → Option Kind) × (styles_in (read_document file.now) ≡ Ok own) × IsKeyed names own) }
     ensures refused { IfErr result (IsRefused (styles_in (read_document file.now))) }
 {
@@ -92,10 +95,10 @@ fn texts_of_table<'t>(alloc: Global, names: &'t Table) -> Result<Option<NamedTex
 }
 
 // The names of texts in lower case, with the kinds that the texts name.
-fn names_of_texts(
+fn names_of_texts<'a>(
     alloc: Global,
     texts: &[(&str, &str)],
-) -> Result<BTreeMap<Bytes, Kind>, StylesRefusal>
+) -> Result<BTreeMap<Bytes, Kind<'a>>, StylesRefusal>
     ensures ok { IfOk result (λ names. (own : List ℕ → Option Kind) × (own_names (Some (map (λ t. (t.0.now, t.1.now)) texts.now)) ≡ Ok own) × IsKeyed names own) }
     ensures refused { IfErr result (IsRefused (own_names (Some (map (λ t. (t.0.now, t.1.now)) texts.now)))) }
 {
@@ -109,7 +112,7 @@ fn names_of_texts(
 // Adds a name, with the kind that its text names.
 fn add_name(
     alloc: Global,
-    names: &mut BTreeMap<Bytes, Kind>,
+    names: &mut BTreeMap<Bytes, Kind<'_>>,
     name: &str,
     text: &str,
 ) -> Result<(), StylesRefusal>

@@ -8,9 +8,10 @@ ghost use Rattle.reuse_style.specs.Names.{lookup, joined, kind_in};
 ghost use Rattle.reuse_style.specs.StyleFile.{styles_of, IsRefused};
 ghost use Rattle.reuse_style.specs.Keyed.{AreKeys};
 
-use crate::style::{Kind, NAMES, ending, lookup};
+use crate::style::Kind;
 use crate::style_file::read_names;
 use crate::style_refusal::StylesRefusal;
+use crate::table::{ending, table_kind_of};
 use reuse_text::{Bytes, last_part};
 use std::alloc::{AllocError, Global};
 use std::cmp::Ordering;
@@ -20,12 +21,12 @@ use std::marker::Model;
 /// The table of names, with a project's own names before it. Contracts see the own names with their
 /// kinds.
 #[derive(Debug, Drop)]
-pub struct StyleTable {
+pub struct StyleTable<'a> {
     // In lower case and in byte order.
-    entries: Vec<(Bytes, Kind)>,
+    entries: Vec<(Bytes, Kind<'a>)>,
 }
 
-impl Model for StyleTable {
+impl<'a> Model for StyleTable<'a> {
     ghost use Rattle.std.specs.Prelude.{ℕ, List};
     ghost use Rattle.reuse_style.specs.declared.style.Kind.{Kind};
     ghost use Rattle.reuse_style.specs.Keyed.{AreKeys};
@@ -37,10 +38,10 @@ impl Model for StyleTable {
     ghost invariant = { λ table. AreKeys table.entries.items };
 }
 
-impl StyleTable {
+impl<'a> StyleTable<'a> {
     /// The table by a project's file of styles. Where there is no file, it is the table of names
     /// alone.
-    pub fn read(alloc: Global, file: Option<&[u8]>) -> Result<StyleTable, StylesRefusal>
+    pub fn read(alloc: Global, file: Option<&[u8]>) -> Result<StyleTable<'a>, StylesRefusal>
         ensures ok { IfOk result (λ table. styles_of (option_copied file.entry) ≡ Ok (lookup table)) }
         ensures refused { IfErr result (λ refusal. IsRefused (styles_of (option_copied file.entry)) refusal) }
         ensures absent { file.entry ≡ None → IsOk result }
@@ -54,9 +55,12 @@ impl StyleTable {
     }
 
     // The table of names in lower case.
-    fn of_names(alloc: Global, names: BTreeMap<Bytes, Kind>) -> Result<StyleTable, AllocError>
+    fn of_names(
+        alloc: Global,
+        names: BTreeMap<Bytes, Kind<'a>>,
+    ) -> Result<StyleTable<'a>, AllocError>
         requires { AreKeys names.entries }
-        ensures { IfOk result (λ table. table ≡ names.entries) }
+        ensures { IfOk result (λ table. table ≡ names.entry.entries) }
     {
         let entries = names.into_iter().collect(alloc)?;
         Ok(StyleTable { entries })
@@ -64,7 +68,7 @@ impl StyleTable {
 
     /// The kind of a path's last part, by its whole name or else by its ending, where letters of
     /// either case are the same, and the project's own names come before the table's.
-    pub fn style_of(&self, name: &str) -> Kind
+    pub fn style_of(&self, name: &str) -> Kind<'a>
         ensures { result ≡ kind_in (lookup self.now) name.now }
     {
         let part = last_part(name.as_bytes());
@@ -74,24 +78,24 @@ impl StyleTable {
     }
 
     // The kind of a name, its own or else the table's.
-    fn joined(&self, name: &[u8]) -> Option<Kind>
+    fn joined(&self, name: &[u8]) -> Option<Kind<'a>>
         ensures { result ≡ joined (lookup self.now) name.now }
     {
         match self.own_kind(name) {
-            None => lookup(&NAMES, name),
+            None => table_kind_of(name),
             own => own,
         }
     }
 
     // The kind of an own name.
-    fn own_kind(&self, name: &[u8]) -> Option<Kind>
+    fn own_kind(&self, name: &[u8]) -> Option<Kind<'a>>
         ensures { result ≡ lookup self.now name.now }
     {
         let found = self
             .entries
             .binary_search_by(|entry| compare_lowered(entry.0.as_slice(), name));
         match found {
-            Ok(place) => Some(self.entries[place].1),
+            Ok(place) => Some(self.entries[place].1.lent()),
             Err(_) => None,
         }
     }

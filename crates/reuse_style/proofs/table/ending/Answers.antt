@@ -2,7 +2,7 @@ use Rattle.std.proofs.Common.{arith}
 use Rattle.std.proofs.lemmas.Grind.{common_steps}
 use Rattle.reuse_style.specs.Names.{dot}
 use Rattle.reuse_text.proofs.LastLemmas.{suffix_len-last, suffix_len-no_last, last_below}
-use Rattle.reuse_style.proofs.style.ending.Goals as goal
+use Rattle.reuse_style.proofs.table.ending.Goals as goal
 
 pub returns-in-None : goal.returns-in-None
 returns-in-None c =
