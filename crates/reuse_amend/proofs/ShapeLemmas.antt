@@ -30,7 +30,7 @@ abbrev first_passes : (ℕ → Bool) → List ℕ → Bool
 first_passes test [] = false
 first_passes test (b ∷ bytes) = test b
 
-abbrev last_passes : (ℕ → Bool) → List ℕ → Bool
+abbrev pub last_passes : (ℕ → Bool) → List ℕ → Bool
 last_passes test [] = false
 last_passes test (b ∷ []) = test b
 last_passes test (b ∷ c ∷ bytes) = last_passes test (c ∷ bytes)
@@ -38,7 +38,7 @@ last_passes test (b ∷ c ∷ bytes) = last_passes test (c ∷ bytes)
 abbrev first_blank : List ℕ → Bool
 first_blank bytes = first_passes is_blank bytes
 
-abbrev last_blank : List ℕ → Bool
+abbrev pub last_blank : List ℕ → Bool
 last_blank bytes = last_passes is_blank bytes
 
 abbrev holds_feed : List ℕ → Bool
@@ -54,7 +54,7 @@ first_more : (x y : List ℕ) → 0 < length x → first_blank (x ++ y) ≡ firs
 first_more [] y some = absurd (omega arith)
 first_more (b ∷ x) y some = refl
 
-last_more : (x y : List ℕ) → 0 < length y → last_blank (x ++ y) ≡ last_blank y
+pub last_more : (x y : List ℕ) → 0 < length y → last_blank (x ++ y) ≡ last_blank y
 last_more [] y some = refl
 last_more (b ∷ []) [] some = absurd (omega arith)
 last_more (b ∷ []) (c ∷ y) some = refl
@@ -103,16 +103,22 @@ unfolding pieces_replaced
 last_replaced r behind p [] new cut last =
     let own : last_blank p.0 ≡ false = ap last_blank (sym (append-nil p.0)) ∙ last in
     let same : piece_replaced r behind p.0 ++ [] ≡ piece_replaced r behind p.0 =
-    append-nil (piece_replaced r behind p.0) in
-    (subst (λ t. 0 < length t) (sym same) (piece_some r behind p.0 new cut.0.some), ap last_blank same ∙ last_kept r behind p.0 new own)
+    append-nil (piece_replaced r behind p.0) in (
+      subst (λ t. 0 < length t) (sym same) (piece_some r behind p.0 new cut.0.some),
+      ap last_blank same
+          ∙ last_kept r behind p.0 new own,
+    )
 last_replaced r behind p (q ∷ ps) new cut last =
     let n = length-append q.0 (together ps) in
     let low = cut.2.0.some in
     let rest : last_blank (together (q ∷ ps)) ≡ false =
     sym (last_more p.0 (together (q ∷ ps)) (omega (arith, n, low))) ∙ last in
     let h = last_replaced r (is_behind_with behind p.1) q ps new cut.2 rest in
-    let m = length-append (piece_replaced r behind p.0) (pieces_replaced r (is_behind_with behind p.1) (q ∷ ps)) in
-    (omega (arith, m, h.0), last_more (piece_replaced r behind p.0) (pieces_replaced r (is_behind_with behind p.1) (q ∷ ps)) h.0 ∙ h.1)
+    let m = length-append (piece_replaced r behind p.0) (pieces_replaced r (is_behind_with behind p.1) (q ∷ ps)) in (
+      omega (arith, m, h.0),
+      last_more (piece_replaced r behind p.0)
+          (pieces_replaced r (is_behind_with behind p.1) (q ∷ ps)) h.0 ∙ h.1,
+    )
 
 trim_pieces : (r : Replacement) (ps : List Word) → IsTrim r.new → WellCut ps → IsTrim (together ps)
     → IsTrim (pieces_replaced r false ps)
@@ -191,7 +197,7 @@ module _ (test : ℕ → Bool) where
       by true h = omega (arith, h)
       by false h = omega arith
 
-  first_of : (xs : List ℕ) → drop_front test xs ≡ xs → first_passes test xs ≡ false
+  pub first_of : (xs : List ℕ) → drop_front test xs ≡ xs → first_passes test xs ≡ false
   unfolding drop_front
   first_of [] e = refl
   first_of (x ∷ xs) e = by (test x) refl e
@@ -200,7 +206,7 @@ module _ (test : ℕ → Bool) where
       by true is e' = absurd (let n = ap length e' in let m = no_more xs in omega (arith, n, m))
       by false is e' = is
 
-  last_of : (xs : List ℕ) → drop_end test xs ≡ xs → last_passes test xs ≡ false
+  pub last_of : (xs : List ℕ) → drop_end test xs ≡ xs → last_passes test xs ≡ false
   unfolding drop_end
   last_of [] e = refl
   last_of (x ∷ []) e = elim (truth (test x)) [
@@ -209,7 +215,8 @@ module _ (test : ℕ → Bool) where
   ]
   last_of (x ∷ y ∷ xs) e = elim (truth (list_all test (x ∷ y ∷ xs))) [
     | inl t ↦ absurd (not_nil x (y ∷ xs) (sym (ap (λ b. cond b [] (x ∷ drop_end test (y ∷ xs))) t) ∙ e))
-    | inr f ↦ last_of (y ∷ xs) (rest (drop_end test (y ∷ xs)) (sym (ap (λ b. cond b [] (x ∷ drop_end test (y ∷ xs))) f) ∙ e))
+    | inr f ↦ last_of (y ∷ xs) (rest (drop_end test (y ∷ xs))
+        (sym (ap (λ b. cond b [] (x ∷ drop_end test (y ∷ xs))) f) ∙ e))
   ]
     where
       rest : (ys : List ℕ) → x ∷ ys ≡ x ∷ y ∷ xs → ys ≡ y ∷ xs
@@ -228,7 +235,7 @@ not_all : (x : ℕ) (xs : List ℕ) → last_blank (x ∷ xs) ≡ false → list
 not_all x [] e = ap (λ t. t && true) e
 not_all x (y ∷ xs) e = and_none (is_blank x) (list_all is_blank (y ∷ xs)) (not_all y xs e)
 
-of_last : (xs : List ℕ) → last_blank xs ≡ false → drop_end is_blank xs ≡ xs
+pub of_last : (xs : List ℕ) → last_blank xs ≡ false → drop_end is_blank xs ≡ xs
 unfolding drop_end
 of_last [] e = refl
 of_last (x ∷ []) e = ap (λ t. cond t [] (x ∷ [])) (not_all x [] e)
@@ -246,7 +253,8 @@ whole_trim (b ∷ bytes) whole = record {
   some = omega arith;
   first = first_of is_blank (b ∷ bytes)
       (ap (drop_front is_blank) (sym whole.trim) ∙ drop_front-kept is_blank (b ∷ bytes) ∙ whole.trim);
-  last = last_of is_blank (b ∷ bytes) (ap (drop_end is_blank) (sym whole.trim) ∙ drop_end-twice is_blank (drop_front is_blank (b ∷ bytes)) ∙ whole.trim);
+  last = last_of is_blank (b ∷ bytes) (ap (drop_end is_blank) (sym whole.trim)
+      ∙ drop_end-twice is_blank (drop_front is_blank (b ∷ bytes)) ∙ whole.trim);
 }
 
 trim_whole : (text : List ℕ) → IsTrim text → IsWhole text
@@ -271,9 +279,11 @@ plain_whole [] plain = absurd (plain.some refl)
 plain_whole (b ∷ text) plain = trim_whole (b ∷ text) (record {
   some = omega arith;
   first = full b (or-parts (is_control b) (list_any is_control text) plain.printable).0
-      (first_of is_space (b ∷ text) (ap (drop_front is_space) (sym plain.trimmed) ∙ drop_front-kept is_space (b ∷ text) ∙ plain.trimmed));
+      (first_of is_space (b ∷ text) (ap (drop_front is_space) (sym plain.trimmed)
+      ∙ drop_front-kept is_space (b ∷ text) ∙ plain.trimmed));
   last = full_last (b ∷ text) plain.printable
-      (last_of is_space (b ∷ text) (ap (drop_end is_space) (sym plain.trimmed) ∙ drop_end-twice is_space (drop_front is_space (b ∷ text)) ∙ plain.trimmed));
+      (last_of is_space (b ∷ text) (ap (drop_end is_space) (sym plain.trimmed)
+      ∙ drop_end-twice is_space (drop_front is_space (b ∷ text)) ∙ plain.trimmed));
 })
 
 each_trim : (rs : List Replacement) → AllByRecursion (λ r. IsWhole r.new) rs → AllByRecursion (λ r. IsTrim r.new) rs

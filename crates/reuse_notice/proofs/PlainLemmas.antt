@@ -110,7 +110,7 @@ printable-years years short = elim (truth (years.low == years.high)) [
   | inr e ↦ rw e (none-append (four_digits years.low ++ codes " - ") (four_digits years.high) (none-append (four_digits years.low) (codes " - ") (printable-digits years.low short.0) refl) (printable-digits years.high short.1))
 ]
 
-printable-prefix : (prefix : Prefix) → list_any is_control (prefix_text prefix) ≡ false
+pub printable-prefix : (prefix : Prefix) → list_any is_control (prefix_text prefix) ≡ false
 printable-prefix Spdx = refl
 printable-prefix SpdxC = refl
 printable-prefix SpdxSymbol = refl
