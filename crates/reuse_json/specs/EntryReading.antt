@@ -136,17 +136,22 @@ changes_in sealed d = do
   ds ← as_array d
   read_items (change_in sealed) ds
 
--- of an entry, all but its changes: the command, whether the format is the second, and the moment
-unfoldable pub frame_in : Data → Option (CommandName × Bool × ℕ)
-frame_in d = do
-  fields ← as_object d
-  changes ← first_member (codes "changes") fields
-  command ← field_in command_in (codes "command") changes.1
+-- of an entry, what stands behind its changes: the command, whether the format is the second, and the moment
+unfoldable pub frame_end_in : Members → Option (CommandName × Bool × ℕ)
+frame_end_in fields = do
+  command ← field_in command_in (codes "command") fields
   format ← field_in format_in (codes "format") command.1
   _ ← if_known format.0 command.0
   when ← field_in moment_in (codes "when") format.1
   _ ← if_none_left when.1
   Some (command.0, format.0, when.0)
+
+-- of an entry, all but its changes
+unfoldable pub frame_in : Data → Option (CommandName × Bool × ℕ)
+frame_in d = do
+  fields ← as_object d
+  changes ← first_member (codes "changes") fields
+  frame_end_in changes.1
 
 -- changes, unless they are too many
 abbrev pub if_few_changes : Option (List Change) → Option (List Change)
@@ -167,10 +172,6 @@ unfoldable pub entry_in : Data → Option Entry
 entry_in d = do
   fields ← as_object d
   changes ← first_member (codes "changes") fields
-  command ← field_in command_in (codes "command") changes.1
-  format ← field_in format_in (codes "format") command.1
-  _ ← if_known format.0 command.0
-  when ← field_in moment_in (codes "when") format.1
-  _ ← if_none_left when.1
-  cs ← changes_in format.0 changes.0
-  Some (record { changes = cs; command = command.0; when = when.0 })
+  frame ← frame_end_in changes.1
+  cs ← changes_in frame.1 changes.0
+  Some (record { changes = cs; command = frame.0; when = frame.2 })

@@ -1,4 +1,5 @@
 //! A JSON value taken apart, member by member.
+ghost use Rattle.std.specs.Prelude.{◌≡◌, IfErr};
 ghost use Rattle.serde_json.specs.Find.{as_object, as_str};
 ghost use Rattle.serde_json.specs.View.{view, items_view, members_view};
 ghost use Rattle.reuse_json.specs.Decoded.{Gives, GivesBy};
@@ -18,7 +19,8 @@ pub type Fields<'a> = Iter<'a, String, Value>;
 
 /// The members of an object.
 pub fn fields(value: &Value) -> Result<Fields<'_>, DecodeFault>
-    ensures { GivesBy members_view result (as_object (view value.now)) }
+    ensures value { GivesBy members_view result (as_object (view value.now)) }
+    ensures fault { IfErr result (λ e. e ≡ DecodeFault.NotGood) }
 {
     match value {
         Value::Object(map) => Ok(map.iter()),
@@ -28,8 +30,9 @@ pub fn fields(value: &Value) -> Result<Fields<'_>, DecodeFault>
 
 /// The value of the next member, which has to have this key.
 pub fn field<'a>(fields: &mut Fields<'a>, key: &str) -> Result<&'a Value, DecodeFault>
-    ensures { GivesBy (λ v. (view v.now, members_view fields.new)) result
+    ensures value { GivesBy (λ v. (view v.now, members_view fields.new)) result
         (first_member key.now (members_view fields.old)) }
+    ensures fault { IfErr result (λ e. e ≡ DecodeFault.NotGood) }
 {
     match fields.next() {
         Some((name, value)) => if name.as_str() == key {
@@ -43,7 +46,8 @@ pub fn field<'a>(fields: &mut Fields<'a>, key: &str) -> Result<&'a Value, Decode
 
 /// Tests that no member is left.
 pub fn finish(mut fields: Fields<'_>) -> Result<(), DecodeFault>
-    ensures { Gives result (if_none_left (members_view fields.entry)) }
+    ensures value { Gives result (if_none_left (members_view fields.entry)) }
+    ensures fault { IfErr result (λ e. e ≡ DecodeFault.NotGood) }
 {
     match fields.next() {
         Some(_) => Err(DecodeFault::NotGood),
@@ -53,14 +57,16 @@ pub fn finish(mut fields: Fields<'_>) -> Result<(), DecodeFault>
 
 /// A text.
 pub fn text_of(value: &Value) -> Result<&str, DecodeFault>
-    ensures { GivesBy (λ s. s.now) result (as_str (view value.now)) }
+    ensures value { GivesBy (λ s. s.now) result (as_str (view value.now)) }
+    ensures fault { IfErr result (λ e. e ≡ DecodeFault.NotGood) }
 {
     value.as_str().ok_or(DecodeFault::NotGood)
 }
 
 // Tests that a value is this text.
 fn expect_text(value: &Value, text: &str) -> Result<(), DecodeFault>
-    ensures { Gives result (if_text text.now (view value.now)) }
+    ensures value { Gives result (if_text text.now (view value.now)) }
+    ensures fault { IfErr result (λ e. e ≡ DecodeFault.NotGood) }
 {
     if text_of(value)? == text {
         Ok(())
@@ -71,7 +77,8 @@ fn expect_text(value: &Value, text: &str) -> Result<(), DecodeFault>
 
 /// Tests that the next member has this key, and this text as its value.
 pub fn expect_next(fields: &mut Fields<'_>, key: &str, text: &str) -> Result<(), DecodeFault>
-    ensures { GivesBy (λ found. (found, members_view fields.new)) result (field_in (if_text text.now) key.now (members_view fields.old)) }
+    ensures value { GivesBy (λ found. (found, members_view fields.new)) result (field_in (if_text text.now) key.now (members_view fields.old)) }
+    ensures fault { IfErr result (λ e. e ≡ DecodeFault.NotGood) }
 {
     expect_text(field(fields, key)?, text)
 }
@@ -137,30 +144,42 @@ pub fn next_path(alloc: Global, fields: &mut Fields<'_>, key: &str) -> Result<Pa
     path_of(alloc, field(fields, key)?)
 }
 
-/// A moment.
-pub fn moment_of(value: &Value) -> Result<Moment, DecodeFault>
-    ensures { Gives result (moment_in (view value.now)) }
+// A moment.
+fn moment_of(value: &Value) -> Result<Moment, DecodeFault>
+    ensures value { Gives result (moment_in (view value.now)) }
+    ensures fault { IfErr result (λ e. e ≡ DecodeFault.NotGood) }
 {
     Moment::new(number_of(value)?).ok_or(DecodeFault::NotGood)
 }
 
+/// The moment of the next member, which has to have this key.
+pub fn next_moment(fields: &mut Fields<'_>, key: &str) -> Result<Moment, DecodeFault>
+    ensures value { GivesBy (λ moment. (moment, members_view fields.new)) result (field_in moment_in key.now (members_view fields.old)) }
+    ensures fault { IfErr result (λ e. e ≡ DecodeFault.NotGood) }
+{
+    moment_of(field(fields, key)?)
+}
+
 // A number of 64 bits.
 fn number_of(value: &Value) -> Result<u64, DecodeFault>
-    ensures { Gives result (number_in (view value.now)) }
+    ensures value { Gives result (number_in (view value.now)) }
+    ensures fault { IfErr result (λ e. e ≡ DecodeFault.NotGood) }
 {
     value.as_u64().ok_or(DecodeFault::NotGood)
 }
 
 /// The number of the next member, which has to have this key.
 pub fn next_number(fields: &mut Fields<'_>, key: &str) -> Result<u64, DecodeFault>
-    ensures { GivesBy (λ number. (number, members_view fields.new)) result (field_in number_in key.now (members_view fields.old)) }
+    ensures value { GivesBy (λ number. (number, members_view fields.new)) result (field_in number_in key.now (members_view fields.old)) }
+    ensures fault { IfErr result (λ e. e ≡ DecodeFault.NotGood) }
 {
     number_of(field(fields, key)?)
 }
 
 // A number of 32 bits.
 fn small_of(value: &Value) -> Result<u32, DecodeFault>
-    ensures { Gives result (small_in (view value.now)) }
+    ensures value { Gives result (small_in (view value.now)) }
+    ensures fault { IfErr result (λ e. e ≡ DecodeFault.NotGood) }
 {
     let number = number_of(value)?;
     if number <= u64::from(u32::MAX) {
@@ -172,14 +191,16 @@ fn small_of(value: &Value) -> Result<u32, DecodeFault>
 
 /// The number of 32 bits of the next member, which has to have this key.
 pub fn next_small(fields: &mut Fields<'_>, key: &str) -> Result<u32, DecodeFault>
-    ensures { GivesBy (λ number. (number, members_view fields.new)) result (field_in small_in key.now (members_view fields.old)) }
+    ensures value { GivesBy (λ number. (number, members_view fields.new)) result (field_in small_in key.now (members_view fields.old)) }
+    ensures fault { IfErr result (λ e. e ≡ DecodeFault.NotGood) }
 {
     small_of(field(fields, key)?)
 }
 
 // Whether the format is the second, in which entries are sealed, and not the first.
 fn is_second_format(value: &Value) -> Result<bool, DecodeFault>
-    ensures { Gives result (format_in (view value.now)) }
+    ensures value { Gives result (format_in (view value.now)) }
+    ensures fault { IfErr result (λ e. e ≡ DecodeFault.NotGood) }
 {
     match number_of(value)? {
         1 => Ok(false),
@@ -190,7 +211,8 @@ fn is_second_format(value: &Value) -> Result<bool, DecodeFault>
 
 /// Whether the format, which the next member has to tell under this key, is the second.
 pub fn next_format(fields: &mut Fields<'_>, key: &str) -> Result<bool, DecodeFault>
-    ensures { GivesBy (λ second. (second, members_view fields.new)) result (field_in format_in key.now (members_view fields.old)) }
+    ensures value { GivesBy (λ second. (second, members_view fields.new)) result (field_in format_in key.now (members_view fields.old)) }
+    ensures fault { IfErr result (λ e. e ≡ DecodeFault.NotGood) }
 {
     is_second_format(field(fields, key)?)
 }

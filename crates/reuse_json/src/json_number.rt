@@ -1,5 +1,5 @@
 //! A number of a JSON text.
-ghost use Rattle.std.specs.Prelude.{◌≡◌, ◌<◌, ◌==◌, IsTrue, false, length, option_map, slice_index, true};
+ghost use Rattle.std.specs.Prelude.{◌≡◌, ◌<◌, ◌==◌, IfErr, IsTrue, false, length, option_map, slice_index, true};
 ghost use Rattle.serde_json.specs.Data.{number};
 ghost use Rattle.serde_json.specs.Read.{float_of, number_from, number_of};
 ghost use Rattle.serde_json.specs.View.{number_view, view};
@@ -11,7 +11,8 @@ use serde_json::{Number, Value};
 
 /// The number that a token is, as `serde_json` reads it.
 pub(crate) fn number_value(text: &str) -> Result<Value, DecodeFault>
-    ensures { GivesBy view result (option_map number (number_of text.now)) }
+    ensures value { GivesBy view result (option_map number (number_of text.now)) }
+    ensures fault { IfErr result (λ e. e ≡ DecodeFault.NotGood) }
 {
     match read_number(text) {
         Some(found) => Ok(Value::Number(found)),

@@ -1,5 +1,5 @@
 //! A text of the journal, taken apart as this program writes it.
-ghost use Rattle.std.specs.Prelude.{◌≡◌, ◌↔◌, ◌++◌, ◌∷◌, ◌<◌, ◌≤◌, ◌+◌, [], List, ℕ, Some, IfOk, IfSome, OnOk, IsTrue, IsUtf8, decimal, codes, false, take, slice_index, length};
+ghost use Rattle.std.specs.Prelude.{◌≡◌, ◌↔◌, ◌++◌, ◌∷◌, ◌<◌, ◌≤◌, ◌+◌, [], List, ℕ, Some, IfErr, IfOk, IfSome, OnOk, IsTrue, IsUtf8, decimal, codes, false, take, slice_index, length};
 ghost use Rattle.std.specs.List.{AllPass};
 ghost use Rattle.json.specs.Print.{quoted};
 ghost use Rattle.json.specs.Run.{is_plain};
@@ -52,7 +52,8 @@ impl<'a> WrittenText<'a> {
 
     /// Takes a word, which has to stand next.
     pub fn expect(&mut self, word: &str) -> Result<(), DecodeFault>
-        ensures { OnOk result (self.old ≡ word.now ++ self.new) }
+        ensures text { OnOk result (self.old ≡ word.now ++ self.new) }
+        ensures fault { IfErr result (λ e. e ≡ DecodeFault.NotGood) }
     {
         if self.skip(word) {
             Ok(())
@@ -63,7 +64,8 @@ impl<'a> WrittenText<'a> {
 
     /// Tests that nothing is left.
     pub fn finish(self) -> Result<(), DecodeFault>
-        ensures { OnOk result (self.entry ≡ []) }
+        ensures text { OnOk result (self.entry ≡ []) }
+        ensures fault { IfErr result (λ e. e ≡ DecodeFault.NotGood) }
     {
         if self.rest.is_empty() {
             Ok(())
@@ -74,7 +76,8 @@ impl<'a> WrittenText<'a> {
 
     /// Takes a number.
     pub fn number(&mut self) -> Result<u64, DecodeFault>
-        ensures { IfOk result (λ number. self.old ≡ decimal number ++ self.new) }
+        ensures text { IfOk result (λ number. self.old ≡ decimal number ++ self.new) }
+        ensures fault { IfErr result (λ e. e ≡ DecodeFault.NotGood) }
     {
         let rest = self.rest;
         let Some((number, len)) = number_in(rest) else {
@@ -98,6 +101,7 @@ impl<'a> WrittenText<'a> {
     pub fn digest(&mut self, opening: &str) -> Result<Option<Digest>, DecodeFault>
         ensures text { (key : List ℕ) → opening.now ≡ codes "\"" ++ key ++ codes "\":" → IfOk result (λ digest. self.old ≡ digest_text key digest ++ self.new) }
         ensures digest { IfOk result AreDigestBytes }
+        ensures fault { IfErr result (λ e. e ≡ DecodeFault.NotGood) }
     {
         if !self.skip(opening) {
             return Ok(None);
@@ -129,7 +133,8 @@ impl<'a> WrittenText<'a> {
 
     // Takes what stands between two quotes.
     fn string(&mut self) -> Result<&'a [u8], DecodeFault>
-        ensures { IfOk result (λ content. self.old ≡ 34 ∷ (content.now ++ 34 ∷ self.new)) }
+        ensures text { IfOk result (λ content. self.old ≡ 34 ∷ (content.now ++ 34 ∷ self.new)) }
+        ensures fault { IfErr result (λ e. e ≡ DecodeFault.NotGood) }
     {
         self.expect("\"")?;
         let rest = self.rest;

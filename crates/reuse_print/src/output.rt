@@ -7,6 +7,7 @@ ghost use Rattle.reuse_print.specs.declared.fault.Fault.TheVariants as faults;
 mod taken;
 
 use crate::fault::Fault;
+use reuse_record::Record;
 use std::io::{ErrorKind, Write};
 use taken::TakenBytes;
 
@@ -34,7 +35,7 @@ pub trait Sink {
 pub struct Output<W: Write + Drop> {
     pub(crate) inner: W,
     failed: bool,
-    pub(crate) taken: TakenBytes,
+    pub(crate) taken: Record<TakenBytes>,
 }
 
 impl<W: Write + Drop> Output<W> {
@@ -47,7 +48,7 @@ impl<W: Write + Drop> Output<W> {
         Output {
             inner,
             failed: false,
-            taken: TakenBytes::new(),
+            taken: Record::new(),
         }
     }
 
@@ -84,7 +85,8 @@ impl<W: Write + Drop> Sink for Output<W> {
             match self.inner.write(bytes) {
                 Ok(0) => return self.fail(),
                 Ok(taken) => {
-                    self.taken.note(&bytes[..taken]);
+                    let part = &bytes[..taken];
+                    self.taken.note(&part, &());
                     return Ok(taken);
                 }
                 Err(error) if error.kind() == ErrorKind::Interrupted => {}

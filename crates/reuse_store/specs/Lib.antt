@@ -3,7 +3,6 @@ pub mod Lasting
 pub mod StoreLaws
 pub mod Asked
 pub mod Calls
-pub mod CallParts
 pub mod FileMap
 pub mod FaultyStore
 pub mod Apply

@@ -21,7 +21,7 @@ use Rattle.reuse_json.specs.Json.{count, array_of, members_of}
 use Rattle.reuse_json.specs.Format.{knows, format_number}
 use Rattle.reuse_json.specs.EntryText.{command_name, whole_members, splice_members, IsWholeValue, IsHex, IsHexDigest, IsChangeValue, IsEntryValue, HavePaths, IsGoodEntry}
 use Rattle.reuse_json.specs.JsonReading.{first_member, field_in, if_none_left, format_in, number_in, read_items}
-use Rattle.reuse_json.specs.EntryReading.{if_text, digest_in, first_digest, seal_of, hex_in, path_in, command_from, command_in, if_known, moment_in, whole_in, make_in, drop_in, splice_in, splice_bytes_in, splice_end_in, change_in, changes_in, entry_in}
+use Rattle.reuse_json.specs.EntryReading.{if_text, digest_in, first_digest, seal_of, hex_in, path_in, command_from, command_in, if_known, moment_in, whole_in, make_in, drop_in, splice_in, splice_bytes_in, splice_end_in, change_in, changes_in, entry_in, frame_end_in}
 use Rattle.reuse_change.specs.declared.change.Change.{Change}
 use Rattle.reuse_change.specs.declared.change.Change.TheVariants.{Make, Drop, Splice}
 use Rattle.reuse_json.specs.declared.entry.Entry.{Entry}
@@ -293,33 +293,9 @@ changes_again sealed cs values h are sound =
 pub known_again : (sealed : Bool) (command : CommandName) → knows sealed command ≡ true → if_known sealed command ≡ Some tt
 known_again sealed command is = ap (λ b. cond b (Some tt) None) is
 
--- what is read as an entry is a value of it
-entry_found : (d : Data) (entry : Entry) → entry_in d ≡ Some entry → IsEntryValue entry d × (entry.when ≤ 250_000_000_000)
-unfolding entry_in
-entry_found d entry e =
-    let fields = bind_some _ (as_object d) entry e in
-    let changes = bind_some _ (first_member (codes "changes") fields.0) entry fields.2 in
-    let command = bind_some _ (field_in command_in (codes "command") changes.0.1) entry changes.2 in
-    let format = bind_some _ (field_in format_in (codes "format") command.0.1) entry command.2 in
-    let known = bind_some _ (if_known format.0.0 command.0.0) entry format.2 in
-    let when = bind_some _ (field_in moment_in (codes "when") format.0.1) entry known.2 in
-    let end = bind_some _ (if_none_left when.0.1) entry when.2 in
-    let cs = bind_some _ (changes_in format.0.0 changes.0.0) entry end.2 in
-    let told = field_found moment_in (codes "when") format.0.1 when.0 when.1 in
-    let moment = moment_found told.0 when.0.0 told.1 in
-    let values = changes_found format.0.0 changes.0.0 cs.0 cs.1 in
-    let IsAs : Change → Type 0 = λ c. is_sealed c ≡ format.0.0 in
-    let fourth = told.2 ∙ ap₂ (member (codes "when")) moment.0 (none_left_found when.0.1 end.0 end.1) in
-    let third = field_is format_in (λ b. count (format_number b)) format_found (codes "format") command.0.1 format.0 format.1 ∙ ap (member (codes "format") (count (format_number format.0.0))) fourth in
-    let second = field_is command_in (λ w. string (command_name w)) command_there (codes "command") changes.0.1 command.0 command.1 ∙ ap (member (codes "command") (string (command_name command.0.0))) third in
-    let first = first_member_found (codes "changes") fields.0 changes.0 changes.1 ∙ ap₂ (member (codes "changes")) values.1 second in
-    let found : Entry = record { changes = cs.0; command = command.0.0; when = when.0.0 } in
-    subst (λ (x : Entry). IsEntryValue x d × (x.when ≤ 250_000_000_000)) (same_Some found entry cs.2)
-    ((format.0.0, values.0, All-from_recursion IsAs cs.0 values.2.0, (cond_some (knows format.0.0 command.0.0) tt known.0 known.1).0, values.2.1, object_found d fields.0 fields.1 ∙ ap object first), moment.1)
-
 -- a value of an entry is read as the entry
 entry_again : (d : Data) (entry : Entry) → HavePaths entry.changes → entry.when ≤ 250_000_000_000 → IsEntryValue entry d → entry_in d ≡ Some entry
-unfolding entry_in
+unfolding entry_in frame_end_in
 entry_again d entry paths when h =
     rw h.5 (rw (command_again entry.command, format_again h.0, known_again h.0 entry.command h.3, moment_again entry.when when, changes_again h.0 entry.changes h.1 h.4 h.2 paths) refl)
 

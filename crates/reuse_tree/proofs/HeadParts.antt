@@ -11,7 +11,7 @@ use Rattle.serde_json.specs.Find.{as_object, as_str}
 use Rattle.reuse_json.specs.Json.{count, counts}
 use Rattle.reuse_tree.specs.Head.{direction_name, pending_value, head_value, FitsDirection, PendingFits, IsSoundHead, IsGoodHead}
 use Rattle.reuse_json.specs.JsonReading.{field_in, if_none_left, small_in, smalls_in, format_in}
-use Rattle.reuse_tree.specs.HeadReading.{direction_from, direction_in, some_pending_in, pending_in, head_in}
+use Rattle.reuse_tree.specs.HeadReading.{direction_from, direction_in, some_pending_in, pending_in, head_in, head_end_in}
 use Rattle.reuse_tree.specs.declared.journal.head.Head.{Head}
 use Rattle.reuse_tree.specs.declared.journal.head.Pending.{Pending}
 use Rattle.reuse_tree.specs.declared.journal.head.PendingDirection.{PendingDirection}
@@ -83,7 +83,7 @@ pending_found d o e = not_null d o e
 
 -- what is read as a head is its value
 pub head_found : (d : Data) (h : Head) → head_in d ≡ Some h → (second : Bool) × (d ≡ head_value second h)
-unfolding head_in
+unfolding head_in head_end_in
 head_found d h e =
     let fields = bind_some _ (as_object d) h e in
     let done = bind_some _ (field_in smalls_in (codes "done") fields.0) h fields.2 in
@@ -116,7 +116,7 @@ pub record IsSmallHead (h : Head) : Type 0 where
 
 -- a head's value is read as the head
 pub head_again : (second : Bool) (h : Head) → IsSmallHead h → head_in (head_value second h) ≡ Some h
-unfolding head_in
+unfolding head_in head_end_in
 head_again second h small = rw (smalls_again h.done small.done, format_again second, small_again h.next small.next, pending_again h.pending small.pending, smalls_again h.undone small.undone) refl
 
 last_is : (ns : List ℕ) (n next : ℕ) → All (λ m. (1 ≤ m) × (m < next)) ns → slice_get ns (length ns - 1) ≡ Some n → n < next

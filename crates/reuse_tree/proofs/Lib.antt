@@ -1,3 +1,4 @@
+pub mod ChangeLists
 pub mod DistinctNumbers
 pub mod EntryLaws
 pub mod EntryParts

@@ -14,7 +14,7 @@ use Rattle.serde_json.specs.Read.{read}
 use Rattle.serde_json.specs.View.{items_of}
 use Rattle.reuse_change.specs.Change.{is_sealed}
 use Rattle.reuse_json.specs.Decoded.{Gives, IsAnswer}
-use Rattle.reuse_json.specs.EntryReading.{change_in, changes_in, frame_in, command_in, moment_in, if_known, if_few_changes, listed_in, with_next}
+use Rattle.reuse_json.specs.EntryReading.{change_in, changes_in, frame_in, frame_end_in, command_in, moment_in, if_known, if_few_changes, listed_in, with_next}
 use Rattle.reuse_json.specs.EntryText.{command_name, whole_members, splice_members, IsChangeValue, IsJsonEntry, HavePaths}
 use Rattle.reuse_json.specs.Format.{format_number, knows}
 use Rattle.reuse_json.specs.Json.{count, array_of, members_of, object_of, IsJson}
@@ -196,7 +196,7 @@ known_found : (sealed : Bool) (command : CommandName) (u : Unit) → if_known se
 known_found sealed command u e = elim (knows sealed command) as (λ b. cond b (Some tt) None ≡ Some u → b ≡ true) [ true ↦ λ is. refl | false ↦ λ is. absurd (none-some u is) ] e
 
 frame_found : (d : Data) (f : Frame) → frame_in d ≡ Some f → IsFrame d f
-unfolding frame_in
+unfolding frame_in frame_end_in
 frame_found d f e =
     let fields = bind_some _ (as_object d) f e in
     let changes = bind_some _ (first_member (codes "changes") fields.0) f fields.2 in
@@ -215,7 +215,7 @@ frame_found d f e =
     (record { changes = changes.0.0; value = object_found d fields.0 fields.1 ∙ ap object first; known = known_found format.0.0 command.0.0 known.0 known.1; when = moment.1 })
 
 frame_again : (changes : Data) (f : Frame) → knows f.1 f.0 ≡ true → f.2 ≤ 250_000_000_000 → frame_in (frame_value changes f) ≡ Some f
-unfolding frame_in
+unfolding frame_in frame_end_in
 frame_again changes f known when = rw (command_again f.0, format_again f.1, known_again f.1 f.0 known, moment_again f.2 when) refl
 
 -- ---- what a trimmed object was

@@ -1,7 +1,7 @@
 -- For private clauses: a head's value as it is taken apart.
 use Rattle.std.specs.Prelude.{List, ℕ, codes, Option, Some, None, is_some, option_map, if◌then◌else◌}
 use Rattle.std.specs.Str.{bytes_eq}
-use Rattle.serde_json.specs.Data.{Data}
+use Rattle.serde_json.specs.Data.{Data, Members}
 use Rattle.serde_json.specs.Find.{as_object, as_null, as_str}
 use Rattle.reuse_json.specs.JsonReading.{◌>>=◌, field_in, if_none_left, format_in, small_in, smalls_in}
 use Rattle.reuse_tree.specs.declared.journal.head.Head.{Head}
@@ -32,13 +32,18 @@ some_pending_in d = do
 abbrev pub pending_in : Data → Option (Option Pending)
 pending_in d = if is_some (as_null d) then Some None else option_map Some (some_pending_in d)
 
+-- from what is under way on
+unfoldable pub head_end_in : List ℕ → ℕ → Members → Option Head
+head_end_in done next fields = do
+  pending ← field_in pending_in (codes "pending") fields
+  undone ← field_in smalls_in (codes "undone") pending.1
+  _ ← if_none_left undone.1
+  Some (record { done = done; undone = undone.0; next = next; pending = pending.0 })
+
 unfoldable pub head_in : Data → Option Head
 head_in d = do
   fields ← as_object d
   done ← field_in smalls_in (codes "done") fields
   format ← field_in format_in (codes "format") done.1
   next ← field_in small_in (codes "next") format.1
-  pending ← field_in pending_in (codes "pending") next.1
-  undone ← field_in smalls_in (codes "undone") pending.1
-  _ ← if_none_left undone.1
-  Some (record { done = done.0; undone = undone.0; next = next.0; pending = pending.0 })
+  head_end_in done.0 next.0 next.1

@@ -7,12 +7,12 @@ ghost use Rattle.std.specs.Cmp.Lexicographic.{slice_cmp};
 ghost use Rattle.std.specs.List.Sorted.{IsPartitionPoint, IsStrictlySortedBy};
 ghost use Rattle.reuse_change.specs.Change.{path_of, IsProper};
 ghost use Rattle.reuse_change.specs.Path.{is_path};
-ghost use Rattle.reuse_change.specs.Entry.{paths_of, HasOwnDigest, IsSmall};
+ghost use Rattle.reuse_change.specs.Entry.{paths_of, IsSmall};
 ghost use Rattle.reuse_tree.specs.EntryTests.{AreApart, IsSoundChange, Passes};
 ghost use Rattle.reuse_change.specs.Listing.{is_folder_of};
 ghost use Rattle.reuse_change.specs.Tree.{is_of_tree};
 
-use reuse_change::{Change, Digest, PathText, is_too_many};
+use reuse_change::{Change, PathText, is_too_many};
 use reuse_text::LONGEST_FILE;
 
 /// Whether an entry may have these changes.
@@ -36,7 +36,7 @@ fn are_all_sound(changes: &[Change]) -> bool
 fn is_sound(change: &Change) -> bool
     ensures { IsTrue result ↔ IsSoundChange change.now }
 {
-    is_of_tree(change.path()) && is_proper(change) && is_small(change) && has_own_digest(change)
+    is_of_tree(change.path()) && is_proper(change) && is_small(change) && change.has_own_digest()
 }
 
 // Whether a path is none of the journal's.
@@ -55,25 +55,6 @@ fn is_proper(change: &Change) -> bool
     match change {
         Change::Make { .. } | Change::Drop { .. } => true,
         Change::Splice { old, new, .. } => old.as_slice() != new.as_slice(),
-    }
-}
-
-// Whether the digest that is recorded of a file that is made or removed is that of its bytes.
-fn has_own_digest(change: &Change) -> bool
-    ensures { IsTrue result ↔ HasOwnDigest change.now }
-{
-    match change {
-        Change::Make {
-            new,
-            after: Some(after),
-            ..
-        } => *after == Digest::of(new.as_slice()),
-        Change::Drop {
-            old,
-            before: Some(before),
-            ..
-        } => *before == Digest::of(old.as_slice()),
-        _ => true,
     }
 }
 

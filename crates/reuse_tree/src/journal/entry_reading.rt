@@ -1,10 +1,10 @@
 //! An entry's text, read.
-ghost use Rattle.std.specs.Prelude.{◌≡◌, ◌≤◌, None, Some, IfOk, codes, length};
+ghost use Rattle.std.specs.Prelude.{◌≡◌, ◌≤◌, None, Some, IfErr, IfOk, codes, length};
 ghost use Rattle.serde_json.specs.Data.{Data};
 ghost use Rattle.serde_json.specs.View.{view, members_view};
 ghost use Rattle.reuse_json.specs.Decoded.{Gives, GivesBy, IsAnswer};
 ghost use Rattle.reuse_json.specs.EntryText.{HavePaths, IsGoodEntry, IsJsonEntry};
-ghost use Rattle.reuse_json.specs.EntryReading.{change_in, command_from, command_in, drop_in, frame_in, if_known, make_in, seal_of, splice_bytes_in, splice_end_in, splice_in, whole_in};
+ghost use Rattle.reuse_json.specs.EntryReading.{change_in, command_from, command_in, drop_in, frame_in, frame_end_in, if_known, make_in, seal_of, splice_bytes_in, splice_end_in, splice_in, whole_in};
 ghost use Rattle.reuse_json.specs.Json.{IsJson};
 ghost use Rattle.reuse_json.specs.JsonReading.{field_in};
 ghost use Rattle.reuse_json.specs.Trimmed.{trim};
@@ -15,7 +15,7 @@ use crate::journal::entry_checks::are_sound;
 use crate::journal::written_entry::{knows, read_written};
 use reuse_change::{Change, CommandName, Digest, Moment, PathText, Seal};
 use reuse_json::fields::{
-    Fields, expect_next, field, fields, finish, moment_of, next_bytes, next_digest, next_format,
+    Fields, expect_next, field, fields, finish, next_bytes, next_digest, next_format, next_moment,
     next_number, next_path, text_of,
 };
 use reuse_json::trimmed::parse_trimmed;
@@ -84,26 +84,38 @@ fn read_frame(alloc: Global, text: &[u8]) -> Result<(CommandName, bool, Moment),
 
 #[tactic(auto, unfolding(reuse_json::specs::EntryReading::frame_in))]
 fn frame_of(value: &Value) -> Result<(CommandName, bool, Moment), DecodeFault>
-    ensures { Gives result (frame_in (view value.now)) }
+    ensures value { Gives result (frame_in (view value.now)) }
+    ensures fault { IfErr result (λ e. e ≡ DecodeFault.NotGood) }
 {
     let mut members = fields(value)?;
     let _changes = field(&mut members, "changes")?;
+    frame_end_of(members)
+}
+
+// Of an entry: what stands behind its changes.
+#[tactic(auto, unfolding(reuse_json::specs::EntryReading::frame_end_in))]
+fn frame_end_of(mut members: Fields<'_>) -> Result<(CommandName, bool, Moment), DecodeFault>
+    ensures value { Gives result (frame_end_in (members_view members.entry)) }
+    ensures fault { IfErr result (λ e. e ≡ DecodeFault.NotGood) }
+{
     let command = next_command(&mut members)?;
     let sealed = next_format(&mut members, "format")?;
     expect_known(sealed, command)?;
-    let when = moment_of(field(&mut members, "when")?)?;
+    let when = next_moment(&mut members, "when")?;
     finish(members)?;
     Ok((command, sealed, when))
 }
 
 fn next_command(members: &mut Fields<'_>) -> Result<CommandName, DecodeFault>
-    ensures { GivesBy (λ command. (command, members_view members.new)) result (field_in command_in (codes "command") (members_view members.old)) }
+    ensures value { GivesBy (λ command. (command, members_view members.new)) result (field_in command_in (codes "command") (members_view members.old)) }
+    ensures fault { IfErr result (λ e. e ≡ DecodeFault.NotGood) }
 {
     command_of(text_of(field(members, "command")?)?)
 }
 
 fn command_of(name: &str) -> Result<CommandName, DecodeFault>
-    ensures { Gives result (command_from name.now) }
+    ensures value { Gives result (command_from name.now) }
+    ensures fault { IfErr result (λ e. e ≡ DecodeFault.NotGood) }
 {
     if name == "annotate" {
         Ok(CommandName::Annotate)
@@ -122,7 +134,8 @@ fn command_of(name: &str) -> Result<CommandName, DecodeFault>
 
 // The first format doesn't know each command.
 fn expect_known(sealed: bool, command: CommandName) -> Result<(), DecodeFault>
-    ensures { Gives result (if_known sealed command) }
+    ensures value { Gives result (if_known sealed command) }
+    ensures fault { IfErr result (λ e. e ≡ DecodeFault.NotGood) }
 {
     if knows(sealed, command) {
         Ok(())

@@ -1,14 +1,17 @@
 //! The head as text, and back.
-ghost use Rattle.std.specs.Prelude.{◌≡◌, ◌≢◌, ◌≤◌, ◌+◌, ◌*◌, ◌↔◌, true, AllPairs, IfOk, IsTrue, length};
-ghost use Rattle.serde_json.specs.View.{view};
+ghost use Rattle.std.specs.Prelude.{◌≡◌, ◌≢◌, ◌≤◌, ◌+◌, ◌*◌, ◌↔◌, true, AllPairs, IfErr, IfOk, IsTrue, length};
+ghost use Rattle.serde_json.specs.View.{view, members_view};
 ghost use Rattle.reuse_json.specs.Decoded.{Gives, IsAnswer};
 ghost use Rattle.reuse_tree.specs.Head.{head_text, listed, head_value, pending_value as value_of_pending, IsGoodHead, IsJsonHead, IsSoundHead, PendingFits};
-ghost use Rattle.reuse_tree.specs.HeadReading.{head_in, pending_in, some_pending_in, direction_from};
+ghost use Rattle.reuse_tree.specs.HeadReading.{head_in, head_end_in, pending_in, some_pending_in, direction_from};
 ghost use Rattle.reuse_json.specs.Json.{counts};
 ghost use Rattle.reuse_tree.specs.declared.journal.head.Head.{Head};
 
 use crate::journal::head::{Head, Pending, PendingDirection};
-use reuse_json::fields::{field, fields, finish, next_format, next_numbers, next_small, text_of};
+use reuse_change::EntryNumbers;
+use reuse_json::fields::{
+    Fields, field, fields, finish, next_format, next_numbers, next_small, text_of,
+};
 use reuse_json::trimmed::parse_trimmed;
 use reuse_json::{DecodeFault, Room};
 use reuse_text::LONGEST_FILE;
@@ -97,6 +100,19 @@ fn head_of(alloc: Global, value: &Value) -> Result<Head, DecodeFault>
     let done = next_numbers(alloc, &mut members, "done")?;
     let _second = next_format(&mut members, "format")?;
     let next = next_small(&mut members, "next")?;
+    head_end_of(alloc, members, done, next)
+}
+
+// Of a head: from what is under way on.
+#[tactic(auto, unfolding(crate::specs::HeadReading::head_end_in))]
+fn head_end_of(
+    alloc: Global,
+    mut members: Fields<'_>,
+    done: EntryNumbers,
+    next: u32,
+) -> Result<Head, DecodeFault>
+    ensures { Gives result (head_end_in done next (members_view members.entry)) }
+{
     let pending = pending_of(field(&mut members, "pending")?)?;
     let undone = next_numbers(alloc, &mut members, "undone")?;
     finish(members)?;
@@ -109,7 +125,8 @@ fn head_of(alloc: Global, value: &Value) -> Result<Head, DecodeFault>
 }
 
 fn pending_of(value: &Value) -> Result<Option<Pending>, DecodeFault>
-    ensures { Gives result (pending_in (view value.now)) }
+    ensures value { Gives result (pending_in (view value.now)) }
+    ensures fault { IfErr result (λ e. e ≡ DecodeFault.NotGood) }
 {
     if value.is_null() {
         return Ok(None);
@@ -119,7 +136,8 @@ fn pending_of(value: &Value) -> Result<Option<Pending>, DecodeFault>
 
 #[tactic(auto, unfolding(crate::specs::HeadReading::some_pending_in))]
 fn some_pending_of(value: &Value) -> Result<Pending, DecodeFault>
-    ensures { Gives result (some_pending_in (view value.now)) }
+    ensures value { Gives result (some_pending_in (view value.now)) }
+    ensures fault { IfErr result (λ e. e ≡ DecodeFault.NotGood) }
 {
     let mut members = fields(value)?;
     let entry = next_small(&mut members, "entry")?;
@@ -129,7 +147,8 @@ fn some_pending_of(value: &Value) -> Result<Pending, DecodeFault>
 }
 
 fn direction_of(name: &str) -> Result<PendingDirection, DecodeFault>
-    ensures { Gives result (direction_from name.now) }
+    ensures value { Gives result (direction_from name.now) }
+    ensures fault { IfErr result (λ e. e ≡ DecodeFault.NotGood) }
 {
     if name == "do" {
         Ok(PendingDirection::Do)

@@ -1,5 +1,5 @@
 //! An entry's text as this program writes it, read in one pass and without a tree of values.
-ghost use Rattle.std.specs.Prelude.{◌≡◌, ◌++◌, ◌≤◌, ◌<◌, ◌↔◌, IfOk, OnOk, IsTrue, Some, true, codes, decimal, length, map};
+ghost use Rattle.std.specs.Prelude.{◌≡◌, ◌++◌, ◌≤◌, ◌<◌, ◌↔◌, IfErr, IfOk, OnOk, IsTrue, Some, true, codes, decimal, length, map};
 ghost use Rattle.std.specs.List.{All, join_with_byte};
 ghost use Rattle.std.specs.Option.{option_map};
 ghost use Rattle.reuse_change.specs.declared.digest.Seal.{Seal};
@@ -42,6 +42,7 @@ fn expect_good(changes: &[Change], sealed: bool, command: CommandName) -> Result
     ensures tests { OnOk result (Passes changes.now) }
     ensures alike { OnOk result (AreAllSealed sealed changes.now) }
     ensures known { OnOk result (knows sealed command ≡ true) }
+    ensures fault { IfErr result (λ e. e ≡ DecodeFault.NotGood) }
 {
     if knows(sealed, command) && are_all_sealed(changes, sealed) && are_sound(changes) {
         Ok(())
@@ -70,6 +71,7 @@ fn are_all_sealed(changes: &[Change], sealed: bool) -> bool
 fn read_moment(text: &mut WrittenText<'_>) -> Result<Moment, DecodeFault>
     ensures text { IfOk result (λ when. text.old ≡ decimal when ++ text.new) }
     ensures when { IfOk result (λ when. when ≤ 250_000_000_000) }
+    ensures fault { IfErr result (λ e. e ≡ DecodeFault.NotGood) }
 {
     let seconds = text.number()?;
     Moment::new(seconds).ok_or(DecodeFault::NotGood)
@@ -77,7 +79,8 @@ fn read_moment(text: &mut WrittenText<'_>) -> Result<Moment, DecodeFault>
 
 // Whether the format is the second, and not the first.
 fn is_second_format(text: &mut WrittenText<'_>) -> Result<bool, DecodeFault>
-    ensures { IfOk result (λ sealed. text.old ≡ decimal (format_number sealed) ++ text.new) }
+    ensures text { IfOk result (λ sealed. text.old ≡ decimal (format_number sealed) ++ text.new) }
+    ensures fault { IfErr result (λ e. e ≡ DecodeFault.NotGood) }
 {
     match text.number()? {
         1 => Ok(false),
@@ -87,7 +90,8 @@ fn is_second_format(text: &mut WrittenText<'_>) -> Result<bool, DecodeFault>
 }
 
 fn read_command(text: &mut WrittenText<'_>) -> Result<CommandName, DecodeFault>
-    ensures { IfOk result (λ command. text.old ≡ command_name command ++ text.new) }
+    ensures text { IfOk result (λ command. text.old ≡ command_name command ++ text.new) }
+    ensures fault { IfErr result (λ e. e ≡ DecodeFault.NotGood) }
 {
     if text.skip("annotate") {
         Ok(CommandName::Annotate)
@@ -201,6 +205,7 @@ fn read_splice(
 fn seal_of(before: Option<Digest>, after: Option<Digest>) -> Result<Option<Seal>, DecodeFault>
     ensures before { IfOk result (λ seal. option_map (λ s. s.before) seal ≡ before) }
     ensures after { IfOk result (λ seal. option_map (λ s. s.after) seal ≡ after) }
+    ensures fault { IfErr result (λ e. e ≡ DecodeFault.NotGood) }
 {
     match (before, after) {
         (Some(before), Some(after)) => Ok(Some(Seal { before, after })),

@@ -10,12 +10,12 @@ returns-in_err-small_of c =
     rw (p.1, p.2)
     (refusal_passes c.in_err-small_of.field-0.0 _ _
     (λ none. sym c.loop-value.invariant ∙ one_refused small_in c.args.values.now c.loop-value.numbers.items c.loop-value.value-index c.value-item.result c.loop-value-test.true c.value-item.is none)
-    c.in_err-small_of.ensures)
+    c.in_err-small_of.ensures.value)
 
 pub loop-value-preserved : goal.loop-value-preserved
 loop-value-preserved c =
     rw c.in_ok-push.ensures.items
-    (sym (one_more small_in c.args.values.now c.loop-value.numbers.items c.loop-value.value-index c.value-item.result c.in_ok-small_of.field-0 c.loop-value-test.true c.value-item.is c.in_ok-small_of.ensures)
+    (sym (one_more small_in c.args.values.now c.loop-value.numbers.items c.loop-value.value-index c.value-item.result c.in_ok-small_of.field-0 c.loop-value-test.true c.value-item.is c.in_ok-small_of.ensures.value)
     ∙ c.loop-value.invariant)
 
 pub returns : goal.returns

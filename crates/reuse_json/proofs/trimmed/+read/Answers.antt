@@ -39,12 +39,12 @@ read_from-returns-in_ok-from_str-in-String-clause-ok t c =
 pub read_from-returns-in-Number-clause-ok : goal.read_from-returns-in-Number-clause-ok
 read_from-returns-in-Number-clause-ok t c =
     let is : token_of c.args.token ∷ c.args.reader.now ≡ Token.number c.in-Number.text.now ∷ c.args.reader.now = grind arith in
-    number_read c.number_value.result c.args.depth c.args.room c.in-Number.text.now _ c.args.reader.now is c.number_value.ensures
+    number_read c.number_value.result c.args.depth c.args.room c.in-Number.text.now _ c.args.reader.now is c.number_value.ensures.value
 
 pub read_from-returns-in-Number-clause-refused : goal.read_from-returns-in-Number-clause-refused
 read_from-returns-in-Number-clause-refused t c refused =
     let is : token_of c.args.token ∷ c.args.reader.now ≡ Token.number c.in-Number.text.now ∷ c.args.reader.now = grind arith in
-    number_refused c.number_value.result c.args.depth c.in-Number.text.now _ c.args.reader.now is c.number_value.ensures refused
+    number_refused c.number_value.result c.args.depth c.in-Number.text.now _ c.args.reader.now is c.number_value.ensures.value refused
 
 pub read_from-returns-in-Bool-clause-ok : goal.read_from-returns-in-Bool-clause-ok
 read_from-returns-in-Bool-clause-ok t c =

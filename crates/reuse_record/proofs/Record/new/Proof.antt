@@ -38,8 +38,9 @@ new_spec 𝓤 𝓛 𝓜 𝓡 wired T _ =
     sets ! (agg ! (no_more !)) refl (tt, tt) $
     sets ! (agg ! (and_then ! (get ! refl) (no_more !))) refl (tt, (tt, tt)) $
     returns ! (look_at ! 0 refl) $ free_all ! refl $
-    pure_i ! (R.own_val value (stored ∷ [])) (λ _. (((λ vss. (tt, ((λ uss. (tt, tt)), tt))), tt), tt))
-    ((record { marker = record {}; value = value }, (refl, tt)),
-    ((((vstruct vnil ∷ [], tt), (refl, ((tt, (refl, tt)), tt))), tt), tt)) $
+    pure_i ! (R.own_val value (stored ∷ [])) (λ _. (((λ vss. (tt, ((λ uss. (tt, tt)), tt))), tt), tt)) (
+      (record { marker = record {}; value = value }, (refl, tt)),
+      ((((vstruct vnil ∷ [], tt), (refl, ((tt, (refl, tt)), tt))), tt), tt),
+    ) $
     suffices ! _ (ends_at 𝓛 E tt c ((κs, qs, bounds, a, tt), value) stored value tt tt) $ says ! refl $
     nothing ! $ move ! (2 ∷ 0 ∷ 1 ∷ []) $ done !))

@@ -1,4 +1,4 @@
-use Rattle.std.proofs.Common.{◌≡◌}
+use Rattle.std.proofs.Common.{◌≡◌, ◌++◌}
 use Rattle.std.specs.Io.KnownBytes.{Keeps}
 use Rattle.reuse_print.proofs.output.OutputSink.write_part.Given as goal
 
@@ -9,3 +9,6 @@ invariant-loop g l = record {
   kept : l.self.failed ≡ l.initial.self.failed;
   taken : l.self.taken ≡ l.initial.self.taken;
 }
+
+abbrev pub ghost-note : goal.ghost-note
+ghost-note g a = record a.self.now { bytes = a.self.now.bytes ++ a._first.now.now }

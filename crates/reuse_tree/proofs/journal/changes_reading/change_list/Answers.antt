@@ -1,10 +1,10 @@
-use Rattle.std.proofs.Common.{◌≡◌, ◌-◌, ◌<◌, [], ◌∷◌, ◌++◌, length, None, Err, ap, ap₂, ◌∙◌, arith, Some}
+use Rattle.std.proofs.Common.{◌≡◌, [], length, None, Err, ap, ◌∙◌, arith, Some}
 use Rattle.json.specs.Json.{parse_map, after_end_array, value}
 use Rattle.serde_json.specs.View.{items_of}
-use Rattle.reuse_json.specs.EntryReading.{change_in, with_next}
-use Rattle.reuse_json.proofs.JsonTurns.{item_read, item_refused, items_over}
-use Rattle.reuse_json.proofs.Trimming.{before, before-no_items, none_before, one_more_item, same_fault}
-use Rattle.reuse_tree.proofs.TrimmedEntries.{next_change, no_changes}
+use Rattle.reuse_json.proofs.JsonTurns.{item_refused, items_over}
+use Rattle.reuse_json.proofs.Trimming.{before, before-no_items, none_before, same_fault}
+use Rattle.reuse_tree.proofs.ChangeLists.{one_more_read}
+use Rattle.reuse_tree.proofs.TrimmedEntries.{no_changes}
 use Rattle.reuse_tree.proofs.journal.changes_reading.change_list.Goals as goal
 
 pub items-init : goal.items-init
@@ -19,75 +19,31 @@ returns-in_err-value-clause-refused c refused =
 
 pub items-preserved-in_ok-found : goal.items-preserved-in_ok-found
 items-preserved-in_ok-found c =
-    let l = c.items in
-    let n = l.invariant.0 in
-    let ds = l.invariant.2 in
-    let going : (after_end_array l.reader ≡ None) × (c.take_end_array.new.self ≡ l.reader) = grind arith in
-    let done = c.in_ok-value.ensures in
-    let d = done.ok.0 in
-    let less : length c.read.new.reader < length l.reader = rw (← going.1) done.shorter in
-    let turn = item_read (value 125) n l.reader c.read.new.reader d (omega (arith, l.invariant.1, less)) going.0 (rw (← going.1) done.ok.1) in (
-      n - 1,
-      omega (arith, l.invariant.1, less),
-      ds ++ d ∷ [],
-      l.invariant.3 ∙ ap (parse_map (before ds)) turn ∙ one_more_item ds d _,
-      c.in_ok-found.ensures.ok ∙ ap₂ with_next l.invariant.4 (ap (change_in c.args.sealed) done.ok.2) ∙ next_change c.args.sealed ds d,
-      omega (arith, l.invariant.5, less),
-    )
+    let going : (after_end_array c.items.reader ≡ None) × (c.take_end_array.new.self ≡ c.items.reader) = grind arith in
+    let read = c.in_ok-value.ensures in
+    one_more_read c.args.sealed _ c.items.reader c.read.new.reader read.ok.0 _ _ _ c.items.invariant going.0
+    (rw (← going.1) read.ok.1) (rw (← going.1) read.shorter) read.ok.2 c.in_ok-found.ensures.ok
 
 pub items-preserved-in_ok-found-2 : goal.items-preserved-in_ok-found-2
 items-preserved-in_ok-found-2 c =
-    let l = c.items in
-    let n = l.invariant.0 in
-    let ds = l.invariant.2 in
-    let going : (after_end_array l.reader ≡ None) × (c.take_end_array.new.self ≡ l.reader) = grind arith in
-    let done = c.in_ok-value.ensures in
-    let d = done.ok.0 in
-    let less : length c.read.new.reader < length l.reader = rw (← going.1) done.shorter in
-    let turn = item_read (value 125) n l.reader c.read.new.reader d (omega (arith, l.invariant.1, less)) going.0 (rw (← going.1) done.ok.1) in (
-      n - 1,
-      omega (arith, l.invariant.1, less),
-      ds ++ d ∷ [],
-      l.invariant.3 ∙ ap (parse_map (before ds)) turn ∙ one_more_item ds d _,
-      c.in_ok-found.ensures.ok ∙ ap₂ with_next l.invariant.4 (ap (change_in c.args.sealed) done.ok.2) ∙ next_change c.args.sealed ds d,
-      omega (arith, l.invariant.5, less),
-    )
+    let going : (after_end_array c.items.reader ≡ None) × (c.take_end_array.new.self ≡ c.items.reader) = grind arith in
+    let read = c.in_ok-value.ensures in
+    one_more_read c.args.sealed _ c.items.reader c.read.new.reader read.ok.0 _ _ _ c.items.invariant going.0
+    (rw (← going.1) read.ok.1) (rw (← going.1) read.shorter) read.ok.2 c.in_ok-found.ensures.ok
 
 pub items-preserved-in_ok-found-3 : goal.items-preserved-in_ok-found-3
 items-preserved-in_ok-found-3 c =
-    let l = c.items in
-    let n = l.invariant.0 in
-    let ds = l.invariant.2 in
-    let going : (after_end_array l.reader ≡ None) × (c.take_end_array.new.self ≡ l.reader) = grind arith in
-    let done = c.in_ok-value.ensures in
-    let d = done.ok.0 in
-    let less : length c.read.new.reader < length l.reader = rw (← going.1) done.shorter in
-    let turn = item_read (value 125) n l.reader c.read.new.reader d (omega (arith, l.invariant.1, less)) going.0 (rw (← going.1) done.ok.1) in (
-      n - 1,
-      omega (arith, l.invariant.1, less),
-      ds ++ d ∷ [],
-      l.invariant.3 ∙ ap (parse_map (before ds)) turn ∙ one_more_item ds d _,
-      c.in_ok-found.ensures.ok ∙ ap₂ with_next l.invariant.4 (ap (change_in c.args.sealed) done.ok.2) ∙ next_change c.args.sealed ds d,
-      omega (arith, l.invariant.5, less),
-    )
+    let going : (after_end_array c.items.reader ≡ None) × (c.take_end_array.new.self ≡ c.items.reader) = grind arith in
+    let read = c.in_ok-value.ensures in
+    one_more_read c.args.sealed _ c.items.reader c.read.new.reader read.ok.0 _ _ _ c.items.invariant going.0
+    (rw (← going.1) read.ok.1) (rw (← going.1) read.shorter) read.ok.2 c.in_ok-found.ensures.ok
 
 pub items-preserved : goal.items-preserved
 items-preserved c =
-    let l = c.items in
-    let n = l.invariant.0 in
-    let ds = l.invariant.2 in
-    let going : (after_end_array l.reader ≡ None) × (c.take_end_array.new.self ≡ l.reader) = grind arith in
-    let done = c.in_ok-value.ensures in
-    let d = done.ok.0 in
-    let less : length c.read.new.reader < length l.reader = rw (← going.1) done.shorter in
-    let turn = item_read (value 125) n l.reader c.read.new.reader d (omega (arith, l.invariant.1, less)) going.0 (rw (← going.1) done.ok.1) in (
-      n - 1,
-      omega (arith, l.invariant.1, less),
-      ds ++ d ∷ [],
-      l.invariant.3 ∙ ap (parse_map (before ds)) turn ∙ one_more_item ds d _,
-      c.in_ok-found.ensures.ok ∙ ap₂ with_next l.invariant.4 (ap (change_in c.args.sealed) done.ok.2) ∙ next_change c.args.sealed ds d,
-      omega (arith, l.invariant.5, less),
-    )
+    let going : (after_end_array c.items.reader ≡ None) × (c.take_end_array.new.self ≡ c.items.reader) = grind arith in
+    let read = c.in_ok-value.ensures in
+    one_more_read c.args.sealed _ c.items.reader c.read.new.reader read.ok.0 _ _ _ c.items.invariant going.0
+    (rw (← going.1) read.ok.1) (rw (← going.1) read.shorter) read.ok.2 c.in_ok-found.ensures.ok
 
 pub returns-clause-ok : goal.returns-clause-ok
 returns-clause-ok c =

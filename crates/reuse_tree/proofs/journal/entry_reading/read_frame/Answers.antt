@@ -11,9 +11,9 @@ returns-in_err-value-clause-refused c refused d is =
 pub returns-clause-ok : goal.returns-clause-ok
 returns-clause-ok c =
     let read = c.in_ok-value.ensures.ok in
-    frame_ok c.frame_of.result c.args.text.now read.0 (view c.in_ok-value.value) read.1 read.2 c.frame_of.ensures
+    frame_ok c.frame_of.result c.args.text.now read.0 (view c.in_ok-value.value) read.1 read.2 c.frame_of.ensures.value
 
 pub returns-clause-refused : goal.returns-clause-refused
 returns-clause-refused c refused x is =
     let read = c.in_ok-value.ensures.ok in
-    frame_refused c.frame_of.result c.args.text.now read.0 (view c.in_ok-value.value) x read.1 read.2 c.frame_of.ensures refused is
+    frame_refused c.frame_of.result c.args.text.now read.0 (view c.in_ok-value.value) x read.1 read.2 c.frame_of.ensures.value refused is

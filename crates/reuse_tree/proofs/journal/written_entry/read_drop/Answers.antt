@@ -10,9 +10,9 @@ returns-clause-text c =
     let kind = codes "\"kind\":\"drop\",\"old\":" in
     let bytes = codes "{" ++ before ++ kind ++ hex_text c.in_ok-old.old ++ codes ",\"path\":" in
     four_steps (codes "{") before kind (hex_text c.in_ok-old.old) (codes ",\"path\":") c.args.text.now c.digest.new.self c.expect.new.self c.bytes.new.self c.expect-2.new.self
-    (c.in_ok-before.ensures.text (codes "before") refl) c.in_ok-expect.ensures c.in_ok-old.ensures.text c.in_ok-expect-2.ensures
+    (c.in_ok-before.ensures.text (codes "before") refl) c.in_ok-expect.ensures.text c.in_ok-old.ensures.text c.in_ok-expect-2.ensures.text
     ∙ step bytes c.expect-2.new.self (quoted c.in_ok-path.path) c.path.new.self c.in_ok-path.ensures.text
-    ∙ step (bytes ++ quoted c.in_ok-path.path) c.path.new.self (codes "}") c.expect-3.new.self c.in_ok-expect-3.ensures
+    ∙ step (bytes ++ quoted c.in_ok-path.path) c.path.new.self (codes "}") c.expect-3.new.self c.in_ok-expect-3.ensures.text
 
 pub returns-clause-change : goal.returns-clause-change
 returns-clause-change c = record {

@@ -8,4 +8,4 @@ pub returns-clause-text : goal.returns-clause-text
 returns-clause-text c =
     let front = codes "{" ++ digest_text (codes "after") c.args.after ++ codes "\"kind\":\"make\",\"new\":" in
     four_steps front (hex_text c.in_ok-new.new) (codes ",\"path\":") (quoted c.in_ok-path.path) (codes "}") c.args.text.now c.bytes.new.self c.expect.new.self c.path.new.self c.expect-2.new.self
-    c.in_ok-new.ensures.text c.in_ok-expect.ensures c.in_ok-path.ensures.text c.in_ok-expect-2.ensures
+    c.in_ok-new.ensures.text c.in_ok-expect.ensures.text c.in_ok-path.ensures.text c.in_ok-expect-2.ensures.text

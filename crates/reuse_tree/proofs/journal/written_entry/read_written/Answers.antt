@@ -21,12 +21,12 @@ returns c =
     let whole = front ++ format ++ codes ",\"when\":" ++ decimal c.in_ok-when.when ++ codes "}" in
     let read : c.args.text.now ≡ whole =
     sym c.new-rest.ensures
-    ∙ c.in_ok-expect.ensures
+    ∙ c.in_ok-expect.ensures.text
     ∙ four_steps opening listed (codes "],\"command\":\"") name (codes "\",\"format\":") c.expect.new.self c.read_changes.new.text c.expect-2.new.self c.read_command.new.text c.expect-3.new.self
-    c.in_ok-changes.ensures.text c.in_ok-expect-2.ensures c.in_ok-command.ensures c.in_ok-expect-3.ensures
+    c.in_ok-changes.ensures.text c.in_ok-expect-2.ensures.text c.in_ok-command.ensures.text c.in_ok-expect-3.ensures.text
     ∙ four_steps front format (codes ",\"when\":") (decimal c.in_ok-when.when) (codes "}") c.expect-3.new.self c.is_second_format.new.text c.expect-4.new.self c.read_moment.new.text c.expect-5.new.self
-    c.in_ok-sealed.ensures c.in_ok-expect-4.ensures c.in_ok-when.ensures.text c.in_ok-expect-5.ensures
-    ∙ ap (λ (l : List ℕ). whole ++ l) c.in_ok-finish.ensures
+    c.in_ok-sealed.ensures.text c.in_ok-expect-4.ensures.text c.in_ok-when.ensures.text c.in_ok-expect-5.ensures.text
+    ∙ ap (λ (l : List ℕ). whole ++ l) c.in_ok-finish.ensures.text
     ∙ append-nil whole in
     let tests : Passes changes = subst Passes c.as_slice.ensures.value c.in_ok-expect_good.ensures.tests in
     subst (λ (l : List Change). IsGoodEntry c.args.text.now (record { changes = l; command = c.in_ok-command.command; when = c.in_ok-when.when })) (sym c.new.ensures)
