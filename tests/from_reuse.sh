@@ -94,8 +94,10 @@ options() {
   program 0 '' annotate -l MIT --force-dot-license b.rst
   has "$ours" b.rst.license 'SPDX-License-Identifier: MIT\n'
 
+  local template='Part of Demo.\n\n{% for line in copyright_lines %}\n{{ line }}\n{% endfor %}\n'
+  template+='{% for expression in spdx_expressions %}\nSPDX-License-Identifier: {{ expression }}\n{% endfor %}\n'
   row '`--template NAME`' a.py '# Part of Demo.\n# SPDX-License-Identifier: MIT\n\nx\n' \
-    .reuse/templates/demo.jinja2 'Part of Demo.\n\n{% for line in copyright_lines %}\n{{ line }}\n{% endfor %}\n{% for expression in spdx_expressions %}\nSPDX-License-Identifier: {{ expression }}\n{% endfor %}\n'
+    .reuse/templates/demo.jinja2 "$template"
   tool 0 '' annotate -c 'Jane Doe' -y 2024 --template demo a.py
   program 2 'unexpected argument' annotate -c 'Jane Doe' -y 2024 --template demo a.py
   program 0 '' annotate -c 'Jane Doe' -y 2024 a.py

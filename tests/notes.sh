@@ -102,7 +102,7 @@ changes() {
 }
 
 refusals() {
-  local long
+  local long way_out
   long=$(printf %0250d 0)
   files "$long" 'x\n'
   notes annotate --force-dot-license -l MIT "$long" \
@@ -152,11 +152,12 @@ refusals() {
   files a.py 'x\n' b.py 'x\n'
   "$program" --root "$tree" annotate -l MIT -r . > /dev/null
   rm "$tree/a.py"
-  notes undo \
-    : 'this file is gone: put it back and call again; or reuse-undo revert --skip-moved takes the step out of the other files, and reuse-undo forget out of the history alone'
+  way_out='or reuse-undo revert --skip-moved takes the step out of the other files'
+  notes undo : \
+    "this file is gone: put it back and call again; $way_out, and reuse-undo forget out of the history alone"
   notes undo -n : 'this file is gone: .*'
-  notes revert 1 : \
-    'this file is gone: put it back and call again, or leave it out with --skip-moved; or reuse-undo forget takes the step out of the history, and leaves all files'
+  way_out='or reuse-undo forget takes the step out of the history, and leaves all files'
+  notes revert 1 : "this file is gone: put it back and call again, or leave it out with --skip-moved; $way_out"
   notes revert -n 1 : 'this file is gone: .*'
   mkdir "$tree/a.py"
   notes undo : 'this file was changed since: .*'
@@ -233,7 +234,8 @@ whole_journal() {
 # What a loss of power without syncs, an editor, a later version or a hand may leave of a journal,
 # and that the way out is one
 journal() {
-  local undo=$tree/.reuse/undo out=': put it back from a backup; or delete the folder \.reuse/undo, which forgets the history and changes no other file'
+  local undo=$tree/.reuse/undo out=': put it back from a backup; or delete the folder \.reuse/undo, which forgets'
+  out+=' the history and changes no other file'
   files a.py 'x\n' b.py 'x\n'
   "$program" --root "$tree" annotate -l MIT a.py > /dev/null
   "$program" --root "$tree" annotate -l MIT b.py > /dev/null
@@ -357,15 +359,13 @@ faults() {
   notes annotate -l MIT a.py : 'step 1, which a stopped run had begun, was set back \(1 file\)' \
     '1 file changed; .*'
   echo yyy > "$tree/a.py"
-  notes log \
-    : 'a stopped run had begun to change this file, and it was changed since: .*reuse-undo recover --skip-moved, which leaves it as it is .*'
-  notes recover \
-    : 'a stopped run had begun to change this file, and it was changed since: with --skip-moved it is left as it is, .*'
+  local changed='a stopped run had begun to change this file, and it was changed since'
+  notes log : "$changed: .*reuse-undo recover --skip-moved, which leaves it as it is .*"
+  notes recover : "$changed: with --skip-moved it is left as it is, .*"
   rm "$tree/a.py"
-  notes log \
-    : 'a stopped run had begun to change this file, and it is gone: .*reuse-undo recover --skip-moved, which leaves it out .*'
-  notes recover \
-    : 'a stopped run had begun to change this file, and it is gone: with --skip-moved it is left out, .*'
+  local gone='a stopped run had begun to change this file, and it is gone'
+  notes log : "$gone: .*reuse-undo recover --skip-moved, which leaves it out .*"
+  notes recover : "$gone: with --skip-moved it is left out, .*"
   notes=$((notes + 3))
 }
 

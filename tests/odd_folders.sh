@@ -37,7 +37,7 @@ empty() {
 }
 
 names() {
-  local name before
+  local name before rows
   anew
   mkdir -p "$tree/a b" "$tree/größe"
   for name in 'a b/c d.py' 'größe/日本語.py' $'a b/line\nend.py' '-r.py' "quote'\".py" \
@@ -45,12 +45,11 @@ names() {
     echo x > "$tree/$name"
   done
   before=$(cd "$tree" && tar --sort=name --mtime=@0 -cf - . | sha256sum)
-  tells \
-    0 $'changed -r.py\nchanged a b/c d.py\nchanged a b/line\nend.py\nchanged back\\slash.py\nchanged größe/日本語.py\nchanged quote\'".py\n' \
-    "${annotate[@]}"
+  rows=$'changed -r.py\nchanged a b/c d.py\nchanged a b/line\nend.py\nchanged back\\slash.py\n'
+  rows+=$'changed größe/日本語.py\nchanged quote\'".py\n'
+  tells 0 "$rows" "${annotate[@]}"
   [[ $(head -n 1 "$tree/größe/日本語.py") == "$header" ]] || fail 'größe/日本語.py is not annotated'
-  tells \
-    0 $'undone -r.py\nundone a b/c d.py\nundone a b/line\nend.py\nundone back\\slash.py\nundone größe/日本語.py\nundone quote\'".py\n' undo
+  tells 0 "${rows//changed/undone}" undo
   [[ $(cd "$tree" &&
     tar --sort=name --mtime=@0 --exclude=./.reuse -cf - . | sha256sum) == "$before" ]] ||
     fail 'the names are not as before'
@@ -165,7 +164,7 @@ read_only() {
 # A folder without files gives way to the file that is made there. One that holds a link stays: the
 # call stops, and the next one sets back what it began.
 in_the_way() {
-  local before
+  local before rows
   anew
   mkdir -p "$tree/p.png.license/empty" "$tree/.reuse"
   printf '\211' > "$tree/p.png"
@@ -176,8 +175,9 @@ in_the_way() {
   ln -s nowhere "$tree/p.png.license/link"
   before=$(state_of "$tree")
   tells 1 $'reuse-undo: interrupted\n' annotate -l MIT -r .
-  tells \
-    0 "1 $(date -u +%F) annotate 2 undone"$'\nreuse-undo: note: step 2, which a stopped run had begun, was set back (1 file)\n' log
+  rows="1 $(date -u +%F) annotate 2 undone"$'\n'
+  rows+=$'reuse-undo: note: step 2, which a stopped run had begun, was set back (1 file)\n'
+  tells 0 "$rows" log
   [[ $(state_of "$tree") == "$before" ]] || fail 'a folder in the way: files are changed'
 }
 

@@ -74,7 +74,8 @@ sample() {
   passed=$((passed + 1))
 }
 sample \
-  a.py '#!/usr/bin/env python3\n# coding: utf-8\n"""Text."""\nfrom __future__ import annotations\nprint(1)\n' python3 -m py_compile
+  a.py '#!/usr/bin/env python3\n# coding: utf-8\n"""Text."""\nfrom __future__ import annotations\nprint(1)\n' \
+  python3 -m py_compile
 sample a.sh '#!/bin/sh\necho 1\n' bash -n
 sample a.bash 'echo 1\n' bash -n
 sample a.pl '#!/usr/bin/perl\nuse strict;\nprint 1;\n' perl -c
