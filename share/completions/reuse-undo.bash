@@ -1,7 +1,8 @@
-# Completes the words of reuse-undo in bash: source this file, or install it as /usr/share/bash-completion/completions/reuse-undo.
+# Completes the words of reuse-undo in bash: source this file, or install it as
+# /usr/share/bash-completion/completions/reuse-undo.
 
-# Sets `words` to the words before the one that is completed, without the equals signs that bash takes for words, and `word` to that one,
-# without quotes.
+# Sets `words` to the words before the one that is completed, without the equals signs that bash
+# takes for words, and `word` to that one, without quotes.
 _reuse_undo_words() {
   local index
   words=()
@@ -23,7 +24,9 @@ _reuse_undo_read() {
       --root=*) root=${words[index]#*=} ;;
       --texts=*) texts=${words[index]#*=} ;;
       --texts) texts=${words[++index]-.} ;;
-      --copyright | -c | --license | -l | --contributor | --year | -y | --style | -s | --copyright-prefix | --copyright-style | --files-from | --exclude | --remove-license | --remove-holder | --remove-contributor | --until | --holder) index=$((index + 1)) ;;
+      --copyright | -c | --license | -l | --contributor | --year | -y | --style | -s | --copyright-prefix | \
+        --copyright-style | --files-from | --exclude | --remove-license | --remove-holder | --remove-contributor | \
+        --until | --holder) index=$((index + 1)) ;;
       --replace-license | --replace-holder | --replace-contributor) index=$((index + 2)) ;;
       --) only_paths=yes ;;
       -*) ;;
@@ -67,7 +70,8 @@ _reuse_undo() {
         return
         ;;
       --copyright-prefix | --copyright-style)
-        _reuse_undo_of 'spdx spdx-c spdx-symbol spdx-string spdx-string-c spdx-string-symbol string string-c string-symbol symbol'
+        _reuse_undo_of 'spdx spdx-c spdx-symbol spdx-string spdx-string-c spdx-string-symbol string string-c
+          string-symbol symbol'
         return
         ;;
       --root | --texts)
@@ -90,13 +94,15 @@ _reuse_undo() {
     case $subcommand in
       '') _reuse_undo_of "$every --help --version" ;;
       annotate)
-        _reuse_undo_of "--copyright --license --contributor --year --exclude-year --style --copyright-prefix --copyright-style
-          --merge-copyrights --single-line --multi-line --no-replace --recursive --files-from --exclude --force-dot-license --fallback-dot-license
+        _reuse_undo_of "--copyright --license --contributor --year --exclude-year --style --copyright-prefix
+          --copyright-style --merge-copyrights --single-line --multi-line --no-replace --recursive --files-from
+          --exclude --force-dot-license --fallback-dot-license
           --skip-unrecognised --skip-existing --exit-non-zero-on-change --dry-run --check --diff --json $every --help"
         ;;
       amend)
-        _reuse_undo_of "--replace-license --remove-license --replace-holder --remove-holder --replace-contributor --remove-contributor --until
-          --copyright-prefix --holder --style --recursive --files-from --exclude --exit-non-zero-on-change --dry-run --check --diff --json $every --help"
+        _reuse_undo_of "--replace-license --remove-license --replace-holder --remove-holder --replace-contributor
+          --remove-contributor --until --copyright-prefix --holder --style --recursive --files-from --exclude
+          --exit-non-zero-on-change --dry-run --check --diff --json $every --help"
         ;;
       download) _reuse_undo_of "--texts --dry-run --check --diff --json $every --help" ;;
       convert-dep5) _reuse_undo_of "--exit-non-zero-on-change --dry-run --check --diff --json $every --help" ;;
@@ -117,7 +123,9 @@ _reuse_undo() {
     show | forget) _reuse_undo_steps ;;
     annotate | amend) _reuse_undo_paths "$root" ;;
     download)
-      while IFS= read -r id; do COMPREPLY+=("${id%.txt}"); done < <(cd -- "$texts" 2> /dev/null && compgen -f -X '!*.txt' -- "$word")
+      while IFS= read -r id; do
+        COMPREPLY+=("${id%.txt}")
+      done < <(cd -- "$texts" 2> /dev/null && compgen -f -X '!*.txt' -- "$word")
       ;;
   esac
 }
