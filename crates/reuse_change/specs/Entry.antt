@@ -15,6 +15,7 @@ use Rattle.reuse_change.specs.declared.change.Change.{Change}
 use Rattle.reuse_change.specs.declared.change.Change.TheVariants.{Make, Drop, Splice}
 use Rattle.reuse_text.specs.declared.TheConstants.{LONGEST_FILE}
 use Rattle.reuse_change.specs.Tree.{is_of_tree}
+use Rattle.reuse_change.specs.declared.layout.TheConstants.{LARGEST_ENTRY, MOST_CHANGES}
 use Rattle.reuse_change.specs.declared.direction.Direction.{Direction}
 use Rattle.reuse_change.specs.declared.direction.Direction.TheVariants.{Forward, Backward}
 
@@ -77,8 +78,8 @@ pub record IsEntry (changes : List Change) : Type 0 where
   pub ascending : IsStrictlySortedBy (slice_cmp nat_cmp) (paths_of changes)
   pub apart : (path other : List ℕ) → touches changes path ≡ true → touches changes other ≡ true
       → (lies_under other path || lies_under path other) ≡ false
-  pub few : length changes ≤ 100_000
-  pub light : entry_size changes ≤ 268_435_456
+  pub few : length changes ≤ MOST_CHANGES
+  pub light : entry_size changes ≤ LARGEST_ENTRY
   pub alike : (sealed : Bool) × AreAllSealed sealed changes
   pub own : All HasOwnDigest changes
 

@@ -1,3 +1,4 @@
+pub mod Layout
 pub mod Path
 pub mod Files
 pub mod Parts

@@ -3,6 +3,7 @@ use Rattle.std.specs.Prelude.{ℕ, Bool, not, ◌&&◌, List, [], ◌∷◌, ◌
 use Rattle.std.specs.Prelude.{slice_index, codes, if◌then◌else◌}
 use Rattle.std.specs.List.{slice_split, starts_with, list_all}
 use Rattle.std.specs.Str.{bytes_eq}
+pub use Rattle.reuse_change.specs.Layout.{journal_folder}
 
 -- a part that is neither empty, `.` nor `..`
 abbrev pub is_part : List ℕ → Bool
@@ -28,7 +29,3 @@ lies_under path folder = starts_with nat_eq path folder && (slice_index path (le
 abbrev pub folders_above : List ℕ → List (List ℕ)
 folders_above [] = []
 folders_above (byte ∷ path) = (if byte == 47 then [] ∷ [] else []) ++ map (λ folder. byte ∷ folder) (folders_above path)
-
--- the folder of the journal
-abbrev pub journal_folder : List ℕ
-journal_folder = codes ".reuse/undo"

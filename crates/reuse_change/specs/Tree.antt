@@ -1,17 +1,18 @@
 -- Trees: which paths are of the tree, and how two trees differ.
-use Rattle.std.specs.Prelude.{◌≡◌, ◌≢◌, ℕ, Bool, true, false, not, ◌&&◌, List, ◌++◌, Option, Some, None, codes}
+use Rattle.std.specs.Prelude.{◌≡◌, ◌≢◌, ℕ, Bool, true, false, not, ◌&&◌, List, ◌++◌, Option, Some, None}
 use Rattle.std.specs.Ordering.{nat_cmp}
 use Rattle.std.specs.Cmp.Lexicographic.{slice_cmp}
 use Rattle.std.specs.Str.{bytes_eq}
 use Rattle.std.specs.FinMap.{get, keys, entries, from_entries, retain_keys}
-use Rattle.reuse_change.specs.Path.{lies_under, journal_folder}
+use Rattle.reuse_change.specs.Layout.{above_journal, journal_folder}
+use Rattle.reuse_change.specs.Path.{lies_under}
 use Rattle.reuse_change.specs.Files.{Files}
 
 -- a path that a file of a tree can have beside a journal: neither `.reuse` nor `.reuse/undo`, and not under
 -- `.reuse/undo/`
 abbrev pub is_of_tree : List ℕ → Bool
 is_of_tree path =
-    not (bytes_eq path (codes ".reuse")) && not (bytes_eq path journal_folder) && not (lies_under path journal_folder)
+    not (bytes_eq path above_journal) && not (bytes_eq path journal_folder) && not (lies_under path journal_folder)
 
 -- the files that are no part of the tree: those under `.reuse/undo/`
 abbrev pub undo_folder_of : Files → Files

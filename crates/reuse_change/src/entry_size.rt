@@ -4,15 +4,11 @@ ghost use Rattle.reuse_change.specs.Entry.{change_size, entry_size, fixed_size, 
 ghost use Rattle.reuse_change.specs.Change.{is_sealed};
 
 use crate::change::Change;
+use crate::layout::{LARGEST_ENTRY, MOST_CHANGES};
 
-/// The most changes that an entry has.
-pub const MOST_CHANGES: usize = 100_000;
-
-const LARGEST_ENTRY: usize = 268_435_456;
-
-/// Whether there are more than 100,000 changes, or their entry size is over 268,435,456.
+/// Whether the changes are more than an entry has, or their entry size is over the largest.
 pub fn is_too_many(changes: &[Change]) -> bool
-    ensures { result ≡ (nat_lt 100_000 (length changes.now) || nat_lt 268_435_456 (entry_size changes.now)) }
+    ensures { result ≡ (nat_lt MOST_CHANGES (length changes.now) || nat_lt LARGEST_ENTRY (entry_size changes.now)) }
 {
     if changes.len() > MOST_CHANGES {
         return true;

@@ -7,6 +7,7 @@ ghost use Rattle.std.specs.Cmp.Lexicographic.{slice_cmp, pointwise, nat_list_eq_
 ghost use Rattle.std.specs.Cmp.Lexicographic.{texts_ties};
 ghost use Rattle.reuse_change.specs.Path.{is_path, is_part, has_no_nul, has_good_parts, lies_under, journal_folder};
 
+use crate::layout::JOURNAL;
 use std::alloc::{AllocError, Global};
 use std::cmp::Ordering;
 use std::marker::Model;
@@ -136,7 +137,7 @@ impl PathText {
     pub fn is_in_journal(&self) -> bool
         ensures { result ≡ lies_under self.now journal_folder }
     {
-        bytes_lie_under(self.as_bytes(), b".reuse/undo")
+        bytes_lie_under(self.as_bytes(), JOURNAL.as_bytes())
     }
 }
 
