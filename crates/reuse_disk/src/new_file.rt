@@ -10,9 +10,10 @@ ghost use Rattle.reuse_disk.specs.Written.{StandsAlone, IsWritten, is_kept, is_n
 
 use crate::syncs::Unsynced;
 use reuse_change::Parts;
+use reuse_change::layout::NEW;
 use reuse_system::fault::{FolderFault, Obstacle};
 use reuse_system::handle::OpenFolder;
-use reuse_system::kept_out::{NEW, is_in_journal};
+use reuse_system::kept_out::is_in_journal;
 use reuse_system::new_name::{NewName, beside_name};
 use reuse_system::owner::{Owner, Process};
 use reuse_system::parts_writer::write_parts;

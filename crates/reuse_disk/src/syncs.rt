@@ -15,8 +15,8 @@ ghost use Rattle.reuse_system.specs.declared.fault.Obstacle.TheVariants.{System}
 
 use crate::trail::Trail;
 use reuse_change::Change;
+use reuse_change::layout::JOURNAL;
 use reuse_system::fault::{FolderFault, Obstacle};
-use reuse_system::kept_out::JOURNAL;
 use reuse_system::place::folder_and_name;
 use reuse_system::syncs::Syncs;
 use reuse_system::system::{Aside, System};

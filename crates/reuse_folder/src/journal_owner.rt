@@ -4,9 +4,9 @@ ghost use Rattle.std.specs.Prelude.{◌≡◌};
 ghost use Rattle.reuse_folder.specs.JournalOwners.{is_of_other, is_journal_of_other};
 ghost use Rattle.reuse_disk.specs.Trails.{AreOpenedIf};
 
+use reuse_change::layout::{ABOVE_JOURNAL, HEAD_NAME, JOURNAL};
 use reuse_disk::Trail;
 use reuse_system::fault::FolderFault;
-use reuse_system::kept_out::{ABOVE_JOURNAL, HEAD, JOURNAL};
 use reuse_system::place::Found;
 use reuse_system::system::{HostSystem, System};
 use std::alloc::Global;
@@ -62,7 +62,7 @@ pub fn journal_owners<R: Files<File = File> + AllocGlobal + Drop>(
     let above = folder_owner(system, alloc, trail, ABOVE_JOURNAL)?;
     let folder = folder_owner(system, alloc, trail, JOURNAL)?;
     let head = match folder {
-        Some(_) => match trail.current()?.look(system.rt(), alloc, HEAD)? {
+        Some(_) => match trail.current()?.look(system.rt(), alloc, HEAD_NAME)? {
             Found::File(status) => Some(status.owner.user),
             _ => None,
         },

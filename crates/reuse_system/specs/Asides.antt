@@ -1,5 +1,6 @@
 -- Places of files that are written aside or read, and of names in open folders.
-use Rattle.std.specs.Prelude.{◌≡◌, ◌⊎◌, ◌++◌, ℕ, List, codes, decimal, string_bytes, IsTrue}
+use Rattle.std.specs.Prelude.{◌≡◌, ◌⊎◌, ◌++◌, ℕ, List, decimal, string_bytes, IsTrue}
+use Rattle.reuse_change.specs.Layout.{new_beside_numbered}
 use Rattle.reuse_system.specs.FileStates.{FileKey, Place, place_in}
 use Rattle.reuse_system.specs.FileStates.FileKey.{Made}
 use Rattle.reuse_system.specs.KeptOut.{is_new_name}
@@ -31,7 +32,7 @@ IsNewIn folder place = (name : List ℕ) × IsTrue (is_new_name name) × (place 
 -- The name of a file that is written beside the one that it is to be: behind the dot stands the number of the folder
 -- of new files, so it is no name of anybody else's.
 abbrev pub beside_name : Identity → List ℕ
-beside_name new_files = codes ".reuse-undo-new." ++ decimal new_files.number
+beside_name new_files = new_beside_numbered ++ decimal new_files.number
 
 -- where a new file is written: in the folder of new files, or else beside the one that it is to be
 abbrev pub IsNewPlace : Identity → Identity → Place → Type 0

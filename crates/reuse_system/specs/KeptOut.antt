@@ -3,6 +3,8 @@ use Rattle.std.specs.Prelude.{ℕ, Bool, true, false, not, if◌then◌else◌, 
 use Rattle.std.specs.Char.{is_ascii_digit}
 use Rattle.std.specs.List.{starts_with, list_all}
 use Rattle.std.specs.Str.{bytes_eq, str_eq_ignore_ascii_case}
+use Rattle.reuse_change.specs.Layout.{above_journal, journal_name, new_beside, new_name}
+use Rattle.reuse_change.specs.Layout.{new_beside_numbered, new_numbered}
 use Rattle.reuse_system.specs.Names.{between_slashes}
 
 -- A folder of this name holds what version control keeps. Capital and small letters are the same, as they are on some
@@ -16,7 +18,7 @@ is_control_folder name =
 
 -- the names begin with those of a journal's folder
 abbrev pub begins_journal : List (List ℕ) → Bool
-begins_journal (first ∷ second ∷ names) = bytes_eq first (codes ".reuse") && bytes_eq second (codes "undo")
+begins_journal (first ∷ second ∷ names) = bytes_eq first above_journal && bytes_eq second journal_name
 begins_journal names = false
 
 -- a number in decimal digits
@@ -27,7 +29,7 @@ is_number bytes = not (length bytes == 0) && list_all is_ascii_digit bytes
 -- folder.
 abbrev pub is_beside_name : List ℕ → Bool
 is_beside_name name =
-    bytes_eq name (codes ".reuse-undo-new") || (starts_with nat_eq name (codes ".reuse-undo-new.") && is_number (drop 16 name))
+    bytes_eq name new_beside || (starts_with nat_eq name new_beside_numbered && is_number (drop 16 name))
 
 -- a file of this name leads to what version control keeps elsewhere, as that of a submodule does, or hasn't its name
 -- yet
@@ -37,7 +39,7 @@ is_name_kept_out name = str_eq_ignore_ascii_case name (codes ".git") || is_besid
 -- A file of this name in a journal's folder was written aside and has no name of its own yet: the first one, or one of
 -- several.
 abbrev pub is_new_name : List ℕ → Bool
-is_new_name name = bytes_eq name (codes "new") || (starts_with nat_eq name (codes "new.") && is_number (drop 4 name))
+is_new_name name = bytes_eq name new_name || (starts_with nat_eq name new_numbered && is_number (drop 4 name))
 
 -- the first name along these is that of such a file
 abbrev pub begins_new : List (List ℕ) → Bool
@@ -47,12 +49,12 @@ begins_new (name ∷ names) = is_new_name name
 -- along these names, from the folder `.reuse` on, stands such a file
 abbrev pub is_new_in_reuse : List (List ℕ) → Bool
 is_new_in_reuse [] = false
-is_new_in_reuse (name ∷ names) = bytes_eq name (codes "undo") && begins_new names
+is_new_in_reuse (name ∷ names) = bytes_eq name journal_name && begins_new names
 
 -- along these names stands such a file
 abbrev pub is_new : List (List ℕ) → Bool
 is_new [] = false
-is_new (name ∷ names) = bytes_eq name (codes ".reuse") && is_new_in_reuse names
+is_new (name ∷ names) = bytes_eq name above_journal && is_new_in_reuse names
 
 -- Along these names stands somebody else's data: in a folder of version control, or in a journal behind the first name.
 -- The last name, of a folder or of a file, may itself be kept out.

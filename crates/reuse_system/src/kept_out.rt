@@ -7,22 +7,9 @@ ghost use Rattle.std.specs.Str.{str_eq_ignore_ascii_case};
 ghost use Rattle.reuse_system.specs.Names.{between_slashes};
 ghost use Rattle.reuse_system.specs.KeptOut.{is_control_folder, is_name_kept_out, begins_journal, is_number, is_beside_name, is_new_name, begins_new, is_new_in_reuse, is_new, is_foreign, is_kept_out, is_folder_kept_out};
 
-/// The folder of the journal.
-pub const JOURNAL: &str = ".reuse/undo";
-
-/// The folder that it lies in.
-pub const ABOVE_JOURNAL: &str = ".reuse";
-
-/// The name of the head there.
-pub const HEAD: &str = "head.json";
-
-/// The name there of the file that is written before it is given its own. Where several are written
-/// at once, the others have a dot and a number behind it.
-pub const NEW: &str = "new";
-
-/// How the name of that file begins where it is written beside the one that it is to be, since the
-/// journal's folder lies on another device. A dot and that folder's number stand behind it.
-pub const NEW_BESIDE: &str = ".reuse-undo-new";
+use reuse_change::layout::{
+    ABOVE_JOURNAL, JOURNAL_NAME, NEW, NEW_BESIDE, NEW_BESIDE_NUMBERED, NEW_NUMBERED,
+};
 
 /// Whether the names are the same but for capital and small letters.
 fn is_same(name: &str, other: &str) -> bool
@@ -64,7 +51,7 @@ fn begins_journal(path: &str) -> bool
     ensures { result ≡ begins_journal (between_slashes path.now) }
 {
     match first_name(path) {
-        (first, Some(rest)) => first == ".reuse" && first_name(rest).0 == "undo",
+        (first, Some(rest)) => first == ABOVE_JOURNAL && first_name(rest).0 == JOURNAL_NAME,
         (_, None) => false,
     }
 }
@@ -95,7 +82,7 @@ fn is_beside_name(name: &str) -> bool
     ensures { result ≡ is_beside_name name.now }
 {
     let bytes = name.as_bytes();
-    name == NEW_BESIDE || (bytes.starts_with(b".reuse-undo-new.") && is_number(&bytes[16..]))
+    name == NEW_BESIDE || (bytes.starts_with(NEW_BESIDE_NUMBERED) && is_number(&bytes[16..]))
 }
 
 /// Whether a file of this name is no part of the tree.
@@ -110,7 +97,7 @@ pub fn is_new_name(name: &str) -> bool
     ensures { result ≡ is_new_name name.now }
 {
     let bytes = name.as_bytes();
-    name == "new" || (bytes.starts_with(b"new.") && is_number(&bytes[4..]))
+    name == NEW || (bytes.starts_with(NEW_NUMBERED) && is_number(&bytes[4..]))
 }
 
 /// Whether such a file stands at the path below the journal's folder, or above it.
@@ -125,7 +112,7 @@ fn is_new_in_reuse(path: &str) -> bool
     ensures { result ≡ is_new_in_reuse (between_slashes path.now) }
 {
     match first_name(path) {
-        (first, Some(rest)) => first == "undo" && begins_new(rest),
+        (first, Some(rest)) => first == JOURNAL_NAME && begins_new(rest),
         (_, None) => false,
     }
 }
@@ -135,7 +122,7 @@ fn is_new(path: &str) -> bool
     ensures { result ≡ is_new (between_slashes path.now) }
 {
     match first_name(path) {
-        (first, Some(rest)) => first == ".reuse" && is_new_in_reuse(rest),
+        (first, Some(rest)) => first == ABOVE_JOURNAL && is_new_in_reuse(rest),
         (_, None) => false,
     }
 }

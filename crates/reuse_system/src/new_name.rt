@@ -5,7 +5,8 @@ ghost use Rattle.reuse_system.specs.KeptOut.{is_new_name};
 
 use crate::fault::FolderFault;
 use crate::handle::OpenFolder;
-use crate::kept_out::{NEW, NEW_BESIDE, is_new_name};
+use crate::kept_out::is_new_name;
+use reuse_change::layout::{NEW, NEW_BESIDE};
 use std::alloc::{AllocError, Global};
 use std::fs::{self, File};
 use std::rt::Files;

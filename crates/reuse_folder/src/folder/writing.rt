@@ -5,10 +5,10 @@ ghost use Rattle.reuse_system.specs.KeptOut.{is_kept_out};
 
 use super::RootFolder;
 use super::seen::{Expected, expected_at};
+use reuse_change::layout::JOURNAL;
 use reuse_change::{Parts, PathText};
 use reuse_disk::{Content, NewFile, Target, list_below, remove_folders, remove_seen};
 use reuse_system::fault::{FolderFault, Obstacle};
-use reuse_system::kept_out::JOURNAL;
 use reuse_system::new_name::new_names;
 use reuse_system::place::{FileStatus, Place, folder_and_name};
 use reuse_system::system::{HostSystem, System};
