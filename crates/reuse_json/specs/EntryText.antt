@@ -6,6 +6,7 @@ use Rattle.std.specs.List.{All, join_with_byte, list_any, AllZip}
 use Rattle.json.specs.Print.{quoted}
 use Rattle.hex.specs.Hex.{encode_lower, decode_of, IsBytes}
 use Rattle.serde_json.specs.Data.{Data, string}
+use Rattle.reuse_change.specs.declared.layout.TheConstants.{LARGEST_ENTRY}
 use Rattle.reuse_change.specs.Path.{is_path}
 use Rattle.reuse_change.specs.Change.{path_of, digest_after, digest_before, is_sealed}
 use Rattle.reuse_change.specs.declared.change.Change.{Change}
@@ -130,7 +131,7 @@ HavePaths changes = All (λ change. IsTrue (is_path (path_of change))) changes
 
 -- The text is good, and stands for the entry.
 pub record IsGoodEntry (text : List ℕ) (entry : Entry) : Type 0 where
-  pub short : length text ≤ 268_435_456
+  pub short : length text ≤ LARGEST_ENTRY
   pub value : IsJsonEntry text entry
   pub changes : IsEntry entry.changes
   pub paths : HavePaths entry.changes

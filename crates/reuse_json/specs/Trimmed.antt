@@ -8,13 +8,14 @@ use Rattle.serde_json.specs.Events.{items_len, members_len}
 use Rattle.serde_json.specs.Read.{of_json, of_items, of_members, converted}
 use Rattle.serde_json.specs.View.{view}
 use Rattle.serde_json.specs.declared.value.Value.{Value}
+use Rattle.reuse_change.specs.declared.layout.TheConstants.{MOST_LISTED}
 use Rattle.reuse_json.specs.declared.room.Room.{Room}
 use Rattle.reuse_json.specs.declared.room.Room.TheVariants.{Head, Numbers, Entry, Change, Leaf}
 
 -- how many items or members are kept at a place
 abbrev pub most : Room → ℕ
 most Head = 5
-most Numbers = 4096
+most Numbers = MOST_LISTED
 most Entry = 4
 most Change = 8
 most Leaf = 0

@@ -2,6 +2,8 @@
 ghost use Rattle.std.specs.Prelude.{◌≡◌};
 ghost use Rattle.reuse_json.specs.Trimmed.{inner, most};
 
+use reuse_change::layout::MOST_LISTED;
+
 /// A place in a text of the journal.
 #[derive(Clone, Copy, Drop)]
 pub enum Room {
@@ -24,7 +26,7 @@ impl Room {
     {
         match self {
             Room::Head => 5,
-            Room::Numbers => 4_096,
+            Room::Numbers => MOST_LISTED,
             Room::Entry => 4,
             Room::Change => 8,
             Room::Leaf => 0,

@@ -4,6 +4,7 @@ use Rattle.std.specs.List.{All, AllByRecursion}
 use Rattle.std.specs.List.Sorted.{IsStrictlySortedBy}
 use Rattle.std.specs.Ordering.{nat_cmp}
 use Rattle.std.specs.Cmp.Lexicographic.{slice_cmp}
+use Rattle.reuse_change.specs.declared.layout.TheConstants.{LARGEST_ENTRY, MOST_CHANGES}
 use Rattle.reuse_change.specs.Path.{is_path, lies_under}
 use Rattle.reuse_change.specs.Change.{path_of, IsProper}
 use Rattle.reuse_change.specs.declared.change.Change.{Change}
@@ -27,8 +28,8 @@ AreApart (path ∷ paths) =
 -- the changes pass all tests
 pub record Passes (changes : List Change) : Type 0 where
   pub some : 0 < length changes
-  pub few : length changes ≤ 100_000
-  pub light : entry_size changes ≤ 268_435_456
+  pub few : length changes ≤ MOST_CHANGES
+  pub light : entry_size changes ≤ LARGEST_ENTRY
   pub each : All IsSoundChange changes
   pub ascending : IsStrictlySortedBy (slice_cmp nat_cmp) (paths_of changes)
   pub apart : AreApart (paths_of changes)

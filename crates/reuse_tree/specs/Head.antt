@@ -3,6 +3,7 @@ use Rattle.std.specs.Prelude.{◌≡◌, ◌≢◌, ℕ, ◌<◌, ◌≤◌, ◌
 use Rattle.std.specs.Prelude.{slice_get, codes, decimal, Option, Some, None, ⊤}
 use Rattle.std.specs.List.{join_with_byte}
 use Rattle.serde_json.specs.Data.{Data, string, null}
+use Rattle.reuse_change.specs.declared.layout.TheConstants.{LAST_NUMBER, MOST_LISTED}
 use Rattle.reuse_text.specs.declared.TheConstants.{LONGEST_FILE}
 use Rattle.reuse_json.specs.Json.{IsJson, count, counts, object_of}
 use Rattle.reuse_json.specs.Format.{format_number}
@@ -81,7 +82,7 @@ last_of ns = slice_get ns (length ns - 1)
 -- The entry that is under way fits the lists: a new one has the next number, one that is being undone is the last of
 -- done, one that is being redone is the last of undone.
 abbrev pub FitsDirection : ℕ → PendingDirection → ℕ → List ℕ → List ℕ → Type 0
-FitsDirection entry Do next done undone = (entry ≡ next) × (entry ≤ 999999)
+FitsDirection entry Do next done undone = (entry ≡ next) × (entry ≤ LAST_NUMBER)
 FitsDirection entry Undo next done undone = last_of done ≡ Some entry
 FitsDirection entry Redo next done undone = last_of undone ≡ Some entry
 
@@ -93,7 +94,7 @@ PendingFits (Some p) next done undone = FitsDirection p.entry p.direction next d
 -- a head that may be written, whatever its text
 pub record IsSoundHead (h : Head) : Type 0 where
   pub next : (1 ≤ h.next) × (h.next ≤ 1000000)
-  pub few : length (listed h) ≤ 4096
+  pub few : length (listed h) ≤ MOST_LISTED
   pub given_out : All (λ n. (1 ≤ n) × (n < h.next)) (listed h)
   pub distinct : AllPairs (λ m n. m ≢ n) (listed h)
   pub pending : PendingFits h.pending h.next h.done h.undone

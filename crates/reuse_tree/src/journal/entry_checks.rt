@@ -12,6 +12,7 @@ ghost use Rattle.reuse_tree.specs.EntryTests.{AreApart, IsSoundChange, Passes};
 ghost use Rattle.reuse_change.specs.Listing.{is_folder_of};
 ghost use Rattle.reuse_change.specs.Tree.{is_of_tree};
 
+use reuse_change::layout::{ABOVE_JOURNAL, JOURNAL};
 use reuse_change::{Change, Digest, PathText, is_too_many};
 use reuse_text::LONGEST_FILE;
 
@@ -45,7 +46,7 @@ fn is_of_tree(path: &PathText) -> bool
     ensures path { IsTrue (is_path path.now) }
 {
     let text = path.text();
-    text != ".reuse" && text != ".reuse/undo" && !path.is_in_journal()
+    text != ABOVE_JOURNAL && text != JOURNAL && !path.is_in_journal()
 }
 
 // Whether a change changes something.

@@ -14,6 +14,7 @@ ghost use Rattle.reuse_json.specs.declared.entry.Entry.{Entry};
 use crate::journal::changes_reading::read_changes;
 use crate::journal::entry_checks::are_sound;
 use crate::journal::written_entry::{knows, read_written};
+use reuse_change::layout::{LARGEST_ENTRY, MOST_CHANGES};
 use reuse_change::{Change, CommandName, Digest, Moment, PathText, Seal};
 use reuse_json::fields::{
     Fields, expect_next, field, fields, finish, moment_of, next_bytes, next_digest, next_format,
@@ -25,14 +26,12 @@ use reuse_text::Bytes;
 use serde_json::Value;
 use std::alloc::Global;
 
-const LONGEST_TEXT: usize = 268_435_456;
-
 /// The entry that a text stands for; `NotGood` where there is none.
 pub fn decode_entry(alloc: Global, text: &[u8]) -> Result<Entry, DecodeFault>
     ensures ok { IfOk result (IsGoodEntry text.now) }
     ensures only { (entry : Entry) → IsGoodEntry text.now entry → IsAnswer result entry }
 {
-    if text.len() > LONGEST_TEXT {
+    if text.len() > LARGEST_ENTRY {
         return Err(DecodeFault::NotGood);
     }
     match read_written(alloc, text) {
@@ -44,7 +43,7 @@ pub fn decode_entry(alloc: Global, text: &[u8]) -> Result<Entry, DecodeFault>
 
 // The same, however the text is spelled.
 fn judge(alloc: Global, text: &[u8]) -> Result<Entry, DecodeFault>
-    requires { length text.now ≤ 268_435_456 }
+    requires { length text.now ≤ LARGEST_ENTRY }
     ensures ok { IfOk result (IsGoodEntry text.now) }
     ensures only { (entry : Entry) → IsGoodEntry text.now entry → IsAnswer result entry }
 {
@@ -61,7 +60,7 @@ fn judge(alloc: Global, text: &[u8]) -> Result<Entry, DecodeFault>
 fn read_entry(alloc: Global, text: &[u8]) -> Result<Entry, DecodeFault>
     ensures ok { IfOk result (λ entry. IsJsonEntry text.now entry × (entry.when ≤ 250_000_000_000)) }
     ensures only { (entry : Entry) → HavePaths entry.changes → entry.when ≤ 250_000_000_000
-        → length entry.changes ≤ 100_000 → IsJsonEntry text.now entry → IsAnswer result entry }
+        → length entry.changes ≤ MOST_CHANGES → IsJsonEntry text.now entry → IsAnswer result entry }
 {
     let frame = read_frame(alloc, text)?;
     let (command, sealed, when) = frame;

@@ -9,14 +9,13 @@ ghost use Rattle.reuse_json.specs.Json.{counts};
 ghost use Rattle.reuse_tree.specs.declared.journal.head.Head.{Head};
 
 use crate::journal::head::{Head, Pending, PendingDirection};
+use reuse_change::layout::{LATEST_FORMAT, MOST_LISTED};
 use reuse_json::fields::{field, fields, finish, next_format, next_numbers, next_small, text_of};
 use reuse_json::trimmed::parse_trimmed;
 use reuse_json::{DecodeFault, Room};
 use reuse_text::LONGEST_FILE;
 use serde_json::{Value, json};
 use std::alloc::{AllocError, Global};
-
-const MOST_LISTED: usize = 4_096;
 
 // One more than the greatest number of an entry.
 const LARGEST_NEXT: u32 = 1_000_000;
@@ -37,7 +36,7 @@ fn head_json(alloc: Global, head: &Head) -> Result<Value, AllocError>
 {
     json!(in alloc; {
         "done": numbers_value(alloc, head.done.as_slice())?,
-        "format": 2u32,
+        "format": LATEST_FORMAT,
         "next": head.next,
         "pending": pending_value(alloc, head.pending)?,
         "undone": numbers_value(alloc, head.undone.as_slice())?
