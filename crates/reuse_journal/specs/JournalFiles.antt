@@ -1,7 +1,9 @@
 -- The journal in files: a head, and a file for each entry, in the folder `.reuse/undo`.
-use Rattle.std.specs.Prelude.{◌≡◌, ◌⊎◌, ◌<◌, ◌≤◌, ℕ, ◌+◌, ◌/◌, ◌%◌, List, [], ◌∷◌, ◌++◌, map, reverse, Option, Some, None, IsSome, IsTrue, codes}
+use Rattle.std.specs.Prelude.{◌≡◌, ◌⊎◌, ◌<◌, ◌≤◌, ℕ, ◌+◌, List, [], map, reverse, Option, Some, None, IsSome, IsTrue}
 use Rattle.std.specs.List.{All}
 use Rattle.std.specs.FinMap.{get}
+pub use Rattle.reuse_change.specs.Layout.{digit, entry_path, head_path, six_digits}
+use Rattle.reuse_change.specs.declared.layout.TheConstants.{LAST_NUMBER}
 use Rattle.reuse_change.specs.Path.{lies_under}
 use Rattle.reuse_change.specs.Files.{Files}
 use Rattle.reuse_tree.specs.Head.{IsGoodHead}
@@ -13,25 +15,10 @@ use Rattle.reuse_json.specs.declared.entry.Entry.{Entry}
 
 -- ---- their paths
 
-abbrev pub head_path : List ℕ
-head_path = codes ".reuse/undo/head.json"
-
--- the digit of a number at this place: its ones, tens, hundreds ..
-abbrev pub digit : ℕ → ℕ → ℕ
-digit number place = 48 + number / place % 10
-
--- six digits, with zeros in front
-abbrev pub six_digits : ℕ → List ℕ
-six_digits number = digit number 100_000 ∷ digit number 10_000 ∷ digit number 1_000 ∷ digit number 100 ∷ digit number 10 ∷ digit number 1 ∷ []
-
--- the file of the entry of this number
-abbrev pub entry_path : ℕ → List ℕ
-entry_path number = codes ".reuse/undo/" ++ six_digits number ++ codes ".json"
-
 -- the path of a file of the journal: the head, or an entry by a number that is given out
 abbrev pub IsJournalPath : List ℕ → Type 0
 IsJournalPath path =
-    (path ≡ head_path) ⊎ ((number : ℕ) × (0 < number) × (number ≤ 999_999) × (path ≡ entry_path number))
+    (path ≡ head_path) ⊎ ((number : ℕ) × (0 < number) × (number ≤ LAST_NUMBER) × (path ≡ entry_path number))
 
 -- no path of a file of the journal is a folder
 abbrev pub IsFree : Files → Type 0

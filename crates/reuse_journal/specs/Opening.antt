@@ -1,7 +1,8 @@
 -- What opening a session finds.
-use Rattle.std.specs.Prelude.{◌≡◌, ◌⊎◌, ◌↔◌, ℕ, ◌+◌, ◌<◌, ◌≤◌, List, [], ◌∷◌, ◌++◌, length, Option, Some, None, IsSome, Result, Err, IsOk, codes, nat_lt, if◌then◌else◌}
+use Rattle.std.specs.Prelude.{◌≡◌, ◌⊎◌, ◌↔◌, ℕ, ◌+◌, ◌<◌, ◌≤◌, List, [], ◌∷◌, ◌++◌, length, Option, Some, None, IsSome, Result, Err, IsOk, nat_lt, if◌then◌else◌}
 use Rattle.std.specs.List.{All, Contains}
 use Rattle.std.specs.FinMap.{get}
+use Rattle.reuse_change.specs.Layout.{above_journal}
 use Rattle.reuse_change.specs.Path.{journal_folder}
 use Rattle.reuse_change.specs.Files.{Files, tree_of}
 use Rattle.reuse_store.specs.declared.store.Store.{Ghosts}
@@ -47,7 +48,7 @@ IsFirstUnreadable folder numbers path =
 
 -- no file stands above the journal: neither `.reuse` nor `.reuse/undo` is one
 abbrev pub NoFileAbove : Files → Type 0
-NoFileAbove files = (get files (codes ".reuse") ≡ None) × (get files journal_folder ≡ None)
+NoFileAbove files = (get files above_journal ≡ None) × (get files journal_folder ≡ None)
 
 -- the path is the first at fault in the folder of the journal: the head where it can't be read, else the entry of the
 -- least number that the head names and whose entry can't be read
@@ -60,8 +61,8 @@ IsFirstBadIn folder path =
 -- that folder
 abbrev pub IsFirstBad : Files → List ℕ → Type 0
 IsFirstBad files path =
-    ((path ≡ codes ".reuse") × IsSome (get files path))
-    ⊎ ((get files (codes ".reuse") ≡ None) × (path ≡ journal_folder) × IsSome (get files path))
+    ((path ≡ above_journal) × IsSome (get files path))
+    ⊎ ((get files above_journal ≡ None) × (path ≡ journal_folder) × IsSome (get files path))
     ⊎ (NoFileAbove files × IsFirstBadIn (undo_folder_of files) path)
 
 -- The journal is without fault and a step is pending in it; the path is that of its first change that is neither made
@@ -146,7 +147,7 @@ least (Some one) other = if nat_lt one other then one else other
 -- The files have this journal and tell what is pending, and this is remembered of it. Each entry that the head names
 -- can be read, and neither the journal's folder nor the one above it is a file.
 pub record IsRead (files : Files) (pending : Option Pending) (memory : Memory) (journal : Journal) : Type 0 where
-  pub no_reuse : get files (codes ".reuse") ≡ None
+  pub no_reuse : get files above_journal ≡ None
   pub no_undo : get files journal_folder ≡ None
   pub keeps : KeepsJournal (undo_folder_of files) journal pending
   pub readable : All (IsReadable (undo_folder_of files)) (pending_numbers pending)

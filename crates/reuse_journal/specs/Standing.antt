@@ -1,6 +1,7 @@
 -- Standings: a tree, and the journal beside it, without a pending entry. Files in doubt between two of them.
-use Rattle.std.specs.Prelude.{◌≡◌, ◌⊎◌, ◌+◌, List, [], ◌∷◌, Some, None, codes}
+use Rattle.std.specs.Prelude.{◌≡◌, ◌⊎◌, ◌+◌, List, [], ◌∷◌, Some, None}
 use Rattle.std.specs.FinMap.{get}
+use Rattle.reuse_change.specs.Layout.{above_journal}
 use Rattle.reuse_change.specs.Path.{journal_folder}
 use Rattle.reuse_change.specs.Files.{Files, AreFiles, tree_of}
 use Rattle.reuse_change.specs.Tree.{undo_folder_of}
@@ -14,7 +15,7 @@ use Rattle.reuse_tree.specs.declared.journal.head.PendingDirection.TheVariants.{
 -- a tree beside a journal: no path is a folder of another, and neither `.reuse` nor `.reuse/undo` is a file
 pub record IsTree (tree : Files) : Type 0 where
   pub are_files : AreFiles tree
-  pub no_reuse : get tree (codes ".reuse") ≡ None
+  pub no_reuse : get tree above_journal ≡ None
   pub no_undo : get tree journal_folder ≡ None
 
 -- the files are this tree and this journal, and nothing is pending

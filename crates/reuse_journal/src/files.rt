@@ -19,6 +19,7 @@ ghost use Rattle.reuse_journal.specs.Losses.{HaveTree};
 ghost use Rattle.reuse_command.specs.declared.failure.Fault.{Fault};
 ghost use Rattle.reuse_command.specs.declared.failure.Failure.TheVariants as failures;
 
+use reuse_change::layout::{BEFORE_NUMBER, BEHIND_NUMBER, HEAD, LARGEST_ENTRY};
 use reuse_change::{EntryNumbers, PathText};
 use reuse_command::failure::Failure;
 use reuse_command::known_path::known_path;
@@ -30,13 +31,11 @@ use reuse_tree::{Head, decode_entry, decode_head, encode_entry};
 use std::alloc::{AllocError, Global};
 use std::marker::Model;
 
-const LONGEST_ENTRY: usize = 268_435_456;
-
 /// The path of the head.
 pub fn head_path(alloc: Global) -> Result<PathText, AllocError>
     ensures { IfOk result (λ path. path ≡ head_path) }
 {
-    known_path(alloc, ".reuse/undo/head.json")
+    known_path(alloc, HEAD)
 }
 
 /// The path of the head. It is made before the first put, so that an allocation failure for it is
@@ -78,14 +77,14 @@ pub struct NewHead<'a> {
 pub fn entry_path(alloc: Global, number: u32) -> Result<PathText, AllocError>
     ensures { IfOk result (λ path. path ≡ entry_path number) }
 {
-    let mut text = String::from_str(alloc, ".reuse/undo/")?;
+    let mut text = String::from_str(alloc, BEFORE_NUMBER)?;
     text.push(digit(number, 100_000))?;
     text.push(digit(number, 10_000))?;
     text.push(digit(number, 1_000))?;
     text.push(digit(number, 100))?;
     text.push(digit(number, 10))?;
     text.push(digit(number, 1))?;
-    text.push_str(".json")?;
+    text.push_str(BEHIND_NUMBER)?;
     known_path(alloc, text.as_str())
 }
 
@@ -152,16 +151,16 @@ pub fn read_entry<S: Store>(alloc: Global, store: &mut S, number: u32) -> Result
     ensures reads { OnlyReads S.Store store.old store.new }
 {
     let path = entry_path(alloc, number)?;
-    let reading = store.read(alloc, &path, LONGEST_ENTRY)?;
+    let reading = store.read(alloc, &path, LARGEST_ENTRY)?;
     entry_in(alloc, path, reading)
 }
 
 // The entry that was read at the path.
 fn entry_in(alloc: Global, path: PathText, reading: Reading) -> Result<Entry, Refusal>
-    ensures ok { (file : Option (List ℕ)) → reading ≡ reading_of file 268_435_456 → IfOk result (EntrySays file) }
+    ensures ok { (file : Option (List ℕ)) → reading ≡ reading_of file LARGEST_ENTRY → IfOk result (EntrySays file) }
     ensures good { IfOk result (λ entry. IsEntry entry.changes) }
     ensures paths { IfOk result (λ entry. HavePaths entry.changes) }
-    ensures bad { (file : Option (List ℕ)) → reading ≡ reading_of file 268_435_456 → (place : List ℕ)
+    ensures bad { (file : Option (List ℕ)) → reading ≡ reading_of file LARGEST_ENTRY → (place : List ℕ)
         → result ≡ Err (Refusal.BadJournal place)
         → (place ≡ path) × ((entry : Entry) → ¬ (EntrySays file entry)) }
     ensures refusal { IfErr result IsReadRefusal }

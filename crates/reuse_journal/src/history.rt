@@ -7,17 +7,15 @@ ghost use Rattle.reuse_journal.specs.Labels.{is_full};
 ghost use Rattle.reuse_journal.specs.Numbered.{all_numbers, entries_besides, first_unlisted, is_listed, is_one_of, memory_besides};
 ghost use Rattle.reuse_journal.specs.Numbered.{entry_of, row_in};
 ghost use Rattle.reuse_journal.specs.Numbered.{lists};
+ghost use Rattle.reuse_change.specs.declared.layout.TheConstants.{LAST_NUMBER};
 ghost use Rattle.reuse_journal.specs.declared.history.ListedEntry.{ListedEntry};
 
+use reuse_change::layout::{LAST_NUMBER, MOST_LISTED};
 use reuse_change::{CommandName, Direction, EntryNumbers, Moment};
 use reuse_command::reply::{Row, Rows};
 use reuse_tree::{Head, Pending, encode_head};
 use std::alloc::{AllocError, Global};
 use std::marker::Model;
-
-const MOST_DONE: usize = 4_096;
-
-const LAST_NUMBER: u32 = 999_999;
 
 /// An entry that the head lists: what names it, and how many paths it changed.
 #[derive(Clone, Copy, Debug)]
@@ -45,7 +43,7 @@ pub struct History {
     undone: Vec<ListedEntry>,
     // How many numbers are used.
     used: u32,
-    ghost within: { used ≤ 999_999 },
+    ghost within: { used ≤ LAST_NUMBER },
 }
 
 impl Model for History {
@@ -59,7 +57,7 @@ impl Model for History {
 impl History {
     /// These entries.
     pub fn new(done: Vec<ListedEntry>, undone: Vec<ListedEntry>, used: u32) -> History
-        requires { used ≤ 999_999 }
+        requires { used ≤ LAST_NUMBER }
         ensures { result ≡ record { done = done.items; undone = undone.items; used = used } }
     {
         History { done, undone, used }
@@ -76,7 +74,7 @@ impl History {
     pub fn is_full(&self) -> bool
         ensures { result ≡ is_full (length self.now.done) self.now.used }
     {
-        self.done.len() >= MOST_DONE || self.used >= LAST_NUMBER
+        self.done.len() >= MOST_LISTED || self.used >= LAST_NUMBER
     }
 
     /// The entry that this way goes on with: an undo takes it back, or a redo makes it again.
@@ -93,7 +91,7 @@ impl History {
 
     /// What is remembered after a run: the entry is done, and none is undone.
     pub fn after_run(&self, alloc: Global, entry: ListedEntry) -> Result<History, AllocError>
-        requires { self.now.used < 999_999 }
+        requires { self.now.used < LAST_NUMBER }
         ensures { IfOk result (λ history. history ≡ remember_run self.now entry) }
     {
         Ok(History {

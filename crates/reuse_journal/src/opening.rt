@@ -1,8 +1,9 @@
 //! Opens the journal of a store: reads the head and each entry that it names, and rolls back what
 //! is pending.
-ghost use Rattle.std.specs.Prelude.{◌≡◌, ◌≢◌, ◌⊎◌, ◌<◌, ◌≤◌, ◌+◌, ℕ, List, IfOk, IfErr, OnOk, IsSome, IsTrue, Some, None, length, codes, MatchResult};
+ghost use Rattle.std.specs.Prelude.{◌≡◌, ◌≢◌, ◌⊎◌, ◌<◌, ◌≤◌, ◌+◌, ℕ, List, IfOk, IfErr, OnOk, IsSome, IsTrue, Some, None, length, MatchResult};
 ghost use Rattle.std.specs.FinMap as map;
 ghost use Rattle.std.specs.List.{All, AllZip};
+ghost use Rattle.reuse_change.specs.Layout.{above_journal};
 ghost use Rattle.reuse_change.specs.Path.{is_path, journal_folder};
 ghost use Rattle.reuse_command.specs.Answer.{HasCause, IsEarly, IsNoClash, IsFailure, IsReadRefusal, IsOpenRefusal, RefusedAsRead};
 ghost use Rattle.reuse_tree.specs.Head.{listed, IsSoundHead};
@@ -22,6 +23,7 @@ ghost use Rattle.reuse_command.specs.declared.failure.Failure.TheVariants as fai
 use crate::files::{HeadPath, NewHead, entry_path, read_entry, read_head};
 use crate::history::{History, ListedEntry};
 use crate::roll_back::roll_back;
+use reuse_change::layout::{ABOVE_JOURNAL, JOURNAL};
 use reuse_command::known_path::known_path;
 use reuse_command::reply::Refusal;
 use reuse_json::Entry;
@@ -173,15 +175,15 @@ fn recover_pending<S: Store>(
 fn test_folders<S: Store>(alloc: Global, store: &mut S) -> Result<(), Refusal>
     ensures ok { S.honest store.new → OnOk result (NoFileAbove (S.files store.old)) }
     ensures bad { S.honest store.new → (path : List ℕ) → result ≡ Err (Refusal.BadJournal path)
-        → ((path ≡ codes ".reuse") × IsSome (map.get (S.files store.old) path))
-        ⊎ ((map.get (S.files store.old) (codes ".reuse") ≡ None) × (path ≡ journal_folder)
+        → ((path ≡ above_journal) × IsSome (map.get (S.files store.old) path))
+        ⊎ ((map.get (S.files store.old) above_journal ≡ None) × (path ≡ journal_folder)
         × IsSome (map.get (S.files store.old) path)) }
     ensures refusal { IfErr result IsReadRefusal }
     ensures fails { RefusedAsRead S.Store store.old store.new result }
     ensures reads { OnlyReads S.Store store.old store.new }
 {
-    test_folder(alloc, store, ".reuse")?;
-    test_folder(alloc, store, ".reuse/undo")
+    test_folder(alloc, store, ABOVE_JOURNAL)?;
+    test_folder(alloc, store, JOURNAL)
 }
 
 // No file has the path.
