@@ -2,6 +2,7 @@
 use Rattle.std.specs.Prelude.{◌≡◌, ◌⊎◌, ℕ, ◌≤◌, true, List, [], length, Some, None, Ok, IsOk, IsSome, unwrap_or}
 use Rattle.std.specs.List.{Contains}
 use Rattle.std.specs.FinMap.{get}
+use Rattle.reuse_change.specs.declared.layout.TheConstants.{LARGEST_ENTRY, MOST_CHANGES}
 use Rattle.reuse_text.specs.declared.TheConstants.{LONGEST_FILE}
 use Rattle.reuse_notice.specs.declared.adding.Additions.{Additions}
 use Rattle.reuse_notice.specs.declared.amendments.Amendments.{Amendments}
@@ -34,7 +35,7 @@ use Rattle.reuse_command.specs.declared.licence.LicenceText.{LicenceText}
 -- one entry holds what the command changes: at most 100,000 files, and 256 MiB by what they count for
 abbrev pub FitsEntry : Command → Files → Type 0
 FitsEntry command tree =
-    (edit_count (edits_of command tree) ≤ 100_000) × (recorded_size (edits_of command tree) ≤ 268_435_456)
+    (edit_count (edits_of command tree) ≤ MOST_CHANGES) × (recorded_size (edits_of command tree) ≤ LARGEST_ENTRY)
 
 -- ---- downloads
 

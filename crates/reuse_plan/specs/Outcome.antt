@@ -2,6 +2,7 @@
 use Rattle.std.specs.Prelude.{ℕ, ◌+◌, ◌*◌, not, ◌&&◌, ◌||◌, Bool, false, List, [], ◌∷◌, length, map, Option, Some, None, Result, Ok, Err, nat_lt, if◌then◌else◌}
 use Rattle.std.specs.List.{sum_by}
 use Rattle.std.specs.FinMap.{insert, remove}
+use Rattle.reuse_change.specs.declared.layout.TheConstants.{LARGEST_ENTRY, MOST_CHANGES}
 use Rattle.reuse_notice.specs.declared.adding.Additions.{Additions}
 use Rattle.reuse_notice.specs.declared.amendments.Amendments.{Amendments}
 use Rattle.reuse_header.specs.declared.annotation.How.{How}
@@ -43,7 +44,7 @@ edit_size edit = 512 + 6 * length edit.path + 2 * length edit.removed + 2 * leng
 
 -- more than an entry holds
 abbrev pub is_too_many : List Edit → Bool
-is_too_many edits = nat_lt 100_000 (length edits) || nat_lt 268_435_456 (256 + sum_by edit_size edits)
+is_too_many edits = nat_lt MOST_CHANGES (length edits) || nat_lt LARGEST_ENTRY (256 + sum_by edit_size edits)
 
 -- the size of the entry that records them
 abbrev pub recorded_size : Result (List Edit) Refusal → ℕ

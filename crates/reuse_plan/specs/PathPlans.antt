@@ -1,6 +1,7 @@
 -- What a walk plans for each path, by what is done there; for private clauses.
 use Rattle.std.specs.Prelude.{◌≡◌, true, false, not, ◌&&◌, ◌||◌, nat_lt, Bool, List, [], ◌∷◌, length, filter_map, Option, Some, None, Result, Ok, Err, if◌then◌else◌}
 use Rattle.std.specs.declared.vec.Vec.{Vec}
+use Rattle.reuse_change.specs.declared.layout.TheConstants.{LARGEST_ENTRY, MOST_CHANGES}
 use Rattle.reuse_change.specs.Change.{path_of}
 use Rattle.reuse_change.specs.Entry.{entry_size}
 use Rattle.reuse_change.specs.Files.{Files}
@@ -72,7 +73,7 @@ is_refusal other = false
 
 -- more changes than an entry holds
 abbrev pub are_too_many : List Change → Bool
-are_too_many changes = nat_lt 100_000 (length changes) || nat_lt 268_435_456 (entry_size changes)
+are_too_many changes = nat_lt MOST_CHANGES (length changes) || nat_lt LARGEST_ENTRY (entry_size changes)
 
 -- where nothing is refused, that the changes are too many together
 abbrev pub limit_planned : Bool → List Change → List PathOutcome

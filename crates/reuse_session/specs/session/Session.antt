@@ -1,5 +1,6 @@
 -- When a session stands at a state of the machine.
 use Rattle.std.specs.Prelude.{◌≡◌, ℕ, ◌+◌, ◌≤◌, Bool, true, false, List, [], ◌∷◌, length, Result, Ok, Err}
+use Rattle.reuse_change.specs.declared.layout.TheConstants.{LAST_NUMBER}
 use Rattle.reuse_change.specs.Files.{Files, AreFiles}
 use Rattle.reuse_command.specs.Command.{name_of}
 use Rattle.reuse_change.specs.Entry.{IsEntry, LeadsAll}
@@ -142,7 +143,7 @@ pub record IsStepOf (folder : Files) (made : List Change) (pending : Pending) (m
   pub number : pending.entry ≡ number_of step
   pub entry : IsEntry made
   pub kept : IsKeptIn folder step
-  pub low : number_of step ≤ 999_999
+  pub low : number_of step ≤ LAST_NUMBER
   pub is_step : IsStep pending.direction step first second
   pub remembers : Remembers moved second.journal
   pub room : pending.direction ≡ directions.Do → is_full (length first.journal.done) first.journal.used ≡ false
