@@ -1,4 +1,5 @@
 //! Whether a folder above the root is the root of a tree too.
+use reuse_change::layout::JOURNAL;
 use std::alloc::{AllocError, Global};
 use std::fs;
 use std::rt::Files;
@@ -6,7 +7,8 @@ use std::rt::Files;
 /// Whether the folder has a journal.
 fn has_journal(rt: &impl Files, alloc: Global, folder: &str) -> Result<bool, AllocError> {
     let mut path = String::from_str(alloc, folder)?;
-    path.push_str("/.reuse/undo")?;
+    path.push_str("/")?;
+    path.push_str(JOURNAL)?;
     match fs::symlink_metadata(rt, path.as_str()) {
         Ok(found) => Ok(found.is_dir()),
         Err(_) => Ok(false),

@@ -2,23 +2,15 @@
 ghost use Rattle.reuse_store.specs.Asked.{OnlyReads};
 
 use reuse_change::PathText;
+use reuse_change::layout::{
+    ABOVE_JOURNAL, BEHIND_NUMBER, FIRST_NAME, HEAD_NAME, JOURNAL, LARGEST_ENTRY, LATEST_FORMAT,
+};
 use reuse_store::{Reading, Store};
 use reuse_text::LONGEST_FILE;
 use serde_json::Value;
 use std::alloc::{AllocError, Global};
 use std::rt::Files;
 use std::{fs, io};
-
-const HEAD_NAME: &str = "head.json";
-
-/// The file of the first step.
-const FIRST_NAME: &str = "000001.json";
-
-/// The longest file of a step, in bytes.
-const LONGEST_ENTRY: usize = 268_435_456;
-
-/// The latest format of the journal's files.
-const LATEST_FORMAT: u64 = 2;
 
 /// What is wrong with a file of the journal.
 #[derive(Clone, Copy, PartialEq, Eq)]
@@ -72,13 +64,13 @@ pub fn damage_of<S: Store>(alloc: Global, store: &mut S, path: &PathText) -> Opt
     ensures { OnlyReads S.Store store.old store.new }
 {
     let text = path.text();
-    if text == ".reuse" || text == ".reuse/undo" {
+    if text == ABOVE_JOURNAL || text == JOURNAL {
         return Some(Damage::NoFolder);
     }
     let limit = if text.ends_with(HEAD_NAME) {
         LONGEST_FILE
     } else {
-        LONGEST_ENTRY
+        LARGEST_ENTRY
     };
     match store.read(alloc, path, limit) {
         Ok(Reading::Absent) => Some(Damage::Gone),
@@ -102,7 +94,7 @@ fn damage_in(alloc: Global, text: &[u8]) -> Option<Damage> {
 
 fn damage_of_value(value: &Value) -> Damage {
     match value.get("format").and_then(Value::as_u64) {
-        Some(format) if format > LATEST_FORMAT => Damage::LaterFormat,
+        Some(format) if format > u64::from(LATEST_FORMAT) => Damage::LaterFormat,
         _ => Damage::Wrong,
     }
 }
@@ -123,7 +115,8 @@ pub fn steps_without_head<R: Files + AllocGlobal + Clone + Drop>(
     root: &str,
 ) -> Option<Headless> {
     let mut folder = String::from_str(alloc, root).ok()?;
-    folder.push_str("/.reuse/undo").ok()?;
+    folder.push_str("/").ok()?;
+    folder.push_str(JOURNAL).ok()?;
     match count_steps(rt, folder.as_str()) {
         Ok(counted) => counted,
         Err(_) => None,
@@ -156,7 +149,7 @@ fn count_steps<R: Files + AllocGlobal + Clone + Drop>(
 
 /// Whether a file of a step has such a name.
 fn is_step_name(name: &str) -> bool {
-    match name.strip_suffix(".json") {
+    match name.strip_suffix(BEHIND_NUMBER) {
         Some(number) => number.len() == 6 && number.bytes().all(|byte| byte.is_ascii_digit()),
         None => false,
     }

@@ -5,6 +5,7 @@ use crate::run::above::journal_above;
 use crate::run::damage::{Damage, Headless, damage_of, is_gone, steps_without_head};
 use reuse_arguments::line::Line;
 use reuse_change::PathText;
+use reuse_change::layout::HEAD;
 use reuse_folder::{DiskStore, Failure, Kept};
 use reuse_print::fault::Fault;
 use reuse_session::{
@@ -18,8 +19,6 @@ use std::alloc::{AllocError, Global};
 use std::fs::{self, File};
 use std::io::{self, ErrorKind};
 use std::rt::Files;
-
-const HEAD: &str = ".reuse/undo/head.json";
 
 const TABLE: &str = "REUSE.toml";
 
