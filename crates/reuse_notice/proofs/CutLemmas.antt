@@ -1,5 +1,6 @@
 -- Pieces that are put together and cut again.
-use Rattle.std.proofs.Common.{◌≡◌, ◌≢◌, ℕ, zero, suc, ◌+◌, ◌-◌, ◌<◌, ◌≤◌, nat_eq, Bool, true, false, cond, List, [], ◌∷◌, ◌++◌, length, length-append, take, drop, refl, sym, ap, subst, ◌∙◌, arith, inl, inr}
+use Rattle.std.proofs.Common.{◌≡◌, ◌≢◌, ℕ, zero, suc, ◌+◌, ◌-◌, ◌<◌, ◌≤◌, nat_eq, Bool, true, false, cond, List, []}
+use Rattle.std.proofs.Common.{◌∷◌, ◌++◌, length, length-append, take, drop, refl, sym, ap, subst, ◌∙◌, arith, inl, inr}
 use Rattle.std.specs.Prelude.{◌==◌, ◌&&◌, not, flat_map, codes}
 use Rattle.std.specs.List.{prefix_len, starts_with}
 use Rattle.std.proofs.Math.Seq.{take-append_seam, drop-append_seam}
@@ -58,10 +59,12 @@ word_same : (x y : List ℕ) → EndsBefore x y → word_len (x ++ y) ≡ word_l
 word_same x y h = prefix_len-append is_word_byte x y ∙ by (word_len x == length x) refl
   where
     by : (t : Bool) → (word_len x == length x) ≡ t → cond t (length x + word_len y) (word_len x) ≡ word_len x
-    by true e = let is : word_len x ≡ length x = eqb-true (word_len x) (length x) e in let none = plain_word y (h is) in omega (arith, is, none)
+    by true e = let is : word_len x ≡ length x = eqb-true (word_len x) (length x) e in let none = plain_word y (h is) in
+        omega (arith, is, none)
     by false e = refl
 
-behind : (x y : List ℕ) (n : ℕ) → n ≤ length x → (n ≡ length x → is_plain y ≡ true) → starts_with nat_eq (drop n (x ++ y)) (codes "+") ≡ starts_with nat_eq (drop n x) (codes "+")
+behind : (x y : List ℕ) (n : ℕ) → n ≤ length x → (n ≡ length x → is_plain y ≡ true)
+    → starts_with nat_eq (drop n (x ++ y)) (codes "+") ≡ starts_with nat_eq (drop n x) (codes "+")
 behind [] y zero low h = plain_plus y (h refl)
 behind [] y (suc n) low h = absurd (omega arith)
 behind (b ∷ x) y zero low h = refl
@@ -69,7 +72,8 @@ behind (b ∷ x) y (suc n) low h = behind x y n (omega arith) (λ e. h (ap suc e
 
 plus_same : (x y : List ℕ) → EndsBefore x y → has_plus (x ++ y) ≡ has_plus x
 plus_same x y h =
-    ap (λ n. starts_with nat_eq (drop n (x ++ y)) (codes "+")) (word_same x y h) ∙ behind x y (word_len x) (prefix_len-le-length is_word_byte x) h
+    ap (λ n. starts_with nat_eq (drop n (x ++ y)) (codes "+")) (word_same x y h)
+    ∙ behind x y (word_len x) (prefix_len-le-length is_word_byte x) h
 
 len_same : (x y : List ℕ) → EndsBefore x y → token_len (x ++ y) ≡ token_len x
 len_same x y h =
@@ -77,7 +81,8 @@ len_same x y h =
     ∙ ap (λ p. cond (word_len x == 0) 1 (cond p (word_len x + 1) (word_len x))) (plus_same x y h)
 
 abbrev chosen : Bool → Bool → ℕ → Bool → List ℕ → Token
-chosen opens closes n plus word = cond opens Open (cond closes Close (cond (n == 0) Stray (cond plus (Identifier true) (word_token word))))
+chosen opens closes n plus word =
+    cond opens Open (cond closes Close (cond (n == 0) Stray (cond plus (Identifier true) (word_token word))))
 
 token_same : (x y : List ℕ) → 0 < length x → EndsBefore x y → token_at (x ++ y) ≡ token_at x
 token_same [] y some h = absurd (omega arith)
@@ -86,7 +91,8 @@ token_same (b ∷ x) y some h =
     let c : Bool = starts_with nat_eq (b ∷ x) (codes ")") in
     ap (λ (n : ℕ). chosen o c n (has_plus (b ∷ x ++ y)) (take n (b ∷ x ++ y))) (word_same (b ∷ x) y h)
     ∙ ap (λ p. chosen o c (word_len (b ∷ x)) p (take (word_len (b ∷ x)) (b ∷ x ++ y))) (plus_same (b ∷ x) y h)
-    ∙ ap (λ w. chosen o c (word_len (b ∷ x)) (has_plus (b ∷ x)) w) (take-append-le (word_len (b ∷ x)) (b ∷ x) y (prefix_len-le-length is_word_byte (b ∷ x)))
+    ∙ ap (λ w. chosen o c (word_len (b ∷ x)) (has_plus (b ∷ x)) w)
+    (take-append-le (word_len (b ∷ x)) (b ∷ x) y (prefix_len-le-length is_word_byte (b ∷ x)))
 
 -- ---- pieces
 
@@ -96,11 +102,13 @@ pub record IsPiece (p : List ℕ × Token) : Type 0 where
   pub whole : token_len p.0 ≡ length p.0
   pub is : token_at p.0 ≡ p.1
 
-pub front_piece : (p : List ℕ × Token) (rest : List ℕ) → IsPiece p → EndsBefore p.0 rest → pieces_of (p.0 ++ rest) ≡ p ∷ pieces_of rest
+pub front_piece : (p : List ℕ × Token) (rest : List ℕ) → IsPiece p → EndsBefore p.0 rest
+    → pieces_of (p.0 ++ rest) ≡ p ∷ pieces_of rest
 front_piece p rest piece ends =
     let size = length-append p.0 rest in
     let some = piece.some in
-    pieces-first (p.0 ++ rest) (length p.0) (omega (arith, size, some)) some (sym (len_same p.0 rest ends ∙ piece.whole))
+    pieces-first (p.0 ++ rest) (length p.0) (omega (arith, size, some)) some
+    (sym (len_same p.0 rest ends ∙ piece.whole))
     ∙ ap (λ t. (t, token_at (p.0 ++ rest)) ∷ pieces_of (drop (length p.0) (p.0 ++ rest))) (take-append_seam p.0 rest)
     ∙ ap (λ t. (p.0, t) ∷ pieces_of (drop (length p.0) (p.0 ++ rest))) (token_same p.0 rest some ends ∙ piece.is)
     ∙ ap (λ t. p ∷ pieces_of t) (drop-append_seam p.0 rest)
@@ -119,12 +127,16 @@ module _ (bytes : List ℕ) (some : 0 < length bytes) where
   fits : token_len bytes ≤ length bytes
   fits = by (word_len bytes == 0) (has_plus bytes) refl
     where
-      by : (empty plus : Bool) → has_plus bytes ≡ plus → cond empty 1 (cond plus (word_len bytes + 1) (word_len bytes)) ≤ length bytes
+      by : (empty plus : Bool) → has_plus bytes ≡ plus
+          → cond empty 1 (cond plus (word_len bytes + 1) (word_len bytes)) ≤ length bytes
       by true plus e = omega (arith, some)
       by false false e = prefix_len-le-length is_word_byte bytes
       by false true e = elim (truth (word_len bytes == length bytes)) [
-        | inl is ↦ absurd (let f : true ≡ false = sym e ∙ ap (λ xs. starts_with nat_eq xs (codes "+")) (drop_all (word_len bytes) bytes (let same = eqb-true (word_len bytes) (length bytes) is in omega (arith, same))) in cc f)
-        | inr other ↦ (let low = prefix_len-le-length is_word_byte bytes in let ne : word_len bytes ≢ length bytes = eqb-false (word_len bytes) (length bytes) other in omega (arith, low, ne))
+        | inl is ↦ absurd (let f : true ≡ false = sym e
+            ∙ ap (λ xs. starts_with nat_eq xs (codes "+")) (drop_all (word_len bytes) bytes
+            (let same = eqb-true (word_len bytes) (length bytes) is in omega (arith, same))) in cc f)
+        | inr other ↦ (let low = prefix_len-le-length is_word_byte bytes in let ne : word_len bytes
+            ≢ length bytes = eqb-false (word_len bytes) (length bytes) other in omega (arith, low, ne))
       ]
 
   ends : EndsBefore (take (token_len bytes) bytes) (drop (token_len bytes) bytes)
@@ -140,13 +152,19 @@ module _ (bytes : List ℕ) (some : 0 < length bytes) where
       same_numbers : (a b : ℕ) → a ≡ b → (a == b) ≡ true
       same_numbers a b e = grind arith
 
-      by : (empty plus : Bool) → (word_len bytes == 0) ≡ empty → has_plus bytes ≡ plus → length (take (token_len bytes) bytes) ≡ cond empty 1 (cond plus (word_len bytes + 1) (word_len bytes))
-          → word_len bytes ≡ length (take (token_len bytes) bytes) + word_len (drop (token_len bytes) bytes) → is_plain (drop (token_len bytes) bytes) ≡ true
-      by true plus z e size whole = absurd (let none = eqb-true (word_len bytes) 0 z in omega (arith, size, whole, none))
+      by : (empty plus : Bool) → (word_len bytes == 0) ≡ empty → has_plus bytes ≡ plus
+          → length (take (token_len bytes) bytes) ≡ cond empty 1 (cond plus (word_len bytes + 1) (word_len bytes))
+          → word_len bytes ≡ length (take (token_len bytes) bytes) + word_len (drop (token_len bytes) bytes)
+          → is_plain (drop (token_len bytes) bytes) ≡ true
+      by true plus z e size whole =
+          absurd (let none = eqb-true (word_len bytes) 0 z in omega (arith, size, whole, none))
       by false true z e size whole = absurd (omega (arith, size, whole))
       by false false z e size whole =
-          let len : token_len bytes ≡ word_len bytes = ap (λ t. cond t 1 (cond (has_plus bytes) (word_len bytes + 1) (word_len bytes))) z ∙ ap (λ t. cond t (word_len bytes + 1) (word_len bytes)) e in
-          plain_from (drop (token_len bytes) bytes) (omega (arith, size, whole)) (ap (λ k. starts_with nat_eq (drop k bytes) (codes "+")) len ∙ e)
+          let len : token_len bytes ≡ word_len bytes =
+          ap (λ t. cond t 1 (cond (has_plus bytes) (word_len bytes + 1) (word_len bytes))) z
+          ∙ ap (λ t. cond t (word_len bytes + 1) (word_len bytes)) e in
+          plain_from (drop (token_len bytes) bytes) (omega (arith, size, whole))
+          (ap (λ k. starts_with nat_eq (drop k bytes) (codes "+")) len ∙ e)
 
   pub first_piece : IsPiece (take (token_len bytes) bytes, token_at bytes)
   first_piece =
@@ -171,7 +189,8 @@ cut_from (suc skip) (b ∷ bytes) = cut_from skip bytes
 cut_from zero (b ∷ bytes) =
     let some : 0 < length (b ∷ bytes) = omega arith in (
       first_piece (b ∷ bytes) some,
-      subst (EndsBefore (take (token_len (b ∷ bytes)) (b ∷ bytes))) (by (token_len (b ∷ bytes)) (token-some (b ∷ bytes)) ∙ sym (pieces_from-join (token_len (b ∷ bytes) - 1) bytes)) (first_ends (b ∷ bytes) some),
+      subst (EndsBefore (take (token_len (b ∷ bytes)) (b ∷ bytes))) (by (token_len (b ∷ bytes)) (token-some (b ∷ bytes))
+          ∙ sym (pieces_from-join (token_len (b ∷ bytes) - 1) bytes)) (first_ends (b ∷ bytes) some),
       cut_from (token_len (b ∷ bytes) - 1) bytes,
     )
   where
@@ -198,7 +217,8 @@ EndsInWord (p ∷ q ∷ ps) = EndsInWord (q ∷ ps)
 pub together-append : (xs ys : List (List ℕ × Token)) → together (xs ++ ys) ≡ together xs ++ together ys
 together-append xs ys = flat_map-append (λ (p : List ℕ × Token). p.0) xs ys
 
-pub cut-append : (xs ys : List (List ℕ × Token)) → WellCut xs → WellCut ys → (EndsInWord xs → is_plain (together ys) ≡ true) → WellCut (xs ++ ys)
+pub cut-append : (xs ys : List (List ℕ × Token)) → WellCut xs → WellCut ys
+    → (EndsInWord xs → is_plain (together ys) ≡ true) → WellCut (xs ++ ys)
 cut-append [] ys h k f = k
 cut-append (p ∷ []) ys h k f = (h.0, f, k)
 cut-append (p ∷ q ∷ xs) ys h k f = (
@@ -208,10 +228,13 @@ cut-append (p ∷ q ∷ xs) ys h k f = (
 )
 
 -- the pieces of two texts, if no word goes on from one to the other
-pub pieces-apart : (x y : List ℕ) → (EndsInWord (pieces_of x) → is_plain y ≡ true) → pieces_of (x ++ y) ≡ pieces_of x ++ pieces_of y
+pub pieces-apart : (x y : List ℕ) → (EndsInWord (pieces_of x) → is_plain y ≡ true)
+    → pieces_of (x ++ y) ≡ pieces_of x ++ pieces_of y
 pieces-apart x y plain =
-    ap pieces_of (sym (together-append (pieces_of x) (pieces_of y) ∙ ap (λ t. t ++ together (pieces_of y)) (pieces-join x) ∙ ap (λ t. x ++ t) (pieces-join y)))
-    ∙ cut_again (pieces_of x ++ pieces_of y) (cut-append (pieces_of x) (pieces_of y) (pieces_cut x) (pieces_cut y) (λ e. ap is_plain (pieces-join y) ∙ plain e))
+    ap pieces_of (sym (together-append (pieces_of x) (pieces_of y)
+    ∙ ap (λ t. t ++ together (pieces_of y)) (pieces-join x) ∙ ap (λ t. x ++ t) (pieces-join y)))
+    ∙ cut_again (pieces_of x ++ pieces_of y)
+    (cut-append (pieces_of x) (pieces_of y) (pieces_cut x) (pieces_cut y) (λ e. ap is_plain (pieces-join y) ∙ plain e))
 
 pub pieces-append : (x y : List ℕ) → is_plain y ≡ true → pieces_of (x ++ y) ≡ pieces_of x ++ pieces_of y
 pieces-append x y plain = pieces-apart x y (λ e. plain)

@@ -1,5 +1,6 @@
 -- The holder that a notice names, and the notices that a merge writes.
-use Rattle.std.proofs.Common.{◌≡◌, ℕ, ◌+◌, Bool, true, false, cond, List, [], ◌∷◌, length, map, take, drop, nat_eq, Option, Some, None, refl, sym, ap, ◌∙◌, subst, inl, inr, ◌⊎◌}
+use Rattle.std.proofs.Common.{◌≡◌, ℕ, ◌+◌, Bool, true, false, cond, List, [], ◌∷◌, length, map, take, drop, nat_eq}
+use Rattle.std.proofs.Common.{Option, Some, None, refl, sym, ap, ◌∙◌, subst, inl, inr, ◌⊎◌}
 use Rattle.std.specs.Prelude.{Contains, not, nat_lt, unwrap_or, ◌&&◌, ◌||◌, slice_index}
 use Rattle.std.specs.Option.{option_map, option_and_then}
 use Rattle.std.specs.List.{list_all, starts_with}
@@ -7,7 +8,9 @@ use Rattle.std.proofs.lemmas.List.{drop-drop}
 use Rattle.reuse_notice.specs.declared.prefixes.Prefix.{Prefix}
 use Rattle.reuse_notice.specs.declared.tags.Years.{Years}
 use Rattle.reuse_notice.specs.Prefixes.{prefix_text, longest_first}
-use Rattle.reuse_notice.specs.Tags.{NoticeText, is_blank, all_blank, drop_front, drop_end, trimmed, needs_no_space, leaves_value, prefix_of, years_written, years_in, years_or, years_front, notice_behind, notice_of}
+use Rattle.reuse_notice.specs.Tags.{NoticeText, is_blank, all_blank, drop_front, drop_end, trimmed, needs_no_space}
+use Rattle.reuse_notice.specs.Tags.{leaves_value, prefix_of, years_written, years_in, years_or, years_front}
+use Rattle.reuse_notice.specs.Tags.{notice_behind, notice_of}
 use Rattle.reuse_notice.specs.Merging.{class_of, class_text, class_prefix, class_years, merged_as, merged}
 use Rattle.reuse_notice.specs.Keeping.{IsWrittenOf}
 use Rattle.std.proofs.lemmas.Bool.{cases_Bool as truth}
@@ -57,13 +60,18 @@ Leaves value n = all_blank (drop n value) ≡ false
 
 in_leaves : (value : List ℕ) (n : ℕ) (years : Years) → years_in n value ≡ Some years → Leaves value n
 unfolding Leaves
-in_leaves value n years e = by (nat_lt n (length value) && is_blank (slice_index value n) && not (all_blank (drop (n + 1) value))) refl e
+in_leaves value n years e =
+    by (nat_lt n (length value) && is_blank (slice_index value n) && not (all_blank (drop (n + 1) value))) refl e
   where
-    by : (b : Bool) → (nat_lt n (length value) && is_blank (slice_index value n) && not (all_blank (drop (n + 1) value))) ≡ b → cond b (years_written (take n value)) None ≡ Some years → all_blank (drop n value) ≡ false
+    by : (b : Bool)
+        → (nat_lt n (length value) && is_blank (slice_index value n) && not (all_blank (drop (n + 1) value))) ≡ b
+        → cond b (years_written (take n value)) None ≡ Some years → all_blank (drop n value) ≡ false
     by false t f = absurd (cc f)
-    by true t f = some_behind value n (not_true (all_blank (drop (n + 1) value)) (and-parts (nat_lt n (length value) && is_blank (slice_index value n)) (not (all_blank (drop (n + 1) value))) t).1)
+    by true t f = some_behind value n (not_true (all_blank (drop (n + 1) value)) (and-parts
+        (nat_lt n (length value) && is_blank (slice_index value n)) (not (all_blank (drop (n + 1) value))) t).1)
 
-or_leaves : (value : List ℕ) (n : ℕ) (shorter : Option Years × ℕ) → Leaves value shorter.1 → Leaves value (years_or (years_in n value) n shorter).1
+or_leaves : (value : List ℕ) (n : ℕ) (shorter : Option Years × ℕ) → Leaves value shorter.1
+    → Leaves value (years_or (years_in n value) n shorter).1
 or_leaves value n shorter h = by (years_in n value) refl
   where
     by : (o : Option Years) → years_in n value ≡ o → Leaves value (years_or o n shorter).1
@@ -82,7 +90,8 @@ pub holder_some : (text : List ℕ) (n : NoticeText) → notice_of text ≡ Some
 unfolding Leaves
 holder_some text n e = by (prefix_of text) refl e
   where
-    by : (o : Option Prefix) → prefix_of text ≡ o → option_map (notice_behind text) o ≡ Some n → all_blank n.holder ≡ false
+    by : (o : Option Prefix) → prefix_of text ≡ o → option_map (notice_behind text) o ≡ Some n
+        → all_blank n.holder ≡ false
     by None is e = absurd (cc e)
     by (Some p) is e =
         let same : notice_behind text p ≡ n = cc e in
@@ -90,7 +99,8 @@ holder_some text n e = by (prefix_of text) refl e
         let value = drop_front is_blank rest in
         let passes = found_passes (leaves_value text) longest_first p is in
         let some : all_blank rest ≡ false =
-        not_true (all_blank rest) (and-parts (starts_with nat_eq text (prefix_text p) && (needs_no_space p || starts_with nat_eq rest (32 ∷ []))) (not (all_blank rest)) passes).1 in
+        not_true (all_blank rest) (and-parts (starts_with nat_eq text (prefix_text p)
+        && (needs_no_space p || starts_with nat_eq rest (32 ∷ []))) (not (all_blank rest)) passes).1 in
         ap (λ (m : NoticeText). all_blank m.holder) (sym same)
         ∙ all-trimmed is_blank (drop (years_front value).1 value)
         ∙ front_leaves value (all-drop_front is_blank rest ∙ some)
@@ -103,19 +113,23 @@ holder_trimmed text n e = by (prefix_of text) e
     by (Some p) e =
         let same : notice_behind text p ≡ n = cc e in
         let value = drop_front is_blank (drop (length (prefix_text p)) text) in
-        subst (λ (m : NoticeText). trimmed is_blank m.holder ≡ m.holder) same (trimmed-twice is_blank (drop (years_front value).1 value))
+        subst (λ (m : NoticeText). trimmed is_blank m.holder ≡ m.holder) same
+        (trimmed-twice is_blank (drop (years_front value).1 value))
 
 -- ---- what a merge writes
 
-pub merged_written : (command notices : List (List ℕ)) (text : List ℕ) → Contains (merged command notices) text → (Contains notices text) ⊎ ((old : List ℕ) × (Contains notices old) × IsWrittenOf old text)
+pub merged_written : (command notices : List (List ℕ)) (text : List ℕ) → Contains (merged command notices) text
+    → (Contains notices text) ⊎ ((old : List ℕ) × (Contains notices old) × IsWrittenOf old text)
 merged_written command notices text h =
-    let from = In-from_map (merged_as command notices) notices text (In-set_of (map (merged_as command notices) notices) text (In-from_contains (merged command notices) text h)) in
+    let from = In-from_map (merged_as command notices) notices text
+    (In-set_of (map (merged_as command notices) notices) text (In-from_contains (merged command notices) text h)) in
     by from.0 (Contains-from_in notices from.0 from.1) from.2 (notice_of from.0) refl
   where
     becomes : List ℕ → Option NoticeText → List ℕ
     becomes s o = unwrap_or (option_and_then (λ n. class_text command (class_of notices n.holder) n.holder) o) s
 
-    by_class : (s : List ℕ) → Contains notices s → (n : NoticeText) → notice_of s ≡ Some n → (o : Option (List ℕ)) → class_text command (class_of notices n.holder) n.holder ≡ o → text ≡ unwrap_or o s
+    by_class : (s : List ℕ) → Contains notices s → (n : NoticeText) → notice_of s ≡ Some n → (o : Option (List ℕ))
+        → class_text command (class_of notices n.holder) n.holder ≡ o → text ≡ unwrap_or o s
         → (Contains notices text) ⊎ ((old : List ℕ) × (Contains notices old) × IsWrittenOf old text)
     by_class s c n is None e same = inl (subst (λ x. Contains notices x) (sym same) c)
     by_class s c n is (Some t) e same =
@@ -133,6 +147,8 @@ merged_written command notices text h =
           },
         )
 
-    by : (s : List ℕ) → Contains notices s → text ≡ merged_as command notices s → (o : Option NoticeText) → notice_of s ≡ o → (Contains notices text) ⊎ ((old : List ℕ) × (Contains notices old) × IsWrittenOf old text)
+    by : (s : List ℕ) → Contains notices s → text ≡ merged_as command notices s → (o : Option NoticeText)
+        → notice_of s ≡ o → (Contains notices text) ⊎ ((old : List ℕ) × (Contains notices old) × IsWrittenOf old text)
     by s c same None is = inl (subst (λ x. Contains notices x) (sym (same ∙ ap (becomes s) is)) c)
-    by s c same (Some n) is = by_class s c n is (class_text command (class_of notices n.holder) n.holder) refl (same ∙ ap (becomes s) is)
+    by s c same (Some n) is =
+        by_class s c n is (class_text command (class_of notices n.holder) n.holder) refl (same ∙ ap (becomes s) is)

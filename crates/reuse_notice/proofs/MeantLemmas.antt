@@ -1,16 +1,21 @@
 -- An expression has one meaning.
-use Rattle.std.proofs.Common.{◌≡◌, ℕ, Bool, true, false, cond, List, [], ◌∷◌, ◌++◌, map, refl, sym, ap, subst, ◌∙◌, append_assoc}
+use Rattle.std.proofs.Common.{◌≡◌, ℕ, Bool, true, false, cond, List, [], ◌∷◌, ◌++◌, map, refl, sym, ap, subst, ◌∙◌}
+use Rattle.std.proofs.Common.{append_assoc}
 use Rattle.std.specs.Prelude.{codes, Option, None, Some, ◌||◌}
 use Rattle.std.specs.Str.{bytes_eq}
 use Rattle.reuse_notice.specs.declared.expressions.Token.{Token}
 use Rattle.reuse_notice.specs.declared.expressions.Token.TheVariants.{Open, Close, Operator, With, Identifier, Stray}
-use Rattle.reuse_notice.specs.Expressions.{Expression, licence as a_licence, licence_with, group as a_group, joined, spelling, IsExpression}
-use Rattle.reuse_notice.specs.Meanings.{Meaning, licence, excepted, both, either, Rank, Operand, Conjunction, Whole, Phrase, name, name_with, group, operand, joined_by_and, conjunction, joined_by_or, written, meant}
+use Rattle.reuse_notice.specs.Expressions.{Expression, licence as a_licence, licence_with, group as a_group, joined}
+use Rattle.reuse_notice.specs.Expressions.{spelling, IsExpression}
+use Rattle.reuse_notice.specs.Meanings.{Meaning, licence, excepted, both, either, Rank, Operand, Conjunction, Whole}
+use Rattle.reuse_notice.specs.Meanings.{Phrase, name, name_with, group, operand, joined_by_and, conjunction}
+use Rattle.reuse_notice.specs.Meanings.{joined_by_or, written, meant}
 use Rattle.reuse_notice.proofs.WordLemmas.{Word, kinds, kinds-append}
 
 -- ---- reading words from left to right, as a stack of what is open
 
--- what was read in the parentheses that are open last: what stands before OR, what stands before AND, and the last operand
+-- what was read in the parentheses that are open last: what stands before OR, what stands before AND, and the last
+-- operand
 record Frame : Type 0 where
   ors : Option Meaning
   ands : Option Meaning
@@ -66,15 +71,22 @@ read-append [] vs s = refl
 read-append (w ∷ ws) vs s = read-append ws vs (read_word s w)
 
 abbrev stack_of : List Frame → Option Meaning → Option Meaning → Meaning → Stack
-stack_of outer ors ands last = record { outer = outer; frame = record { ors = ors; ands = ands; last = last; behind_with = false } }
+stack_of outer ors ands last = record {
+  outer = outer;
+  frame = record { ors = ors; ands = ands; last = last; behind_with = false };
+}
 
 -- what reading a phrase of a rank leaves, where its first word is expected
 abbrev Reads : Rank → List Word → Meaning → Type 0
-Reads Operand ws m = (outer : List Frame) (ors ands : Option Meaning) (last : Meaning) → read_words (stack_of outer ors ands last) ws ≡ stack_of outer ors ands m
+Reads Operand ws m = (outer : List Frame) (ors ands : Option Meaning) (last : Meaning)
+    → read_words (stack_of outer ors ands last) ws ≡ stack_of outer ors ands m
 Reads Conjunction ws m = (outer : List Frame) (ors : Option Meaning) (last : Meaning)
-    → (ands : Option Meaning) × (new : Meaning) × (read_words (stack_of outer ors None last) ws ≡ stack_of outer ors ands new) × (and_also ands new ≡ m)
+    → (ands : Option Meaning) × (new : Meaning)
+    × (read_words (stack_of outer ors None last) ws ≡ stack_of outer ors ands new) × (and_also ands new ≡ m)
 Reads Whole ws m = (outer : List Frame) (last : Meaning)
-    → (ors : Option Meaning) × (ands : Option Meaning) × (new : Meaning) × (read_words (stack_of outer None None last) ws ≡ stack_of outer ors ands new) × (or_else ors (and_also ands new) ≡ m)
+    → (ors : Option Meaning) × (ands : Option Meaning) × (new : Meaning)
+    × (read_words (stack_of outer None None last) ws ≡ stack_of outer ors ands new)
+    × (or_else ors (and_also ands new) ≡ m)
 
 says_and : (capitals : Bool) → is_and (cond capitals (codes "AND") (codes "and")) ≡ true
 says_and true = refl
@@ -88,7 +100,8 @@ says_or false = refl
 operator : (s next : Stack) (ws vs : List Word) (text : List ℕ) (b : Bool) → read_words s ws ≡ next → is_and text ≡ b
     → read_words s (ws ++ (text, Operator) ∷ vs) ≡ read_words (record next { frame = operated b next.frame }) vs
 operator s next ws vs text b e is =
-    read-append ws ((text, Operator) ∷ vs) s ∙ ap (λ t. read_words t ((text, Operator) ∷ vs)) e ∙ ap (λ a. read_words (record next { frame = operated a next.frame }) vs) is
+    read-append ws ((text, Operator) ∷ vs) s ∙ ap (λ t. read_words t ((text, Operator) ∷ vs)) e
+    ∙ ap (λ a. read_words (record next { frame = operated a next.frame }) vs) is
 
 reads : {rank : Rank} (p : Phrase rank) → Reads rank (written p) (meant p)
 reads (name text plus) = λ outer ors ands last. refl
@@ -103,7 +116,8 @@ reads (joined_by_and left capitals right) = λ outer ors last.
     let l = reads left outer ors last in (
       Some (and_also l.0 l.1),
       meant right,
-      operator (stack_of outer ors None last) (stack_of outer ors l.0 l.1) (written left) (written right) (cond capitals (codes "AND") (codes "and")) true l.2 (says_and capitals)
+      operator (stack_of outer ors None last) (stack_of outer ors l.0 l.1) (written left) (written right)
+          (cond capitals (codes "AND") (codes "and")) true l.2 (says_and capitals)
           ∙ reads right outer ors (Some (and_also l.0 l.1)) l.1,
       ap (λ m. both m (meant right)) l.3,
     )
@@ -114,7 +128,8 @@ reads (joined_by_or left capitals right) = λ outer last.
       Some (or_else l.0 (and_also l.1 l.2)),
       r.0,
       r.1,
-      operator (stack_of outer None None last) (stack_of outer l.0 l.1 l.2) (written left) (written right) (cond capitals (codes "OR") (codes "or")) false l.3 (says_or capitals) ∙ r.2,
+      operator (stack_of outer None None last) (stack_of outer l.0 l.1 l.2) (written left) (written right)
+          (cond capitals (codes "OR") (codes "or")) false l.3 (says_or capitals) ∙ r.2,
       ap (λ m. either m (and_also r.0 r.1)) l.4 ∙ ap (either (meant left)) r.3,
     )
 
@@ -123,18 +138,30 @@ read_as p = let h = reads p [] (licence []) in ap (λ (s : Stack). whole_of s.fr
 
 -- words have one meaning
 pub one_meant : (p q : Phrase Whole) → written p ≡ written q → meant p ≡ meant q
-one_meant p q e = sym (read_as p) ∙ ap (λ ws. whole_of (read_words (stack_of [] None None (licence [])) ws).frame) e ∙ read_as q
+one_meant p q e =
+    sym (read_as p) ∙ ap (λ ws. whole_of (read_words (stack_of [] None None (licence [])) ws).frame) e ∙ read_as q
 
 -- ---- phrases are expressions
 
-joins : (text : List ℕ) (ws vs : List Word) → IsExpression (kinds ws) → IsExpression (kinds vs) → IsExpression (kinds (ws ++ (text, Operator) ∷ vs))
-joins text ws vs l r = (joined l.0 r.0, ap (λ ts. ts ++ Operator ∷ spelling r.0) l.1 ∙ ap (λ ts. kinds ws ++ Operator ∷ ts) r.1 ∙ sym (kinds-append ws ((text, Operator) ∷ vs)))
+joins : (text : List ℕ) (ws vs : List Word) → IsExpression (kinds ws) → IsExpression (kinds vs)
+    → IsExpression (kinds (ws ++ (text, Operator) ∷ vs))
+joins text ws vs l r = (
+  joined l.0 r.0,
+  ap (λ ts. ts ++ Operator ∷ spelling r.0) l.1 ∙ ap (λ ts. kinds ws ++ Operator ∷ ts) r.1
+      ∙ sym (kinds-append ws ((text, Operator) ∷ vs)),
+)
 
 pub phrase_spelled : {rank : Rank} (p : Phrase rank) → IsExpression (kinds (written p))
 phrase_spelled (name text plus) = (a_licence plus, refl)
 phrase_spelled (name_with text plus capitals exception) = (licence_with plus, refl)
-phrase_spelled (group inner) = let h = phrase_spelled inner in (a_group h.0, ap (λ ts. Open ∷ ts ++ Close ∷ []) h.1 ∙ ap (λ ts. Open ∷ ts) (sym (kinds-append (written inner) ((codes ")", Close) ∷ []))))
+phrase_spelled (group inner) = let h = phrase_spelled inner in (
+  a_group h.0,
+  ap (λ ts. Open ∷ ts ++ Close ∷ []) h.1
+      ∙ ap (λ ts. Open ∷ ts) (sym (kinds-append (written inner) ((codes ")", Close) ∷ []))),
+)
 phrase_spelled (operand inner) = phrase_spelled inner
 phrase_spelled (conjunction inner) = phrase_spelled inner
-phrase_spelled (joined_by_and left capitals right) = joins (cond capitals (codes "AND") (codes "and")) (written left) (written right) (phrase_spelled left) (phrase_spelled right)
-phrase_spelled (joined_by_or left capitals right) = joins (cond capitals (codes "OR") (codes "or")) (written left) (written right) (phrase_spelled left) (phrase_spelled right)
+phrase_spelled (joined_by_and left capitals right) = joins (cond capitals (codes "AND") (codes "and")) (written left)
+    (written right) (phrase_spelled left) (phrase_spelled right)
+phrase_spelled (joined_by_or left capitals right) = joins (cond capitals (codes "OR") (codes "or")) (written left)
+    (written right) (phrase_spelled left) (phrase_spelled right)

@@ -1,5 +1,6 @@
 -- Notices of ordinary holders are read as they are amended.
-use Rattle.std.proofs.Common.{◌≡◌, ℕ, ◌+◌, ◌≤◌, Bool, true, false, cond, List, [], ◌∷◌, length, take, drop, nat_eq, Option, Some, None, refl, sym, ap, subst, ◌∙◌, arith}
+use Rattle.std.proofs.Common.{◌≡◌, ℕ, ◌+◌, ◌≤◌, Bool, true, false, cond, List, [], ◌∷◌, length, take, drop, nat_eq}
+use Rattle.std.proofs.Common.{Option, Some, None, refl, sym, ap, subst, ◌∙◌, arith}
 use Rattle.std.specs.Prelude.{not, ◌&&◌, ◌==◌, nat_lt, nat_le, codes, slice_index}
 use Rattle.std.specs.Option.{option_map, option_map_or}
 use Rattle.std.specs.List.{AllByRecursion, starts_with}
@@ -10,12 +11,14 @@ use Rattle.reuse_notice.specs.declared.amendments.Amendments.{Amendments}
 use Rattle.reuse_notice.specs.declared.prefixes.Prefix.{Prefix}
 use Rattle.reuse_notice.specs.declared.tags.Years.{Years}
 use Rattle.reuse_notice.specs.Prefixes.{prefix_text}
-use Rattle.reuse_notice.specs.Tags.{NoticeText, is_blank, all_blank, drop_front, year_of, years_between, years_written, years_in, years_or, years_front, prefix_of, notice_behind, notice_of}
+use Rattle.reuse_notice.specs.Tags.{NoticeText, is_blank, all_blank, drop_front, year_of, years_between, years_written}
+use Rattle.reuse_notice.specs.Tags.{years_in, years_or, years_front, prefix_of, notice_behind, notice_of}
 use Rattle.reuse_notice.specs.Adding.{notice_written}
 use Rattle.reuse_notice.specs.Merging.{says}
 use Rattle.reuse_notice.specs.MergeSteps.{is_among}
 use Rattle.reuse_notice.specs.Keeping.{HaveFourDigits}
-use Rattle.reuse_notice.specs.Amending.{text_replaced, text_amended, years_until, concerns, years_amended, prefix_amended, notice_saying, holder_amended}
+use Rattle.reuse_notice.specs.Amending.{text_replaced, text_amended, years_until, concerns, years_amended}
+use Rattle.reuse_notice.specs.Amending.{prefix_amended, notice_saying, holder_amended}
 use Rattle.reuse_notice.specs.Plain.{IsPlain}
 use Rattle.reuse_notice.specs.Settled.{ReadsAsAmended, WritePlainTexts, CanBeWritten, HasFourDigits, may_be_misread}
 use Rattle.reuse_notice.proofs.PlainLemmas.{read-digits, year-short}
@@ -47,8 +50,10 @@ one_of false some other a b = b
 written_order : (text : List ℕ) → AreInOrder (years_written text)
 written_order text =
     one_of (length text == 4) _ _ (between_order (year_of text) (year_of text))
-    (one_of (length text == 9 && starts_with nat_eq (drop 4 text) (codes "-")) _ _ (between_order (year_of (take 4 text)) (year_of (drop 5 text)))
-    (one_of (length text == 11 && starts_with nat_eq (drop 4 text) (codes " - ")) _ _ (between_order (year_of (take 4 text)) (year_of (drop 7 text))) tt))
+    (one_of (length text == 9 && starts_with nat_eq (drop 4 text) (codes "-")) _ _
+    (between_order (year_of (take 4 text)) (year_of (drop 5 text)))
+    (one_of (length text == 11 && starts_with nat_eq (drop 4 text) (codes " - ")) _ _
+    (between_order (year_of (take 4 text)) (year_of (drop 7 text))) tt))
 
 in_order : (n : ℕ) (value : List ℕ) → AreInOrder (years_in n value)
 in_order n value =
@@ -130,11 +135,13 @@ holder_whole (r ∷ rs) text plain whole = holder_whole rs (text_replaced text r
     by false = whole
 
 pub ordinary_reads : (a : Amendments) (text : List ℕ) → WritePlainTexts a → HasFourDigits a.until
-    → ((notice : NoticeText) → notice_of text ≡ Some notice → may_be_misread (text_amended a.replaced_holders notice.holder) ≡ false)
+    → ((notice : NoticeText) → notice_of text ≡ Some notice
+    → may_be_misread (text_amended a.replaced_holders notice.holder) ≡ false)
     → ReadsAsAmended a text
 ordinary_reads a text plain short clear n new read e =
     by (is_among a.removed_holders holder)
-    (sym (ap (λ o. option_map_or (λ m. holder_amended a m (text_amended a.replaced_holders m.holder)) o (Some text)) read) ∙ e)
+    (sym (ap
+    (λ o. option_map_or (λ m. holder_amended a m (text_amended a.replaced_holders m.holder)) o (Some text)) read) ∙ e)
   where
     holder : List ℕ
     holder = text_amended a.replaced_holders n.holder

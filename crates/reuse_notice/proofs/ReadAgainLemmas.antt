@@ -1,5 +1,7 @@
 -- A notice that is written is read with its prefix, its years and its holder, if the holder might not be misread.
-use Rattle.std.proofs.Common.{◌≡◌, ℕ, zero, suc, ◌+◌, ◌-◌, ◌*◌, ◌/◌, ◌%◌, ◌<◌, ◌≤◌, nat_eq, Bool, true, false, cond, List, [], ◌∷◌, ◌++◌, length, take, drop, Option, Some, None, refl, sym, ap, ◌∙◌, arith, append_assoc, inl, inr, ◌⊎◌}
+use Rattle.std.proofs.Common.{◌≡◌, ℕ, zero, suc, ◌+◌, ◌-◌, ◌*◌, ◌/◌, ◌%◌, ◌<◌, ◌≤◌, nat_eq, Bool, true, false, cond}
+use Rattle.std.proofs.Common.{List, [], ◌∷◌, ◌++◌, length, take, drop, Option, Some, None, refl, sym, ap, ◌∙◌, arith}
+use Rattle.std.proofs.Common.{append_assoc, inl, inr, ◌⊎◌}
 use Rattle.std.specs.Prelude.{not, ◌&&◌, ◌==◌, nat_lt, codes}
 use Rattle.std.specs.Option.{option_map}
 use Rattle.std.specs.Char.{is_ascii_digit}
@@ -9,10 +11,13 @@ use Rattle.std.proofs.Math.Seq.{drop-append_seam}
 use Rattle.std.proofs.lemmas.Bool.{false≢true, or_parts, lt-ltb, le-leb, eqb-true, eq-eqb, cases_Bool as truth}
 use Rattle.std.proofs.lemmas.Bool.Decides.{nat_tests}
 use Rattle.reuse_notice.specs.declared.prefixes.Prefix.{Prefix}
-use Rattle.reuse_notice.specs.declared.prefixes.Prefix.TheVariants.{Spdx, SpdxC, SpdxSymbol, SpdxString, SpdxStringC, SpdxStringSymbol, String, StringC, StringSymbol, Symbol}
+use Rattle.reuse_notice.specs.declared.prefixes.Prefix.TheVariants.{Spdx, SpdxC, SpdxSymbol, SpdxString, SpdxStringC}
+use Rattle.reuse_notice.specs.declared.prefixes.Prefix.TheVariants.{SpdxStringSymbol, String, StringC, StringSymbol}
+use Rattle.reuse_notice.specs.declared.prefixes.Prefix.TheVariants.{Symbol}
 use Rattle.reuse_notice.specs.declared.tags.Years.{Years}
 use Rattle.reuse_notice.specs.Prefixes.{copyright_sign, prefix_text}
-use Rattle.reuse_notice.specs.Tags.{is_blank, all_blank, drop_front, trimmed, prefix_of, year_of, years_between, years_written, years_in, years_or, years_front, notice_behind, notice_of}
+use Rattle.reuse_notice.specs.Tags.{is_blank, all_blank, drop_front, trimmed, prefix_of, year_of, years_between}
+use Rattle.reuse_notice.specs.Tags.{years_written, years_in, years_or, years_front, notice_behind, notice_of}
 use Rattle.reuse_notice.specs.Adding.{four_digits, notice_written}
 use Rattle.reuse_notice.specs.Merging.{says, same_years}
 use Rattle.reuse_notice.specs.Settled.{may_be_misread, CanBeWritten}
@@ -66,7 +71,8 @@ no_year b [] e = refl
 no_year b (c ∷ []) e = refl
 no_year b (c ∷ d ∷ []) e = refl
 no_year b (c ∷ d ∷ f ∷ []) e =
-    ap (λ t. cond (t && list_all is_ascii_digit (c ∷ d ∷ f ∷ [])) (Some ((b - 48) * 1000 + (c - 48) * 100 + (d - 48) * 10 + (f - 48))) None) e
+    ap (λ t. cond (t && list_all is_ascii_digit (c ∷ d ∷ f ∷ []))
+    (Some ((b - 48) * 1000 + (c - 48) * 100 + (d - 48) * 10 + (f - 48))) None) e
 no_year b (c ∷ d ∷ f ∷ g ∷ bytes) e = refl
 
 -- nor years
@@ -117,7 +123,8 @@ year_again n low =
     let b = a_digit (n / 100 % 10) (omega arith) in
     let c = a_digit (n / 10 % 10) (omega arith) in
     let d = a_digit (n % 10) (omega arith) in
-    ap (λ t. cond (t && list_all is_ascii_digit ((48 + n / 100 % 10) ∷ (48 + n / 10 % 10) ∷ (48 + n % 10) ∷ [])) (Some (number n)) None) a
+    ap (λ t. cond (t && list_all is_ascii_digit ((48 + n / 100 % 10) ∷ (48 + n / 10 % 10) ∷ (48 + n % 10) ∷ []))
+    (Some (number n)) None) a
     ∙ ap (λ t. cond (t && list_all is_ascii_digit ((48 + n / 10 % 10) ∷ (48 + n % 10) ∷ [])) (Some (number n)) None) b
     ∙ ap (λ t. cond (t && list_all is_ascii_digit ((48 + n % 10) ∷ [])) (Some (number n)) None) c
     ∙ ap (λ t. cond (t && true) (Some (number n)) None) d
@@ -128,7 +135,8 @@ year_again n low =
         (48 + m / 1000 - 48) * 1000 + (48 + m / 100 % 10 - 48) * 100 + (48 + m / 10 % 10 - 48) * 10 + (48 + m % 10 - 48)
 
     same : (m : ℕ) → m ≤ 9999
-        → (48 + m / 1000 - 48) * 1000 + (48 + m / 100 % 10 - 48) * 100 + (48 + m / 10 % 10 - 48) * 10 + (48 + m % 10 - 48) ≡ m
+        → (48 + m / 1000 - 48) * 1000 + (48 + m / 100 % 10 - 48) * 100 + (48 + m / 10 % 10 - 48) * 10
+        + (48 + m % 10 - 48) ≡ m
     same m low = omega arith
 
 between_again : (low high : ℕ) → low ≤ high
@@ -150,7 +158,8 @@ long n xs low = lt-ltb n (length xs) low
 
 -- years stand in front of a space and more than blank bytes
 front_two : (low high : ℕ) (holder : List ℕ) → low ≤ high → high ≤ 9999 → all_blank holder ≡ false
-    → years_front ((four_digits low ++ codes " - " ++ four_digits high) ++ 32 ∷ holder) ≡ (Some (record { low = low; high = high }), 11)
+    → years_front ((four_digits low ++ codes " - " ++ four_digits high) ++ 32 ∷ holder)
+    ≡ (Some (record { low = low; high = high }), 11)
 front_two low high holder order short some =
     let value = (four_digits low ++ codes " - " ++ four_digits high) ++ 32 ∷ holder in
     let years : Option Years = years_written (four_digits low ++ codes " - " ++ four_digits high) in
@@ -250,8 +259,14 @@ said_behind prefix rest holder years n apart first front is =
     let value : drop_front is_blank (drop (length (prefix_text prefix)) text) ≡ rest =
     ap (drop_front is_blank) (drop-append_seam (prefix_text prefix) (32 ∷ rest)) ∙ first in
     ap (λ o. says prefix years holder (option_map (notice_behind text) o)) (found prefix rest apart)
-    ∙ ap (λ v. says prefix years holder (Some (record { prefix = prefix; years = (years_front v).0; holder = trimmed is_blank (drop (years_front v).1 v); text = text }))) value
-    ∙ ap (λ (f : Option Years × ℕ). says prefix years holder (Some (record { prefix = prefix; years = f.0; holder = trimmed is_blank (drop f.1 rest); text = text }))) front
+    ∙ ap (λ v. says prefix years holder (Some (record {
+      prefix = prefix;
+      years = (years_front v).0;
+      holder = trimmed is_blank (drop (years_front v).1 v);
+      text = text;
+    }))) value
+    ∙ ap (λ (f : Option Years × ℕ). says prefix years holder
+    (Some (record { prefix = prefix; years = f.0; holder = trimmed is_blank (drop f.1 rest); text = text }))) front
     ∙ ap (λ h. says prefix years holder (Some (record { prefix = prefix; years = years; holder = h; text = text }))) is
     ∙ ap (λ b. b && same_years years years && bytes_eq holder holder) (own_text (prefix_text prefix))
     ∙ ap (λ b. b && bytes_eq holder holder) (own_years years) ∙ own_text holder
@@ -305,7 +320,8 @@ trim_space holder e = e
 -- a year, or two
 said_one : (prefix : Prefix) (year : ℕ) (holder : List ℕ) → year ≤ 9999 → all_blank holder ≡ false
     → trimmed is_blank holder ≡ holder → IsClear holder
-    → says prefix (Some (record { low = year; high = year })) holder (notice_of (prefix_text prefix ++ 32 ∷ four_digits year ++ 32 ∷ holder)) ≡ true
+    → says prefix (Some (record { low = year; high = year })) holder
+    (notice_of (prefix_text prefix ++ 32 ∷ four_digits year ++ 32 ∷ holder)) ≡ true
 said_one prefix year holder short some trim clear =
     ap (λ t. says prefix (Some (record { low = year; high = year })) holder (notice_of t))
     (append_assoc (prefix_text prefix) (32 ∷ four_digits year) (32 ∷ holder))
@@ -315,7 +331,8 @@ said_one prefix year holder short some trim clear =
 
 said_two : (prefix : Prefix) (low high : ℕ) (holder : List ℕ) → low ≤ high → high ≤ 9999 → all_blank holder ≡ false
     → trimmed is_blank holder ≡ holder
-    → says prefix (Some (record { low = low; high = high })) holder (notice_of (prefix_text prefix ++ 32 ∷ (four_digits low ++ codes " - " ++ four_digits high) ++ 32 ∷ holder)) ≡ true
+    → says prefix (Some (record { low = low; high = high })) holder
+    (notice_of (prefix_text prefix ++ 32 ∷ (four_digits low ++ codes " - " ++ four_digits high) ++ 32 ∷ holder)) ≡ true
 said_two prefix low high holder order short some trim =
     let years = four_digits low ++ codes " - " ++ four_digits high in
     ap (λ t. says prefix (Some (record { low = low; high = high })) holder (notice_of t))
@@ -330,12 +347,15 @@ pub said_again : (prefix : Prefix) (years : Option Years) (holder : List ℕ) �
 said_again prefix None holder can some trim clear = said_none prefix holder some trim (is_clear holder clear)
 said_again prefix (Some years) holder can some trim clear = elim (truth (years.low == years.high)) [
   | inl e ↦ (let same : years.low ≡ years.high = eqb-true years.low years.high e in
-      ap (λ t. says prefix (Some years) holder (notice_of (prefix_text prefix ++ 32 ∷ cond t (four_digits years.low) two ++ 32 ∷ holder))) e
-      ∙ ap (λ (h : ℕ). says prefix (Some (record { low = years.low; high = h })) holder (notice_of (prefix_text prefix ++ 32 ∷ four_digits years.low ++ 32 ∷ holder)))
+      ap (λ t. says prefix (Some years) holder
+      (notice_of (prefix_text prefix ++ 32 ∷ cond t (four_digits years.low) two ++ 32 ∷ holder))) e
+      ∙ ap (λ (h : ℕ). says prefix (Some (record { low = years.low; high = h })) holder
+      (notice_of (prefix_text prefix ++ 32 ∷ four_digits years.low ++ 32 ∷ holder)))
       (sym same)
       ∙ said_one prefix years.low holder (omega (arith, same, can.1)) some trim (is_clear holder clear))
   | inr e ↦
-      ap (λ t. says prefix (Some years) holder (notice_of (prefix_text prefix ++ 32 ∷ cond t (four_digits years.low) two ++ 32 ∷ holder))) e
+      ap (λ t. says prefix (Some years) holder
+      (notice_of (prefix_text prefix ++ 32 ∷ cond t (four_digits years.low) two ++ 32 ∷ holder))) e
       ∙ said_two prefix years.low years.high holder can.0 can.1 some trim
 ]
   where

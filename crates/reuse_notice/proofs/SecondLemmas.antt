@@ -1,5 +1,6 @@
 -- Information that was amended once stays when it is amended again.
-use Rattle.std.proofs.Common.{◌≡◌, ◌≢◌, ℕ, ◌<◌, nat_eq, Bool, true, false, cond, List, [], ◌∷◌, map, Option, Some, None, refl, sym, ap, subst, ◌∙◌, inl, inr, arith}
+use Rattle.std.proofs.Common.{◌≡◌, ◌≢◌, ℕ, ◌<◌, nat_eq, Bool, true, false, cond, List, [], ◌∷◌, map, Option, Some, None}
+use Rattle.std.proofs.Common.{refl, sym, ap, subst, ◌∙◌, inl, inr, arith}
 use Rattle.std.specs.Prelude.{Contains, filter_map, nat_lt, not, ◌&&◌, ◌==◌, unwrap_or}
 use Rattle.std.specs.Option.{option_map, option_map_or, option_and_then}
 use Rattle.std.specs.List.{AllByRecursion, cons_option}
@@ -52,8 +53,10 @@ text_by_later text old (r ∷ rs) none left =
 text_by_all : (text : List ℕ) (rs : List Replacement) → NoTextComesBack rs
     → AllByRecursion (λ s. Amending.text_amended rs text ≢ s.old) rs
 text_by_all text [] back = tt
-text_by_all text (r ∷ rs) back =
-    (text_by_later (Amending.text_replaced text r) r.old rs back.0.1 (text_made text r back.0.0), text_by_all (Amending.text_replaced text r) rs back.1)
+text_by_all text (r ∷ rs) back = (
+  text_by_later (Amending.text_replaced text r) r.old rs back.0.1 (text_made text r back.0.0),
+  text_by_all (Amending.text_replaced text r) rs back.1,
+)
 
 texts_stay : (text : List ℕ) (rs : List Replacement) → AllByRecursion (λ s. text ≢ s.old) rs
     → Amending.text_amended rs text ≡ text
@@ -129,12 +132,19 @@ said a n holder new e = by (notice_of new) refl e
     by (Some m) read e' =
         let p =
         and_parts
-        (bytes_eq (prefix_text m.prefix) (prefix_text (Amending.prefix_amended a n holder)) && same_years m.years (Amending.years_amended a n holder))
+        (bytes_eq (prefix_text m.prefix) (prefix_text (Amending.prefix_amended a n holder)) && same_years m.years
+        (Amending.years_amended a n holder))
         (bytes_eq m.holder holder) e' in
         let q =
         and_parts (bytes_eq (prefix_text m.prefix) (prefix_text (Amending.prefix_amended a n holder)))
         (same_years m.years (Amending.years_amended a n holder)) p.0 in
-        record { notice = m; read = read; prefix = q.0; years = q.1; holder_is = (bytes_eq-Decides m.holder holder).0 p.1 }
+        record {
+          notice = m;
+          read = read;
+          prefix = q.0;
+          years = q.1;
+          holder_is = (bytes_eq-Decides m.holder holder).0 p.1;
+        }
 
 -- a notice that says already what it is to say stays
 notice_says : (a : Amendments) (new holder : List ℕ) (m : NoticeText) → notice_of new ≡ Some m
@@ -143,10 +153,13 @@ notice_says : (a : Amendments) (new holder : List ℕ) (m : NoticeText) → noti
     → bytes_eq (prefix_text m.prefix) (prefix_text (Amending.prefix_amended a m holder)) ≡ true
     → same_years m.years (Amending.years_amended a m holder) ≡ true → Amending.notice_amended a new ≡ Some new
 notice_says a new holder m read stays is removed prefix years =
-    ap (λ o. option_map_or (λ n. Amending.holder_amended a n (Amending.text_amended a.replaced_holders n.holder)) o (Some new)) read
+    ap (λ o. option_map_or (λ n. Amending.holder_amended a n (Amending.text_amended a.replaced_holders n.holder)) o
+    (Some new)) read
     ∙ ap (Amending.holder_amended a m) stays
-    ∙ ap (λ b. cond b None (Some (Amending.notice_saying (Amending.prefix_amended a m holder) (Amending.years_amended a m holder) holder m))) removed
-    ∙ ap (λ b. Some (cond b m.text (notice_written (Amending.prefix_amended a m holder) (Amending.years_amended a m holder) holder))) all
+    ∙ ap (λ b. cond b None (Some
+    (Amending.notice_saying (Amending.prefix_amended a m holder) (Amending.years_amended a m holder) holder m))) removed
+    ∙ ap (λ b. Some (cond b m.text
+    (notice_written (Amending.prefix_amended a m holder) (Amending.years_amended a m holder) holder))) all
     ∙ ap (λ t. Some t) (text_kept new m read)
   where
     all : says (Amending.prefix_amended a m holder) (Amending.years_amended a m holder) holder (Some m) ≡ true
@@ -164,15 +177,18 @@ notice_again a text new back reads e = by (notice_of text) refl e
     stays holder false made is e' = is
 
     by : (o : Option NoticeText) → notice_of text ≡ o
-        → option_map_or (λ n. Amending.holder_amended a n (Amending.text_amended a.replaced_holders n.holder)) o (Some text) ≡ Some new
+        → option_map_or (λ n. Amending.holder_amended a n (Amending.text_amended a.replaced_holders n.holder)) o
+        (Some text) ≡ Some new
         → Amending.notice_amended a new ≡ Some new
     by None is e' = let same : text ≡ new = cc e' in subst (λ t. Amending.notice_amended a t ≡ Some new) same e
     by (Some n) is e' =
         let holder = Amending.text_amended a.replaced_holders n.holder in
         let h = said a n holder new (reads n new is e) in
         notice_says a new holder h.notice h.read
-        (ap (Amending.text_amended a.replaced_holders) h.holder_is ∙ text_again a.replaced_holders n.holder back) h.holder_is
-        (stays holder (is_among a.removed_holders holder) (Amending.notice_saying (Amending.prefix_amended a n holder) (Amending.years_amended a n holder) holder n) refl e')
+        (ap (Amending.text_amended a.replaced_holders) h.holder_is
+        ∙ text_again a.replaced_holders n.holder back) h.holder_is
+        (stays holder (is_among a.removed_holders holder) (Amending.notice_saying (Amending.prefix_amended a n holder)
+        (Amending.years_amended a n holder) holder n) refl e')
         (prefix_again (Amending.concerns a holder) a.prefix n.prefix h.notice.prefix h.prefix)
         (years_again (Amending.concerns a holder) a.until n.years h.notice.years h.years)
 
@@ -189,13 +205,15 @@ each_from f [] ys y e h = let none : [] ≡ ys = cc e in absurd (subst (In y) (s
 each_from f (z ∷ xs) ys y e h =
     by (λ others rest. each_from f xs others y rest) (f z) refl (Amending.each_made f xs) refl e
   where
-    first_or_later : ((others : List (List ℕ)) → Amending.each_made f xs ≡ Some others → In y others → (x : List ℕ) × (f x ≡ Some y))
+    first_or_later : ((others : List (List ℕ)) → Amending.each_made f xs ≡ Some others → In y others
+        → (x : List ℕ) × (f x ≡ Some y))
         → (made : List ℕ) (others : List (List ℕ)) → f z ≡ Some made
         → Amending.each_made f xs ≡ Some others → In y (made ∷ others) → (x : List ℕ) × (f x ≡ Some y)
     first_or_later again made others first rest (inl same) = (z, first ∙ ap (λ t. Some t) (sym same))
     first_or_later again made others first rest (inr k) = again others rest k
 
-    by : ((others : List (List ℕ)) → Amending.each_made f xs ≡ Some others → In y others → (x : List ℕ) × (f x ≡ Some y))
+    by : ((others : List (List ℕ)) → Amending.each_made f xs ≡ Some others → In y others
+        → (x : List ℕ) × (f x ≡ Some y))
         → (o : Option (List ℕ)) → f z ≡ o → (os : Option (List (List ℕ))) → Amending.each_made f xs ≡ os
         → option_and_then (λ made. option_map (λ others. made ∷ others) os) o ≡ Some ys → (x : List ℕ) × (f x ≡ Some y)
     by again None first os rest e' = absurd (cc e')
@@ -262,7 +280,8 @@ filter_map_stays f (x ∷ xs) h =
 
 licences_again : (a : Amendments) (xs ys : List (List ℕ)) → BringNothingBack a
     → Amending.each_made (Amending.licence_amended a.replaced_licences) xs ≡ Some ys
-    → Amending.licences_amended a (set_of (without a.removed_licences ys)) ≡ Some (set_of (without a.removed_licences ys))
+    → Amending.licences_amended a (set_of (without a.removed_licences ys)) ≡ Some
+    (set_of (without a.removed_licences ys))
 licences_again a xs ys back made =
     let zs = set_of (without a.removed_licences ys) in
     ap (option_map (λ texts. set_of (without a.removed_licences texts)))
@@ -328,7 +347,8 @@ amended_again a info new back reads e =
     let notices : Amending.notices_amended a new.notices ≡ new.notices =
     subst (λ xs. Amending.notices_amended a xs ≡ xs) (sym parts.new_notices)
     (notices_again a info.notices back reads) in
-    ap (option_map (together (Amending.notices_amended a new.notices) (Amending.contributors_amended a new.contributors))) licences
+    ap (option_map
+    (together (Amending.notices_amended a new.notices) (Amending.contributors_amended a new.contributors))) licences
     ∙ ap (λ xs. Some (together xs (Amending.contributors_amended a new.contributors) new.licences)) notices
     ∙ ap (λ xs. Some (together new.notices xs new.licences)) contributors
   where

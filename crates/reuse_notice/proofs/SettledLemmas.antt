@@ -1,5 +1,6 @@
 -- A licence that was amended once stays when it is amended again.
-use Rattle.std.proofs.Common.{◌≡◌, ◌≢◌, ℕ, Bool, true, false, cond, List, [], ◌∷◌, ◌++◌, length, Option, Some, None, refl, sym, ap, subst, ◌∙◌, inl, inr, ◌⊎◌}
+use Rattle.std.proofs.Common.{◌≡◌, ◌≢◌, ℕ, Bool, true, false, cond, List, [], ◌∷◌, ◌++◌, length, Option, Some, None}
+use Rattle.std.proofs.Common.{refl, sym, ap, subst, ◌∙◌, inl, inr, ◌⊎◌}
 use Rattle.std.specs.Prelude.{◌&&◌, ◌||◌, ◌==◌, not, codes}
 use Rattle.std.specs.Option.{is_none, option_and_then}
 use Rattle.std.specs.List.{AllByRecursion}
@@ -9,16 +10,19 @@ use Rattle.std.proofs.lemmas.Slice.Eq.{bytes_eq-Decides}
 use Rattle.reuse_notice.specs.declared.expressions.Token.{Token}
 use Rattle.reuse_notice.specs.declared.expressions.Token.TheVariants.{Close, Operator}
 use Rattle.reuse_notice.specs.declared.replacements.Replacement.{Replacement}
-use Rattle.reuse_notice.specs.Expressions.{Expression, licence, licence_with, group, joined, spelling, IsExpression, IsExpressionText, token_at, token_len}
+use Rattle.reuse_notice.specs.Expressions.{Expression, licence, licence_with, group, joined, spelling, IsExpression}
+use Rattle.reuse_notice.specs.Expressions.{IsExpressionText, token_at, token_len}
 use Rattle.reuse_notice.specs.ExpressionSteps.{fault_of}
 use Rattle.reuse_notice.specs.Pieces.{pieces_of, is_name, is_identifier, has_operator}
-use Rattle.reuse_notice.specs.Amending.{operand, is_behind_with, pieces_replaced, expression_replaced, if_expression, licence_replaced, licence_amended}
+use Rattle.reuse_notice.specs.Amending.{operand, is_behind_with, pieces_replaced, expression_replaced, if_expression}
+use Rattle.reuse_notice.specs.Amending.{licence_replaced, licence_amended}
 use Rattle.reuse_notice.specs.Meanings.{words_of}
 use Rattle.reuse_notice.specs.Settled.{DoesNotBringIn, NoLicenceComesBack}
 use Rattle.reuse_notice.proofs.PlaceLemmas.{none_exactly}
 use Rattle.reuse_notice.proofs.UnnamedLemmas.{together, pieces-join, other_text, own_text}
 use Rattle.reuse_notice.proofs.CutLemmas.{WellCut, pieces_cut}
-use Rattle.reuse_notice.proofs.WordLemmas.{Word, kinds, without_blanks, blank_plain, name_is, identifier_pieces, grouped_pieces}
+use Rattle.reuse_notice.proofs.WordLemmas.{Word, kinds, without_blanks, blank_plain, name_is, identifier_pieces}
+use Rattle.reuse_notice.proofs.WordLemmas.{grouped_pieces}
 use Rattle.reuse_notice.proofs.ReplacedLemmas.{new_pieces}
 use Rattle.reuse_notice.proofs.FusedLemmas.{new_expression, replaced_pieces}
 use Rattle.reuse_notice.proofs.MeaningLemmas.{expression_is}
@@ -48,7 +52,8 @@ after_words behind (p ∷ ps) cut = by (λ b. after_words b ps cut.2) (bytes_eq 
   where
     by : ((b : Bool) → after b ps ≡ after_tokens b (kinds (without_blanks ps))) → (s : Bool)
         → bytes_eq p.0 (codes " ") ≡ s
-        → after (is_behind_with behind p.1) ps ≡ after_tokens behind (kinds (cond (not s) (p ∷ without_blanks ps) (without_blanks ps)))
+        → after (is_behind_with behind p.1) ps ≡ after_tokens behind
+        (kinds (cond (not s) (p ∷ without_blanks ps) (without_blanks ps)))
     by again true e = ap (λ t. after (is_behind_with behind t) ps) (blank_plain p e cut.0).1 ∙ again behind
     by again false e = again (is_behind_with behind p.1)
 
@@ -88,8 +93,10 @@ leaves-append s behind (x ∷ xs) ys h k = (h.0, leaves-append s (is_behind_with
 leaves_others : (s : Replacement) (behind : Bool) (ps : List Word) → AllByRecursion (λ (p : Word). p.0 ≢ s.old) ps
     → Leaves s behind ps
 leaves_others s behind [] h = tt
-leaves_others s behind (p ∷ ps) h =
-    (ap (λ t. t && (is_identifier s.new || not behind)) (other_text p.0 s.old h.0), leaves_others s (is_behind_with behind p.1) ps h.1)
+leaves_others s behind (p ∷ ps) h = (
+  ap (λ t. t && (is_identifier s.new || not behind)) (other_text p.0 s.old h.0),
+  leaves_others s (is_behind_with behind p.1) ps h.1,
+)
 
 others-append : (old : List ℕ) (xs ys : List Word) → AllByRecursion (λ (p : Word). p.0 ≢ old) xs
     → AllByRecursion (λ (p : Word). p.0 ≢ old) ys → AllByRecursion (λ (p : Word). p.0 ≢ old) (xs ++ ys)
@@ -108,8 +115,10 @@ others_operand old new named h = by (has_operator new)
     by : (t : Bool) → AllByRecursion (λ (p : Word). p.0 ≢ old) (pieces_of (cond t (codes "(" ++ new ++ codes ")") new))
     by false = h
     by true =
-        subst (AllByRecursion (λ (p : Word). p.0 ≢ old)) (sym (grouped_pieces new))
-        (other (codes "(") refl, others-append old (pieces_of new) ((codes ")", Close) ∷ []) h (other (codes ")") refl, tt))
+        subst (AllByRecursion (λ (p : Word). p.0 ≢ old)) (sym (grouped_pieces new)) (
+          other (codes "(") refl,
+          others-append old (pieces_of new) ((codes ")", Close) ∷ []) h (other (codes ")") refl, tt),
+        )
 
 -- an identifier that is OLD doesn't stay
 leaves_no_old : (s : Replacement) (value : List ℕ) → is_identifier s.old ≡ true → Leaves s false (pieces_of value)
@@ -153,7 +162,8 @@ module _ (r : Replacement) (named : is_name (token_at r.old) ≡ true) (new_is :
       by rest true true e =
           leaves-append s behind new_operand (new_pieces r (is_behind_with behind p.1) ps)
           (leaves_others s behind new_operand others)
-          (subst (λ t. Leaves s t (new_pieces r (is_behind_with behind p.1) ps)) (no_exception behind p cut.0.is e) rest)
+          (subst (λ t. Leaves s t (new_pieces r (is_behind_with behind p.1) ps))
+          (no_exception behind p cut.0.is e) rest)
       by rest true false e = (h.0, rest)
       by rest false may e = (h.0, rest)
 
@@ -171,7 +181,8 @@ module _ (r : Replacement) (named : is_name (token_at r.old) ≡ true) (new_is :
       by rest true true e f =
           leaves-append r behind new_operand (new_pieces r (is_behind_with behind p.1) ps)
           (leaves_others r behind new_operand others)
-          (subst (λ t. Leaves r t (new_pieces r (is_behind_with behind p.1) ps)) (no_exception behind p cut.0.is e) rest)
+          (subst (λ t. Leaves r t (new_pieces r (is_behind_with behind p.1) ps))
+          (no_exception behind p cut.0.is e) rest)
       by rest true false e f = (ap (λ t. t && (is_identifier r.new || not behind)) e ∙ f, rest)
       by rest false may e f = (ap (λ t. t && (is_identifier r.new || not behind)) e, rest)
 
@@ -182,7 +193,8 @@ Left s value = (value ≢ s.old) × (is_identifier s.old ≡ true → fault_of v
 
 left_stays : (s : Replacement) (value : List ℕ) → Left s value → licence_replaced s value ≡ Some value
 left_stays s value h =
-    ap (λ b. cond b (Some s.new) (cond (is_identifier s.old && is_none (fault_of value)) (if_expression (expression_replaced s value)) (Some value)))
+    ap (λ b. cond b (Some s.new)
+    (cond (is_identifier s.old && is_none (fault_of value)) (if_expression (expression_replaced s value)) (Some value)))
     (other_text value s.old h.0)
     ∙ by (is_identifier s.old) refl (fault_of value) refl
   where
@@ -225,7 +237,8 @@ becomes r value result e = whole (bytes_eq value r.old) refl e
         inr (inr (record { other = other; none = λ named good. false≢true (sym old ∙ named); same = cc e' }))
 
     whole : (t : Bool) → bytes_eq value r.old ≡ t
-        → cond t (Some r.new) (cond (is_identifier r.old && is_none (fault_of value)) (if_expression (expression_replaced r value)) (Some value)) ≡ Some result
+        → cond t (Some r.new) (cond (is_identifier r.old && is_none (fault_of value))
+        (if_expression (expression_replaced r value)) (Some value)) ≡ Some result
         → Becomes r value result
     whole true is e' = inl (cc e')
     whole false is e' =
@@ -255,7 +268,8 @@ module _ (r : Replacement) (value result : List ℕ) (good : fault_of r.new ≡ 
   left_made none (inr (inl w)) =
       let h : Leaves r false (pieces_of result) =
       subst (Leaves r false) (sym (cut w))
-      (leaves_made r (name_of r.old w.old) new_is false (pieces_of value) (pieces_cut value) (others_operand r.old r.new (name_of r.old w.old) none.tokens)) in
+      (leaves_made r (name_of r.old w.old) new_is false (pieces_of value) (pieces_cut value)
+      (others_operand r.old r.new (name_of r.old w.old) none.tokens)) in
       (leaves_no_old r result w.old h, λ _ _. h)
   left_made none (inr (inr u)) = subst (Left r) u.same (u.other, λ old was. absurd (u.none old was))
 
@@ -271,7 +285,8 @@ module _ (r : Replacement) (value result : List ℕ) (good : fault_of r.new ≡ 
       leaves : is_identifier s.old ≡ true → Leaves s false (pieces_of result)
       leaves named =
           subst (Leaves s false) (sym (cut w))
-          (leaves_still r (name_of r.old w.old) new_is s false (pieces_of value) (pieces_cut value) (others_operand s.old r.new (name_of s.old named) none.tokens) (left.1 named w.was))
+          (leaves_still r (name_of r.old w.old) new_is s false (pieces_of value) (pieces_cut value)
+          (others_operand s.old r.new (name_of s.old named) none.tokens) (left.1 named w.was))
   left_still s none left (inr (inr u)) = subst (Left s) u.same left
 
 -- ---- one replacement after the other

@@ -1,5 +1,6 @@
 -- What becomes of a licence has no blank bytes at its ends and no LF, where neither the licence nor NEW has.
-use Rattle.std.proofs.Common.{◌≡◌, ℕ, ◌<◌, ◌≤◌, Bool, true, false, cond, List, [], ◌∷◌, ◌++◌, length, length-append, None, Some, refl, sym, ap, subst, ◌∙◌, arith, inl, inr}
+use Rattle.std.proofs.Common.{◌≡◌, ℕ, ◌<◌, ◌≤◌, Bool, true, false, cond, List, [], ◌∷◌, ◌++◌, length, length-append}
+use Rattle.std.proofs.Common.{None, Some, refl, sym, ap, subst, ◌∙◌, arith, inl, inr}
 use Rattle.std.specs.Prelude.{not, nat_lt, IsUtf8, ◌&&◌, ◌||◌, ◌==◌, codes}
 use Rattle.std.specs.List.{AllByRecursion, list_all, list_any}
 use Rattle.std.specs.Str.{bytes_eq}
@@ -103,16 +104,20 @@ unfolding pieces_replaced
 last_replaced r behind p [] new cut last =
     let own : last_blank p.0 ≡ false = ap last_blank (sym (append-nil p.0)) ∙ last in
     let same : piece_replaced r behind p.0 ++ [] ≡ piece_replaced r behind p.0 =
-    append-nil (piece_replaced r behind p.0) in
-    (subst (λ t. 0 < length t) (sym same) (piece_some r behind p.0 new cut.0.some), ap last_blank same ∙ last_kept r behind p.0 new own)
+    append-nil (piece_replaced r behind p.0) in (
+      subst (λ t. 0 < length t) (sym same) (piece_some r behind p.0 new cut.0.some),
+      ap last_blank same ∙ last_kept r behind p.0 new own,
+    )
 last_replaced r behind p (q ∷ ps) new cut last =
     let n = length-append q.0 (together ps) in
     let low = cut.2.0.some in
     let rest : last_blank (together (q ∷ ps)) ≡ false =
     sym (last_more p.0 (together (q ∷ ps)) (omega (arith, n, low))) ∙ last in
     let h = last_replaced r (is_behind_with behind p.1) q ps new cut.2 rest in
-    let m = length-append (piece_replaced r behind p.0) (pieces_replaced r (is_behind_with behind p.1) (q ∷ ps)) in
-    (omega (arith, m, h.0), last_more (piece_replaced r behind p.0) (pieces_replaced r (is_behind_with behind p.1) (q ∷ ps)) h.0 ∙ h.1)
+    let m = length-append (piece_replaced r behind p.0) (pieces_replaced r (is_behind_with behind p.1) (q ∷ ps)) in (
+      omega (arith, m, h.0),
+      last_more (piece_replaced r behind p.0) (pieces_replaced r (is_behind_with behind p.1) (q ∷ ps)) h.0 ∙ h.1,
+    )
 
 trim_pieces : (r : Replacement) (ps : List Word) → IsTrim r.new → WellCut ps → IsTrim (together ps)
     → IsTrim (pieces_replaced r false ps)
@@ -209,7 +214,8 @@ module _ (test : ℕ → Bool) where
   ]
   last_of (x ∷ y ∷ xs) e = elim (truth (list_all test (x ∷ y ∷ xs))) [
     | inl t ↦ absurd (not_nil x (y ∷ xs) (sym (ap (λ b. cond b [] (x ∷ drop_end test (y ∷ xs))) t) ∙ e))
-    | inr f ↦ last_of (y ∷ xs) (rest (drop_end test (y ∷ xs)) (sym (ap (λ b. cond b [] (x ∷ drop_end test (y ∷ xs))) f) ∙ e))
+    | inr f ↦
+        last_of (y ∷ xs) (rest (drop_end test (y ∷ xs)) (sym (ap (λ b. cond b [] (x ∷ drop_end test (y ∷ xs))) f) ∙ e))
   ]
     where
       rest : (ys : List ℕ) → x ∷ ys ≡ x ∷ y ∷ xs → ys ≡ y ∷ xs
@@ -246,7 +252,8 @@ whole_trim (b ∷ bytes) whole = record {
   some = omega arith;
   first = first_of is_blank (b ∷ bytes)
       (ap (drop_front is_blank) (sym whole.trim) ∙ drop_front-kept is_blank (b ∷ bytes) ∙ whole.trim);
-  last = last_of is_blank (b ∷ bytes) (ap (drop_end is_blank) (sym whole.trim) ∙ drop_end-twice is_blank (drop_front is_blank (b ∷ bytes)) ∙ whole.trim);
+  last = last_of is_blank (b ∷ bytes) (ap (drop_end is_blank) (sym whole.trim)
+      ∙ drop_end-twice is_blank (drop_front is_blank (b ∷ bytes)) ∙ whole.trim);
 }
 
 trim_whole : (text : List ℕ) → IsTrim text → IsWhole text
@@ -271,9 +278,11 @@ plain_whole [] plain = absurd (plain.some refl)
 plain_whole (b ∷ text) plain = trim_whole (b ∷ text) (record {
   some = omega arith;
   first = full b (or-parts (is_control b) (list_any is_control text) plain.printable).0
-      (first_of is_space (b ∷ text) (ap (drop_front is_space) (sym plain.trimmed) ∙ drop_front-kept is_space (b ∷ text) ∙ plain.trimmed));
+      (first_of is_space (b ∷ text)
+      (ap (drop_front is_space) (sym plain.trimmed) ∙ drop_front-kept is_space (b ∷ text) ∙ plain.trimmed));
   last = full_last (b ∷ text) plain.printable
-      (last_of is_space (b ∷ text) (ap (drop_end is_space) (sym plain.trimmed) ∙ drop_end-twice is_space (drop_front is_space (b ∷ text)) ∙ plain.trimmed));
+      (last_of is_space (b ∷ text) (ap (drop_end is_space) (sym plain.trimmed)
+      ∙ drop_end-twice is_space (drop_front is_space (b ∷ text)) ∙ plain.trimmed));
 })
 
 each_trim : (rs : List Replacement) → AllByRecursion (λ r. IsWhole r.new) rs → AllByRecursion (λ r. IsTrim r.new) rs

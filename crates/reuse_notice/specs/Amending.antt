@@ -1,6 +1,7 @@
 -- What amendments make of the licensing information of a file (this project's own; docs/RULES.md, "What amend
 -- writes").
-use Rattle.std.specs.Prelude.{ℕ, Bool, true, false, not, ◌&&◌, ◌||◌, nat_lt, List, [], ◌∷◌, ◌++◌, map, filter_map, fold, Option, None, Some, unwrap_or, if◌then◌else◌, codes}
+use Rattle.std.specs.Prelude.{ℕ, Bool, true, false, not, ◌&&◌, ◌||◌, nat_lt, List, [], ◌∷◌, ◌++◌, map, filter_map, fold}
+use Rattle.std.specs.Prelude.{Option, None, Some, unwrap_or, if◌then◌else◌, codes}
 use Rattle.std.specs.Option.{option_map, option_map_or, option_and_then, is_none}
 use Rattle.std.specs.Str.{bytes_eq}
 use Rattle.reuse_notice.specs.declared.expressions.Token.{Token}
@@ -72,7 +73,8 @@ licence_alone a value = option_map (unless_removed a.removed_licences) (licence_
 -- each text as it becomes, if each becomes one
 unfoldable pub each_made : (List ℕ → Option (List ℕ)) → List (List ℕ) → Option (List (List ℕ))
 each_made make [] = Some []
-each_made make (text ∷ texts) = option_and_then (λ made. option_map (λ others. made ∷ others) (each_made make texts)) (make text)
+each_made make (text ∷ texts) =
+    option_and_then (λ made. option_map (λ others. made ∷ others) (each_made make texts)) (make text)
 
 -- ---- holders and contributors
 
@@ -92,14 +94,16 @@ abbrev pub concerns : Amendments → List ℕ → Bool
 concerns a holder = option_map_or (λ only. bytes_eq holder only) a.holder true
 
 abbrev pub years_amended : Amendments → NoticeText → List ℕ → Option Years
-years_amended a n holder = if concerns a holder then option_map (λ years. option_map_or (λ year. years_until year years) a.until years) n.years else n.years
+years_amended a n holder = if concerns a holder
+    then option_map (λ years. option_map_or (λ year. years_until year years) a.until years) n.years else n.years
 
 abbrev pub prefix_amended : Amendments → NoticeText → List ℕ → Prefix
 prefix_amended a n holder = if concerns a holder then unwrap_or a.prefix n.prefix else n.prefix
 
 -- a notice with this prefix, these years and this holder: its own text, if it says them already
 abbrev pub notice_saying : Prefix → Option Years → List ℕ → NoticeText → List ℕ
-notice_saying prefix years holder n = if says prefix years holder (Some n) then n.text else notice_written prefix years holder
+notice_saying prefix years holder n =
+    if says prefix years holder (Some n) then n.text else notice_written prefix years holder
 
 -- what a notice becomes, none where its holder is removed
 abbrev pub holder_amended : Amendments → NoticeText → List ℕ → Option (List ℕ)
@@ -108,7 +112,8 @@ holder_amended a n holder =
     else Some (notice_saying (prefix_amended a n holder) (years_amended a n holder) holder n)
 
 abbrev pub notice_amended : Amendments → List ℕ → Option (List ℕ)
-notice_amended a text = option_map_or (λ n. holder_amended a n (text_amended a.replaced_holders n.holder)) (notice_of text) (Some text)
+notice_amended a text =
+    option_map_or (λ n. holder_amended a n (text_amended a.replaced_holders n.holder)) (notice_of text) (Some text)
 
 -- ---- the information
 
@@ -116,12 +121,14 @@ abbrev pub notices_amended : Amendments → List (List ℕ) → List (List ℕ)
 notices_amended a notices = set_of (filter_map (notice_amended a) notices)
 
 abbrev pub contributors_amended : Amendments → List (List ℕ) → List (List ℕ)
-contributors_amended a contributors = set_of (without a.removed_contributors (map (text_amended a.replaced_contributors) contributors))
+contributors_amended a contributors =
+    set_of (without a.removed_contributors (map (text_amended a.replaced_contributors) contributors))
 
 -- none where a licence leaves the grammar
 abbrev pub licences_amended : Amendments → List (List ℕ) → Option (List (List ℕ))
 licences_amended a licences =
-    option_map (λ texts. set_of (without a.removed_licences texts)) (each_made (licence_amended a.replaced_licences) licences)
+    option_map (λ texts. set_of (without a.removed_licences texts))
+    (each_made (licence_amended a.replaced_licences) licences)
 
 -- the information amended, none where a licence leaves the grammar; the free contents stay
 abbrev pub amended : Amendments → Info → Option Info

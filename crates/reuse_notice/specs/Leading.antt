@@ -1,4 +1,5 @@
--- What a merge makes of the notices of one holder (the reuse tool's manual page of `annotate`, `--merge-copyrights`; the
+-- What a merge makes of the notices of one holder (the reuse tool's manual page of `annotate`, `--merge-copyrights`;
+-- the
 -- details: docs/RULES.md, "Licensing information").
 use Rattle.std.specs.Prelude.{◌≡◌, ℕ, ◌≤◌, false, List, Option, None, Some, Contains, ◌⊎◌}
 use Rattle.std.specs.declared.cmp.Ordering.TheVariants.{Less}
@@ -22,11 +23,13 @@ pub record IsLeast (IsMeant : List ℕ → Type 0) (texts : List (List ℕ)) (te
   pub meant : IsMeant text
   pub least : (other : List ℕ) → Contains texts other → IsMeant other → (other ≡ text) ⊎ (byte_order text other ≡ Less)
 
--- the notice whose prefix is taken: the byte-least of the command's of the holder, or, where there is none, of all of the holder
+-- the notice whose prefix is taken: the byte-least of the command's of the holder, or, where there is none, of all of
+-- the holder
 abbrev pub Leads : List (List ℕ) → List (List ℕ) → List ℕ → List ℕ → Type 0
 Leads command notices holder text =
     IsLeast (IsCommanded command holder) notices text
-    ⊎ (((other : List ℕ) → Contains notices other → ¬ IsCommanded command holder other) × IsLeast (IsNoticeOf holder) notices text)
+    ⊎ (((other : List ℕ) → Contains notices other → ¬ IsCommanded command holder other)
+    × IsLeast (IsNoticeOf holder) notices text)
 
 -- a notice of the holder has these years
 pub record HasYears (notices : List (List ℕ)) (holder : List ℕ) (years : Years) : Type 0 where
@@ -59,6 +62,8 @@ pub record IsMergedNotice (command notices : List (List ℕ)) (holder text : Lis
   pub written : text ≡ notice_written notice.prefix years holder
 
 -- it isn't written where the holder has this notice alone, or where it would not read as it is meant
-abbrev pub StaysAsItIs : (command notices : List (List ℕ)) (holder text written : List ℕ) → IsMergedNotice command notices holder written → Type 0
+abbrev pub StaysAsItIs : (command notices : List (List ℕ)) (holder text written : List ℕ)
+    → IsMergedNotice command notices holder written → Type 0
 StaysAsItIs command notices holder text written merged =
-    ((other : List ℕ) → Contains notices other → IsNoticeOf holder other → other ≡ text) ⊎ (says merged.notice.prefix merged.years holder (notice_of written) ≡ false)
+    ((other : List ℕ) → Contains notices other → IsNoticeOf holder other → other ≡ text)
+    ⊎ (says merged.notice.prefix merged.years holder (notice_of written) ≡ false)

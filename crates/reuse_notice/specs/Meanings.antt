@@ -35,12 +35,15 @@ pub data Phrase : Rank → Type 0 where
 abbrev pub written : {rank : Rank} → Phrase rank → List (List ℕ × Token)
 written (name text plus) = (text, Identifier plus) ∷ []
 written (name_with text plus capitals exception) =
-    (text, Identifier plus) ∷ (if capitals then codes "WITH" else codes "with", With) ∷ (exception, Identifier false) ∷ []
+    (text, Identifier plus) ∷ (if capitals then codes "WITH" else codes "with", With)
+    ∷ (exception, Identifier false) ∷ []
 written (group inner) = (codes "(", Open) ∷ written inner ++ (codes ")", Close) ∷ []
 written (operand inner) = written inner
-written (joined_by_and left capitals right) = written left ++ (if capitals then codes "AND" else codes "and", Operator) ∷ written right
+written (joined_by_and left capitals right) =
+    written left ++ (if capitals then codes "AND" else codes "and", Operator) ∷ written right
 written (conjunction inner) = written inner
-written (joined_by_or left capitals right) = written left ++ (if capitals then codes "OR" else codes "or", Operator) ∷ written right
+written (joined_by_or left capitals right) =
+    written left ++ (if capitals then codes "OR" else codes "or", Operator) ∷ written right
 
 -- what it means; parentheses only say what belongs together
 abbrev pub meant : {rank : Rank} → Phrase rank → Meaning
@@ -69,6 +72,7 @@ exception_replaced r exception = if bytes_eq exception r.old && is_identifier r.
 -- a meaning with another one in the place of each licence that is the old text
 abbrev pub meaning_replaced : Replacement → Meaning → Meaning → Meaning
 meaning_replaced r new (licence text) = if bytes_eq text r.old then new else licence text
-meaning_replaced r new (excepted base exception) = excepted (meaning_replaced r new base) (exception_replaced r exception)
+meaning_replaced r new (excepted base exception) =
+    excepted (meaning_replaced r new base) (exception_replaced r exception)
 meaning_replaced r new (both left right) = both (meaning_replaced r new left) (meaning_replaced r new right)
 meaning_replaced r new (either left right) = either (meaning_replaced r new left) (meaning_replaced r new right)

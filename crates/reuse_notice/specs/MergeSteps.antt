@@ -24,7 +24,12 @@ prefix_if commanded prefix = if commanded then Some prefix else None
 
 -- a class with one notice more
 abbrev pub grown : Option Class → Bool → NoticeText → Class
-grown None commanded n = record { several = false; years = n.years; first = n.prefix; commanded = prefix_if commanded n.prefix }
+grown None commanded n = record {
+  several = false;
+  years = n.years;
+  first = n.prefix;
+  commanded = prefix_if commanded n.prefix;
+}
 grown (Some class) commanded n = record {
   several = true;
   years = joined_years class.years n.years;
@@ -39,7 +44,8 @@ summary command notices = fold (λ class n. Some (grown class (is_among command 
 -- the text that a class of two or more becomes, if it reads back
 abbrev pub summed_text : Option Class → List ℕ → Option (List ℕ)
 summed_text None holder = None
-summed_text (Some class) holder = if class.several then settled (unwrap_or class.commanded class.first) class.years holder else None
+summed_text (Some class) holder =
+    if class.several then settled (unwrap_or class.commanded class.first) class.years holder else None
 
 -- the class of a holder
 abbrev pub class_at : BTreeMap (Bor (List ℕ)) Class → List ℕ → Option Class

@@ -5,7 +5,8 @@ use Rattle.reuse_notice.specs.declared.expressions.Token.{Token}
 use Rattle.reuse_notice.specs.declared.expressions.Token.TheVariants.{Operator, With, Identifier}
 use Rattle.reuse_notice.specs.Expressions.{token_at, token_len}
 
--- the tokens of a text, each with its bytes; a space is a piece of its own, as a byte is that belongs to no token; `skip`
+-- the tokens of a text, each with its bytes; a space is a piece of its own, as a byte is that belongs to no token;
+-- `skip`
 -- bytes belong to the piece before
 unfoldable pub pieces_from : ℕ → List ℕ → List (List ℕ × Token)
 pieces_from skip [] = []

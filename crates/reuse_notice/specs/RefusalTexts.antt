@@ -15,5 +15,6 @@ refusal_text refusals.NothingToAdd = codes "nothing to add"
 refusal_text refusals.YearAndExclude = codes "--year and --exclude-year"
 refusal_text (refusals.BadYear text) = codes "bad year: " ++ shown text
 refusal_text (refusals.BadText text) = codes "bad text: " ++ shown text
-refusal_text (refusals.BadExpression text place) = codes "bad licence expression at " ++ decimal place ++ codes ": " ++ shown text
+refusal_text (refusals.BadExpression text place) =
+    codes "bad licence expression at " ++ decimal place ++ codes ": " ++ shown text
 refusal_text (refusals.Memory error) = codes "out of memory"

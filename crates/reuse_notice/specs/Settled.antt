@@ -1,5 +1,6 @@
 -- Amendments after which nothing is left to amend (this project's own).
-use Rattle.std.specs.Prelude.{◌≡◌, ◌≢◌, ◌≤◌, ℕ, nat_eq, Bool, true, ◌||◌, List, [], ◌∷◌, take, Option, None, Some, IsUtf8, codes}
+use Rattle.std.specs.Prelude.{◌≡◌, ◌≢◌, ◌≤◌, ℕ, nat_eq, Bool, true, ◌||◌, List, [], ◌∷◌, take, Option, None, Some}
+use Rattle.std.specs.Prelude.{IsUtf8, codes}
 use Rattle.std.specs.Char.{is_ascii_digit}
 use Rattle.std.specs.List.{AllByRecursion, list_any, starts_with}
 use Rattle.reuse_notice.specs.declared.replacements.Replacement.{Replacement}

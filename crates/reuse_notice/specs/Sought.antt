@@ -15,5 +15,7 @@ holds_old replacements bytes = list_any (λ r. holds r.old bytes) replacements
 -- whether the amendments set years or a prefix, or bytes hold a text that they name
 abbrev pub may_change : Amendments → List ℕ → Bool
 may_change a bytes =
-    is_some a.until || is_some a.prefix || holds_old a.replaced_licences bytes || holds_any a.removed_licences bytes || holds_old a.replaced_holders bytes
-    || holds_any a.removed_holders bytes || holds_old a.replaced_contributors bytes || holds_any a.removed_contributors bytes
+    is_some a.until || is_some a.prefix || holds_old a.replaced_licences bytes || holds_any a.removed_licences bytes
+    || holds_old a.replaced_holders bytes
+    || holds_any a.removed_holders bytes || holds_old a.replaced_contributors bytes
+    || holds_any a.removed_contributors bytes

@@ -1,9 +1,11 @@
 //! What a command adds to the licensing information of a file.
-ghost use Rattle.std.specs.Prelude.{◌≡◌, ◌≤◌, ◌<◌, ◌++◌, IfOk, IfErr, IfSome, OnOk, None, Some, All, IsUtf8, map, find, filter_map, fold, min, max};
+ghost use Rattle.std.specs.Prelude.{◌≡◌, ◌≤◌, ◌<◌, ◌++◌, IfOk, IfErr, IfSome, OnOk, None, Some, All, IsUtf8, map, find};
+ghost use Rattle.std.specs.Prelude.{filter_map, fold, min, max};
 ghost use Rattle.std.specs.Option.{option_map, option_to_list};
 ghost use Rattle.std.specs.List.{list_any};
 ghost use Rattle.reuse_notice.specs.Tags.{year_of};
-ghost use Rattle.reuse_notice.specs.Adding.{without_spaces, holds, is_bad_text, is_bad_year, is_control, bad_expression, bad_licence, four_digits, chosen_years, notice_written};
+ghost use Rattle.reuse_notice.specs.Adding.{without_spaces, holds, is_bad_text, is_bad_year, is_control};
+ghost use Rattle.reuse_notice.specs.Adding.{bad_expression, bad_licence, four_digits, chosen_years, notice_written};
 ghost use Rattle.reuse_notice.specs.Keeping.{HaveFourDigits};
 ghost use Rattle.reuse_notice.specs.RefusalTexts.{refusal_text};
 ghost use Rattle.reuse_notice.specs.Texts.{texts_of};
@@ -93,11 +95,13 @@ impl Additions {
         prefix: Prefix,
     ) -> Result<Additions, NoticeRefusal>
         requires { current ≤ 9999 }
-        ensures added { IfOk result (λ additions. let given = arguments copyrights.now licences.now contributors.now years.now exclude current prefix in
+        ensures added { IfOk result (λ additions.
+            let given = arguments copyrights.now licences.now contributors.now years.now exclude current prefix in
             (refusal_of given ≡ None) × (additions ≡ additions_of given)) }
         ensures plain { IfOk result (λ additions. ArePlain additions) }
         ensures utf8 { IfOk result (λ additions. AreUtf8 additions) }
-        ensures refused { IfErr result (λ e. let given = arguments copyrights.now licences.now contributors.now years.now exclude current prefix in
+        ensures refused { IfErr result
+            (λ e. let given = arguments copyrights.now licences.now contributors.now years.now exclude current prefix in
             IfSome (refusal_view e) (λ refusal. refusal_of given ≡ Some refusal)) }
     {
         if copyrights.is_empty() && licences.is_empty() && contributors.is_empty() {

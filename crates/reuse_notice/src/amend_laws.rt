@@ -17,7 +17,8 @@ ghost use Rattle.reuse_notice.specs.ExpressionSteps.{fault_of};
 ghost use Rattle.reuse_notice.specs.Adding.{without_spaces, is_bad_text, notice_written};
 ghost use Rattle.reuse_notice.specs.Merging.{says};
 ghost use Rattle.reuse_notice.specs.Plain.{IsPlain};
-ghost use Rattle.reuse_notice.specs.Settled.{NoLicenceComesBack, BringNothingBack, ReadsAsAmended, WritePlainTexts, CanBeWritten, HasFourDigits, may_be_misread};
+ghost use Rattle.reuse_notice.specs.Settled.{NoLicenceComesBack, BringNothingBack, ReadsAsAmended, WritePlainTexts};
+ghost use Rattle.reuse_notice.specs.Settled.{CanBeWritten, HasFourDigits, may_be_misread};
 
 /// A licence is its pieces, put together: its tokens and the bytes between them.
 pub fn licences_are_their_pieces()
@@ -28,21 +29,26 @@ pub fn licences_are_their_pieces()
 /// identifier is replaced within another; each contributor, and each notice of a holder, byte for
 /// byte.
 pub fn unnamed_information_stays()
-    ensures licences { (a : Amendments) (info new : Info) (value : List ℕ) → amended a info ≡ Some new → IsOtherLicence a value → Contains info.licences value → Contains new.licences value }
-    ensures contributors { (a : Amendments) (info new : Info) (text : List ℕ) → amended a info ≡ Some new → IsOtherContributor a text → Contains info.contributors text → Contains new.contributors text }
-    ensures notices { (a : Amendments) (info new : Info) (text : List ℕ) → amended a info ≡ Some new → IsOtherNotice a text → Contains info.notices text → Contains new.notices text }
+    ensures licences { (a : Amendments) (info new : Info) (value : List ℕ) → amended a info ≡ Some new
+        → IsOtherLicence a value → Contains info.licences value → Contains new.licences value }
+    ensures contributors { (a : Amendments) (info new : Info) (text : List ℕ) → amended a info ≡ Some new
+        → IsOtherContributor a text → Contains info.contributors text → Contains new.contributors text }
+    ensures notices { (a : Amendments) (info new : Info) (text : List ℕ) → amended a info ≡ Some new
+        → IsOtherNotice a text → Contains info.notices text → Contains new.notices text }
     ensures free { (a : Amendments) (info new : Info) → amended a info ≡ Some new → new.free ≡ info.free }
 {}
 
 /// The years of an amended notice include those that it had: none is lowered at its end.
 pub fn amended_years_include_the_old()
-    ensures { (a : Amendments) (notice : NoticeText) (holder : List ℕ) → Include (years_amended a notice holder) notice.years }
+    ensures { (a : Amendments) (notice : NoticeText) (holder : List ℕ)
+        → Include (years_amended a notice holder) notice.years }
 {}
 
 /// Information says the same exactly where the notices, the contributors and the licences are the
 /// same.
 pub fn the_same_is_said_by_the_same()
-    ensures { (info other : Info) → (says_the_same info other ≡ true) ↔ ((info.notices ≡ other.notices) × (info.contributors ≡ other.contributors) × (info.licences ≡ other.licences)) }
+    ensures { (info other : Info) → (says_the_same info other ≡ true) ↔ ((info.notices ≡ other.notices)
+        × (info.contributors ≡ other.contributors) × (info.licences ≡ other.licences)) }
 {}
 
 /// A text has a meaning exactly if it is an expression, and then one alone.
@@ -55,15 +61,20 @@ pub fn expressions_have_one_meaning()
 /// An identifier that is replaced leaves the rest of the meaning: the new expression means the old
 /// one with NEW in the place of each licence that is OLD.
 pub fn replaced_licences_keep_their_meaning()
-    ensures { (r : Replacement) (value result : List ℕ) (meaning new : Meaning) → is_identifier r.old ≡ true → Means value meaning → Means r.new new → licence_replaced r value ≡ Some result → Means result (meaning_replaced r new meaning) }
+    ensures { (r : Replacement) (value result : List ℕ) (meaning new : Meaning) → is_identifier r.old ≡ true
+        → Means value meaning → Means r.new new → licence_replaced r value ≡ Some result
+        → Means result (meaning_replaced r new meaning) }
 {}
 
 /// Amending what was amended changes nothing: not a licence, if the replacements bring in no
 /// licence that one of them replaced before; nor the information, if none brings back what it
 /// replaced, and each notice is read with what it was to say.
 pub fn second_amendments_change_nothing()
-    ensures licences { (replacements : List Replacement) (value new : List ℕ) → NoLicenceComesBack replacements → licence_amended replacements value ≡ Some new → licence_amended replacements new ≡ Some new }
-    ensures information { (a : Amendments) (info new : Info) → BringNothingBack a → ((text : List ℕ) → Contains info.notices text → ReadsAsAmended a text) → amended a info ≡ Some new → amended a new ≡ Some new }
+    ensures licences { (replacements : List Replacement) (value new : List ℕ) → NoLicenceComesBack replacements
+        → licence_amended replacements value ≡ Some new → licence_amended replacements new ≡ Some new }
+    ensures information { (a : Amendments) (info new : Info) → BringNothingBack a
+        → ((text : List ℕ) → Contains info.notices text → ReadsAsAmended a text) → amended a info ≡ Some new
+        → amended a new ≡ Some new }
 {}
 
 /// What amendments take to be written in the place of others is plain: expressions, and the texts
@@ -78,8 +89,10 @@ pub fn replacing_texts_are_plain()
 /// holder begins neither as years may go on nor as a prefix may. So is each that amendments write,
 /// if their texts are plain and their year has four digits.
 pub fn written_notices_are_read()
-    ensures written { (prefix : Prefix) (years : Option Years) (holder : List ℕ) → CanBeWritten years → all_blank holder ≡ false → trimmed is_blank holder ≡ holder → may_be_misread holder ≡ false
+    ensures written { (prefix : Prefix) (years : Option Years) (holder : List ℕ) → CanBeWritten years
+        → all_blank holder ≡ false → trimmed is_blank holder ≡ holder → may_be_misread holder ≡ false
         → says prefix years holder (notice_of (notice_written prefix years holder)) ≡ true }
     ensures amended { (a : Amendments) (text : List ℕ) → WritePlainTexts a → HasFourDigits a.until
-        → ((notice : NoticeText) → notice_of text ≡ Some notice → may_be_misread (text_amended a.replaced_holders notice.holder) ≡ false) → ReadsAsAmended a text }
+        → ((notice : NoticeText) → notice_of text ≡ Some notice
+        → may_be_misread (text_amended a.replaced_holders notice.holder) ≡ false) → ReadsAsAmended a text }
 {}

@@ -88,9 +88,11 @@ impl Amendments {
         old: &str,
         new: &str,
     ) -> Result<(), NoticeRefusal>
-        ensures ok { OnOk result ((fault_of (without_spaces new.now) ≡ None) × (self.new ≡ record self.old { replaced_licences = self.old.replaced_licences ++ replacement old.now new.now ∷ [] })) }
+        ensures ok { OnOk result ((fault_of (without_spaces new.now) ≡ None) × (self.new
+            ≡ record self.old { replaced_licences = self.old.replaced_licences ++ replacement old.now new.now ∷ [] })) }
         ensures err { OnErr result (self.new ≡ self.old) }
-        ensures refused { IfErr result (λ e. IfSome (refusal_view e) (λ refusal. bad_licence (without_spaces new.now ∷ []) ≡ Some refusal)) }
+        ensures refused { IfErr result
+            (λ e. IfSome (refusal_view e) (λ refusal. bad_licence (without_spaces new.now ∷ []) ≡ Some refusal)) }
     {
         let text = trim_spaces(new);
         if let Some(place) = find_fault(text) {
@@ -106,7 +108,8 @@ impl Amendments {
     /// # Errors
     /// There was no memory, as on the other errors of this type.
     pub fn remove_licence(&mut self, alloc: Global, text: &str) -> Result<(), AllocError>
-        ensures ok { OnOk result (self.new ≡ record self.old { removed_licences = self.old.removed_licences ++ without_spaces text.now ∷ [] }) }
+        ensures ok { OnOk result (self.new
+            ≡ record self.old { removed_licences = self.old.removed_licences ++ without_spaces text.now ∷ [] }) }
         ensures err { OnErr result (self.new ≡ self.old) }
     {
         self.removed_licences.push(copy_text(alloc, text)?)
@@ -122,9 +125,11 @@ impl Amendments {
         old: &str,
         new: &str,
     ) -> Result<(), NoticeRefusal>
-        ensures ok { OnOk result ((is_bad_text (without_spaces new.now) ≡ false) × (self.new ≡ record self.old { replaced_holders = self.old.replaced_holders ++ replacement old.now new.now ∷ [] })) }
+        ensures ok { OnOk result ((is_bad_text (without_spaces new.now) ≡ false) × (self.new
+            ≡ record self.old { replaced_holders = self.old.replaced_holders ++ replacement old.now new.now ∷ [] })) }
         ensures err { OnErr result (self.new ≡ self.old) }
-        ensures refused { IfErr result (λ e. IfSome (refusal_view e) (λ refusal. (is_bad_text (without_spaces new.now) ≡ true) × (refusal ≡ bad_text (without_spaces new.now)))) }
+        ensures refused { IfErr result (λ e. IfSome (refusal_view e) (λ refusal.
+            (is_bad_text (without_spaces new.now) ≡ true) × (refusal ≡ bad_text (without_spaces new.now)))) }
     {
         let text = trim_spaces(new);
         if is_unfit(text) {
@@ -137,7 +142,8 @@ impl Amendments {
 
     /// Notices of the holder go.
     pub fn remove_holder(&mut self, alloc: Global, holder: &str) -> Result<(), AllocError>
-        ensures ok { OnOk result (self.new ≡ record self.old { removed_holders = self.old.removed_holders ++ without_spaces holder.now ∷ [] }) }
+        ensures ok { OnOk result (self.new
+            ≡ record self.old { removed_holders = self.old.removed_holders ++ without_spaces holder.now ∷ [] }) }
         ensures err { OnErr result (self.new ≡ self.old) }
     {
         self.removed_holders.push(copy_text(alloc, holder)?)
@@ -153,9 +159,14 @@ impl Amendments {
         old: &str,
         new: &str,
     ) -> Result<(), NoticeRefusal>
-        ensures ok { OnOk result ((is_bad_text (without_spaces new.now) ≡ false) × (self.new ≡ record self.old { replaced_contributors = self.old.replaced_contributors ++ replacement old.now new.now ∷ [] })) }
+        ensures ok { OnOk result ((is_bad_text (without_spaces new.now) ≡ false)
+            × (self.new ≡ record self.old {
+              replaced_contributors = self.old.replaced_contributors ++ replacement
+                  old.now new.now ∷ [];
+            })) }
         ensures err { OnErr result (self.new ≡ self.old) }
-        ensures refused { IfErr result (λ e. IfSome (refusal_view e) (λ refusal. (is_bad_text (without_spaces new.now) ≡ true) × (refusal ≡ bad_text (without_spaces new.now)))) }
+        ensures refused { IfErr result (λ e. IfSome (refusal_view e) (λ refusal.
+            (is_bad_text (without_spaces new.now) ≡ true) × (refusal ≡ bad_text (without_spaces new.now)))) }
     {
         let text = trim_spaces(new);
         if is_unfit(text) {
@@ -168,7 +179,10 @@ impl Amendments {
 
     /// Contributors that are `text` go.
     pub fn remove_contributor(&mut self, alloc: Global, text: &str) -> Result<(), AllocError>
-        ensures ok { OnOk result (self.new ≡ record self.old { removed_contributors = self.old.removed_contributors ++ without_spaces text.now ∷ [] }) }
+        ensures ok { OnOk result (self.new ≡ record self.old {
+          removed_contributors = self.old.removed_contributors
+              ++ without_spaces text.now ∷ [];
+        }) }
         ensures err { OnErr result (self.new ≡ self.old) }
     {
         self.removed_contributors.push(copy_text(alloc, text)?)
@@ -179,9 +193,11 @@ impl Amendments {
     /// # Errors
     /// `BadYear` where `year` is not four ASCII digits.
     pub fn set_until(&mut self, alloc: Global, year: &str) -> Result<(), NoticeRefusal>
-        ensures ok { OnOk result ((is_bad_year (without_spaces year.now) ≡ false) × (self.new ≡ record self.old { until = year_of (without_spaces year.now) })) }
+        ensures ok { OnOk result ((is_bad_year (without_spaces year.now) ≡ false)
+            × (self.new ≡ record self.old { until = year_of (without_spaces year.now) })) }
         ensures err { OnErr result (self.new ≡ self.old) }
-        ensures refused { IfErr result (λ e. IfSome (refusal_view e) (λ refusal. (is_bad_year (without_spaces year.now) ≡ true) × (refusal ≡ bad_year (without_spaces year.now)))) }
+        ensures refused { IfErr result (λ e. IfSome (refusal_view e) (λ refusal.
+            (is_bad_year (without_spaces year.now) ≡ true) × (refusal ≡ bad_year (without_spaces year.now)))) }
     {
         let text = trim_spaces(year);
         match parse_year(text) {

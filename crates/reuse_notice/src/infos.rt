@@ -3,7 +3,8 @@ ghost use Rattle.std.specs.Prelude.{◌≡◌, ◌++◌, IfOk, OnOk, map, filter
 ghost use Rattle.std.specs.Option.{option_map, option_to_list};
 ghost use Rattle.reuse_notice.specs.Sets.{IsSorted};
 ghost use Rattle.reuse_notice.specs.Tags.{tag_of, drop_front, drop_end};
-ghost use Rattle.reuse_notice.specs.Contents.{notice_text, contributor_value, licence_value, is_blank_content, untagged, with_content, with_free};
+ghost use Rattle.reuse_notice.specs.Contents.{notice_text, contributor_value, licence_value, is_blank_content};
+ghost use Rattle.reuse_notice.specs.Contents.{untagged, with_content, with_free};
 ghost use Rattle.reuse_notice.specs.TagViews.{tag_view};
 
 use crate::adding::Additions;
@@ -153,9 +154,12 @@ struct Found {
 impl Found {
     // Adds the tag of one more content, or the content itself.
     fn add(&mut self, alloc: Global, content: &[u8], punct: &[u8]) -> Result<(), AllocError>
-        ensures notices { OnOk result (self.new.notices.items ≡ self.old.notices.items ++ option_to_list (notice_text (tag_of punct.now content.now))) }
-        ensures contributors { OnOk result (self.new.contributors.items ≡ self.old.contributors.items ++ option_to_list (contributor_value (tag_of punct.now content.now))) }
-        ensures licences { OnOk result (self.new.licences.items ≡ self.old.licences.items ++ option_to_list (licence_value (tag_of punct.now content.now))) }
+        ensures notices { OnOk result (self.new.notices.items ≡ self.old.notices.items ++ option_to_list
+            (notice_text (tag_of punct.now content.now))) }
+        ensures contributors { OnOk result (self.new.contributors.items ≡ self.old.contributors.items ++ option_to_list
+            (contributor_value (tag_of punct.now content.now))) }
+        ensures licences { OnOk result (self.new.licences.items ≡ self.old.licences.items ++ option_to_list
+            (licence_value (tag_of punct.now content.now))) }
         ensures free { OnOk result (self.new.free.items ≡ with_free punct.now self.old.free.items content.now) }
     {
         self.add_tag(alloc, read_tag(content, punct), content, punct)
@@ -169,10 +173,14 @@ impl Found {
         content: &[u8],
         punct: &[u8],
     ) -> Result<(), AllocError>
-        ensures notices { OnOk result (self.new.notices.items ≡ self.old.notices.items ++ option_to_list (notice_text (option_map tag_view tag.entry))) }
-        ensures contributors { OnOk result (self.new.contributors.items ≡ self.old.contributors.items ++ option_to_list (contributor_value (option_map tag_view tag.entry))) }
-        ensures licences { OnOk result (self.new.licences.items ≡ self.old.licences.items ++ option_to_list (licence_value (option_map tag_view tag.entry))) }
-        ensures free { OnOk result (self.new.free.items ≡ with_content (option_map tag_view tag.entry) punct.now self.old.free.items content.now) }
+        ensures notices { OnOk result (self.new.notices.items ≡ self.old.notices.items ++ option_to_list
+            (notice_text (option_map tag_view tag.entry))) }
+        ensures contributors { OnOk result (self.new.contributors.items ≡ self.old.contributors.items ++ option_to_list
+            (contributor_value (option_map tag_view tag.entry))) }
+        ensures licences { OnOk result (self.new.licences.items ≡ self.old.licences.items ++ option_to_list
+            (licence_value (option_map tag_view tag.entry))) }
+        ensures free { OnOk result (self.new.free.items ≡ with_content
+            (option_map tag_view tag.entry) punct.now self.old.free.items content.now) }
     {
         match tag {
             Some(Tag::Notice(notice)) => {
@@ -196,10 +204,14 @@ impl Found {
 
 // The tags of contents, and the contents without one.
 fn find_tags(alloc: Global, contents: &[&[u8]], punct: &[u8]) -> Result<Found, AllocError>
-    ensures notices { IfOk result (λ found. found.notices.items ≡ filter_map (λ c. notice_text (tag_of punct.now c.now)) contents.now) }
-    ensures contributors { IfOk result (λ found. found.contributors.items ≡ filter_map (λ c. contributor_value (tag_of punct.now c.now)) contents.now) }
-    ensures licences { IfOk result (λ found. found.licences.items ≡ filter_map (λ c. licence_value (tag_of punct.now c.now)) contents.now) }
-    ensures free { IfOk result (λ found. found.free.items ≡ drop_front (is_blank_content punct.now) (untagged punct.now (map (λ c. c.now) contents.now))) }
+    ensures notices { IfOk result
+        (λ found. found.notices.items ≡ filter_map (λ c. notice_text (tag_of punct.now c.now)) contents.now) }
+    ensures contributors { IfOk result (λ found. found.contributors.items ≡ filter_map
+        (λ c. contributor_value (tag_of punct.now c.now)) contents.now) }
+    ensures licences { IfOk result
+        (λ found. found.licences.items ≡ filter_map (λ c. licence_value (tag_of punct.now c.now)) contents.now) }
+    ensures free { IfOk result (λ found. found.free.items ≡ drop_front (is_blank_content punct.now)
+        (untagged punct.now (map (λ c. c.now) contents.now))) }
 {
     let mut found = Found {
         notices: Vec::new(alloc),

@@ -47,7 +47,8 @@ fn gather_classes<'a>(
     notices: &'a [Bytes],
     command: &[Bytes],
 ) -> Result<BTreeMap<&'a [u8], Class>, AllocError>
-    ensures { IfOk result (λ classes. (holder : List ℕ) → class_at classes holder ≡ summary command.now (class_of notices.now holder)) }
+    ensures { IfOk result
+        (λ classes. (holder : List ℕ) → class_at classes holder ≡ summary command.now (class_of notices.now holder)) }
 {
     let commanded = gather_texts(alloc, command)?;
     let mut classes = BTreeMap::new(alloc);
@@ -117,7 +118,8 @@ fn merge_one(
     text: &[u8],
     classes: &BTreeMap<&[u8], Class>,
 ) -> Result<Bytes, AllocError>
-    ensures { IfOk result (λ merged. merged ≡ unwrap_or (option_and_then (λ n. summed_text (class_at classes.now n.holder) n.holder) (notice_of text.now)) text.now) }
+    ensures { IfOk result (λ merged. merged ≡ unwrap_or
+        (option_and_then (λ n. summed_text (class_at classes.now n.holder) n.holder) (notice_of text.now)) text.now) }
 {
     if let Some(notice) = read_notice(text) {
         if let Some(class) = classes.get(notice.holder) {

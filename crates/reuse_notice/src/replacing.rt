@@ -4,7 +4,8 @@ ghost use Rattle.std.specs.Prelude.{◌≡◌, ◌++◌, ◌<◌, ◌≤◌, IfO
 ghost use Rattle.std.specs.Prelude.{◌&&◌, ◌||◌, not, if◌then◌else◌};
 ghost use Rattle.std.specs.Str.{bytes_eq};
 ghost use Rattle.reuse_notice.specs.Pieces.{is_identifier, has_operator, is_operator, is_name};
-ghost use Rattle.reuse_notice.specs.Amending.{operand, is_behind_with, piece_replaced, expression_replaced, licence_replaced, licence_amended};
+ghost use Rattle.reuse_notice.specs.Amending.{operand, is_behind_with, piece_replaced, expression_replaced};
+ghost use Rattle.reuse_notice.specs.Amending.{licence_replaced, licence_amended};
 ghost use Rattle.reuse_notice.specs.AmendmentViews.{IsAnswer};
 
 use crate::amendments::AmendRefusal;
@@ -112,7 +113,8 @@ fn choose_piece<'a>(
     is_alone: bool,
     behind_with: bool,
 ) -> &'a [u8]
-    ensures { result.now ≡ (if bytes_eq piece.now old.now && (is_alone || not behind_with) then new.now else piece.now) }
+    ensures { result.now
+        ≡ (if bytes_eq piece.now old.now && (is_alone || not behind_with) then new.now else piece.now) }
 {
     if piece == old && (is_alone || !behind_with) {
         new

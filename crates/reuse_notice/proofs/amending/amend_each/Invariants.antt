@@ -5,4 +5,5 @@ use Rattle.reuse_notice.proofs.amending.amend_each.Given as goal
 
 abbrev pub invariant-loop-value : goal.invariant-loop-value
 invariant-loop-value l =
-    option_map (λ others. l.texts ++ others) (each_made (licence_amended l.replacements) (drop l.value-index l.licences)) ≡ each_made (licence_amended l.replacements) l.licences
+    option_map (λ others. l.texts ++ others) (each_made (licence_amended l.replacements)
+    (drop l.value-index l.licences)) ≡ each_made (licence_amended l.replacements) l.licences

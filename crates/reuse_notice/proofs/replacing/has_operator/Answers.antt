@@ -9,14 +9,18 @@ pub returns-then-is_operator : goal.returns-then-is_operator
 returns-then-is_operator c =
     let low : 0 < length c.loop-rest.rest.now = search rules in
     operates-stop c.loop-rest.rest.now (has_operator c.args.text.now) low
-    (ap is_operator (sym c.read_token.ensures) ∙ sym c.is_operator.ensures ∙ c.if-is_operator.true) c.loop-rest.invariant
+    (ap is_operator (sym c.read_token.ensures) ∙ sym c.is_operator.ensures ∙ c.if-is_operator.true)
+    c.loop-rest.invariant
 
 pub loop-rest-preserved : goal.loop-rest-preserved
 loop-rest-preserved c =
     let low : 0 < length c.loop-rest.rest.now = search rules in
-    subst (λ xs. list_any (λ p. is_operator p.1) (pieces_of xs) ≡ has_operator c.args.text.now) (sym c.after_token-rest.ensures.rest)
-    (operates-more c.loop-rest.rest.now (token_len c.loop-rest.rest.now) (has_operator c.args.text.now) low c.after_token-rest.ensures.some refl
-    (ap is_operator (sym c.read_token.ensures) ∙ sym c.is_operator.ensures ∙ c.if-is_operator.false) c.loop-rest.invariant)
+    subst (λ xs. list_any (λ p. is_operator p.1) (pieces_of xs) ≡ has_operator c.args.text.now)
+    (sym c.after_token-rest.ensures.rest)
+    (operates-more c.loop-rest.rest.now (token_len c.loop-rest.rest.now)
+    (has_operator c.args.text.now) low c.after_token-rest.ensures.some refl
+    (ap is_operator (sym c.read_token.ensures) ∙ sym c.is_operator.ensures ∙ c.if-is_operator.false)
+    c.loop-rest.invariant)
 
 pub returns : goal.returns
 returns c =

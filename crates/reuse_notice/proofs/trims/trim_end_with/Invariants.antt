@@ -4,7 +4,8 @@ use Rattle.reuse_notice.specs.Trims.{IsTest}
 use Rattle.reuse_notice.proofs.trims.trim_end_with.Given as goal
 
 abbrev pub invariant-loop-rest : goal.invariant-loop-rest
-invariant-loop-rest g l = (test : ℕ → Bool) → IsTest (goal.F-post g l.passes) test → drop_end test l.rest ≡ drop_end test l.bytes
+invariant-loop-rest g l =
+    (test : ℕ → Bool) → IsTest (goal.F-post g l.passes) test → drop_end test l.rest ≡ drop_end test l.bytes
 
 abbrev pub decreases-loop-rest : goal.decreases-loop-rest
 decreases-loop-rest g l = length l.rest
