@@ -1,5 +1,6 @@
 -- Amended information reads back, and its lines are contents, where the new texts are plain.
-use Rattle.std.proofs.Common.{◌≡◌, ℕ, Bool, true, false, cond, List, [], ◌∷◌, map, Option, None, Some, refl, sym, subst, ◌∙◌, inl, inr, ◌⊎◌}
+use Rattle.std.proofs.Common.{◌≡◌, ℕ, Bool, true, false, cond, List, [], ◌∷◌, map, Option, None, Some, refl, sym, subst}
+use Rattle.std.proofs.Common.{◌∙◌, inl, inr, ◌⊎◌}
 use Rattle.std.specs.Prelude.{not, filter_map, All}
 use Rattle.std.specs.Option.{option_map, option_map_or, option_and_then}
 use Rattle.std.specs.List.{AllByRecursion}
@@ -19,7 +20,8 @@ use Rattle.reuse_notice.specs.MergeSteps.{is_among}
 use Rattle.reuse_notice.specs.Plain.{IsPlain}
 use Rattle.reuse_notice.specs.Sets.{IsSorted}
 use Rattle.reuse_notice.specs.AmendmentLists.{without}
-use Rattle.reuse_notice.specs.Amending.{text_replaced, text_amended, licence_amended, each_made, years_amended, prefix_amended, notice_saying, holder_amended, notice_amended, amended}
+use Rattle.reuse_notice.specs.Amending.{text_replaced, text_amended, licence_amended, each_made, years_amended}
+use Rattle.reuse_notice.specs.Amending.{prefix_amended, notice_saying, holder_amended, notice_amended, amended}
 use Rattle.reuse_notice.specs.Settled.{WritePlainTexts}
 use Rattle.reuse_notice.proofs.ClassLemmas.{text_kept}
 use Rattle.reuse_notice.proofs.UnnamedLemmas.{are_amended}
@@ -34,10 +36,13 @@ use Rattle.reuse_header.specs.Writing.{contributor_text, licence_text, block_lin
 use Rattle.reuse_header.specs.Reading.{IsSayable}
 use Rattle.reuse_header.specs.Laws.{AreContents}
 use Rattle.reuse_header.specs.LowerLaws.{Known}
-use Rattle.reuse_header.proofs.SayableLemmas.{IsValue, Each, all_of_each, each_of_all, each_set, contributor_again, licence_again, contributor_read, licence_read, info_sayable, found_clean, neighbour_clean}
+use Rattle.reuse_header.proofs.SayableLemmas.{IsValue, Each, all_of_each, each_of_all, each_set, contributor_again}
+use Rattle.reuse_header.proofs.SayableLemmas.{licence_again, contributor_read, licence_read, info_sayable, found_clean}
+use Rattle.reuse_header.proofs.SayableLemmas.{neighbour_clean}
 use Rattle.reuse_header.proofs.PlainLemmas.{NoFillers, letters, no_letters, plain_value, value_notice}
 use Rattle.reuse_header.proofs.InfoLemmas.{each_said_of, each_filtered}
-use Rattle.reuse_header.proofs.FeedLemmas.{Feedless, HasNoFeed, plain_feedless, written_feedless, holder_feedless, found_feedless, neighbour_feedless, info_feedless}
+use Rattle.reuse_header.proofs.FeedLemmas.{Feedless, HasNoFeed, plain_feedless, written_feedless, holder_feedless}
+use Rattle.reuse_header.proofs.FeedLemmas.{found_feedless, neighbour_feedless, info_feedless}
 use Rattle.reuse_header.proofs.LinesLemmas.{sayable_contents, sayable_neighbour}
 
 -- ---- what holds of each old text and of each new one holds of what becomes of the old
@@ -92,9 +97,17 @@ pub notice_becomes : (a : Amendments) (text new : List ℕ) → notice_amended a
 notice_becomes a text new e = by (notice_of text) refl e
   where
     saying : (n : NoticeText) → notice_of text ≡ Some n → (b : Bool) (prefix : Prefix)
-        → (let holder = text_amended a.replaced_holders n.holder in cond b n.text (notice_written prefix (years_amended a n holder) holder) ≡ new → (text ≡ new) ⊎ IsWrittenAnew a text new)
+        → (let holder = text_amended a.replaced_holders n.holder in cond b n.text
+        (notice_written prefix (years_amended a n holder) holder) ≡ new → (text ≡ new) ⊎ IsWrittenAnew a text new)
     saying n read true prefix same = inl (sym (text_kept text n read) ∙ same)
-    saying n read false prefix same = inr (record { notice = n; prefix = prefix; read = read; holder = text_amended a.replaced_holders n.holder; holder_is = refl; written = same })
+    saying n read false prefix same = inr (record {
+      notice = n;
+      prefix = prefix;
+      read = read;
+      holder = text_amended a.replaced_holders n.holder;
+      holder_is = refl;
+      written = same;
+    })
 
     stays : (b : Bool) (made : List ℕ) → cond b None (Some made) ≡ Some new → made ≡ new
     stays true made e' = absurd (let none : ⊥ = cc e' in none)
@@ -108,7 +121,8 @@ notice_becomes a text new e = by (notice_of text) refl e
         let holder = text_amended a.replaced_holders n.holder in
         saying n read (says (prefix_amended a n holder) (years_amended a n holder) holder (Some n))
         (prefix_amended a n holder)
-        (stays (is_among a.removed_holders holder) (notice_saying (prefix_amended a n holder) (years_amended a n holder) holder n) e')
+        (stays (is_among a.removed_holders holder)
+        (notice_saying (prefix_amended a n holder) (years_amended a n holder) holder n) e')
 
 -- what has to be known of the texts
 pub record Turns (a : Amendments) (N C L : List ℕ → Type 0) : Type 0 where
@@ -129,9 +143,11 @@ turned a N C L w old new e h =
       notices = subst (Each N) (sym parts.new_notices)
           (each_set N _ (each_said_of N (notice_amended a) old.notices w.notice h.notices));
       contributors = subst (Each C) (sym parts.new_contributors)
-          (each_set C _ (each_filtered C (λ text. not (is_among a.removed_contributors text)) _ (each_mapped C (text_amended a.replaced_contributors) old.contributors w.contributor h.contributors)));
+          (each_set C _ (each_filtered C (λ text. not (is_among a.removed_contributors text)) _
+          (each_mapped C (text_amended a.replaced_contributors) old.contributors w.contributor h.contributors)));
       licences = subst (Each L) (sym parts.new_licences)
-          (each_set L _ (each_filtered L (λ text. not (is_among a.removed_licences text)) parts.licences (each_made_of L (licence_amended a.replaced_licences) old.licences parts.licences w.licence h.licences parts.made)));
+          (each_set L _ (each_filtered L (λ text. not (is_among a.removed_licences text)) parts.licences (each_made_of L
+          (licence_amended a.replaced_licences) old.licences parts.licences w.licence h.licences parts.made)));
     }
 
 -- ---- amended information reads back
@@ -147,19 +163,23 @@ licence_value_kept : (a : Amendments) → WritePlainTexts a → (value new : Lis
     → licence_amended a.replaced_licences value ≡ Some new → IsValue new
 licence_value_kept a plain value new is e =
     let whole = whole_kept a.replaced_licences
-    (all_by (λ r. IsPlain r.new) (λ r. IsWhole r.new) a.replaced_licences (λ r h. let v = plain_value r.new h in record { some = v.some; trim = v.trim }) plain.licences)
+    (all_by (λ r. IsPlain r.new) (λ r. IsWhole r.new) a.replaced_licences
+    (λ r h. let v = plain_value r.new h in record { some = v.some; trim = v.trim }) plain.licences)
     value new (record { some = is.some; trim = is.trim }) e in
     record { some = whole.some; trim = whole.trim }
 
 sayable_turns : Known → (punct : List ℕ) → NoFillers punct → (a : Amendments) → WritePlainTexts a
-    → Turns a (λ t. notice_text (tag_of punct t) ≡ Some t) (λ v. contributor_value (tag_of punct (contributor_text v)) ≡ Some v) (λ v. licence_value (tag_of punct (licence_text v)) ≡ Some v)
+    → Turns a (λ t. notice_text (tag_of punct t) ≡ Some t) (λ v. contributor_value
+    (tag_of punct (contributor_text v)) ≡ Some v) (λ v. licence_value (tag_of punct (licence_text v)) ≡ Some v)
 sayable_turns known punct fillers a plain = record {
   notice = notice;
   contributor = λ text said.
       contributor_again punct (text_amended a.replaced_contributors text) fillers.s
-      (text_kept_by IsValue a.replaced_contributors text (all_by (λ r. IsPlain r.new) (λ r. IsValue r.new) a.replaced_contributors (λ r h. plain_value r.new h) plain.contributors)
+      (text_kept_by IsValue a.replaced_contributors text (all_by (λ r. IsPlain r.new)
+      (λ r. IsValue r.new) a.replaced_contributors (λ r h. plain_value r.new h) plain.contributors)
       (contributor_read (stripped punct (contributor_text text)) text said));
-  licence = λ value new said e. licence_again punct new fillers.s (licence_value_kept a plain value new (licence_read (stripped punct (licence_text value)) value said) e);
+  licence = λ value new said e. licence_again punct new fillers.s
+      (licence_value_kept a plain value new (licence_read (stripped punct (licence_text value)) value said) e);
 }
   where
     notice : (text new : List ℕ) → notice_text (tag_of punct text) ≡ Some text → notice_amended a text ≡ Some new
@@ -204,17 +224,22 @@ amended_sayable known punct fillers a plain old new e s =
 feedless_turns : (a : Amendments) → WritePlainTexts a → Turns a Feedless Feedless Feedless
 feedless_turns a plain = record {
   notice = notice;
-  contributor = λ text f. text_kept_by Feedless a.replaced_contributors text (all_by (λ r. IsPlain r.new) (λ r. Feedless r.new) a.replaced_contributors (λ r h. plain_feedless r.new h) plain.contributors) f;
-  licence = λ value new f e. feedless_kept a.replaced_licences (all_by (λ r. IsPlain r.new) (λ r. Feedless r.new) a.replaced_licences (λ r h. plain_feedless r.new h) plain.licences) value new f e;
+  contributor = λ text f. text_kept_by Feedless a.replaced_contributors text (all_by (λ r. IsPlain r.new)
+      (λ r. Feedless r.new) a.replaced_contributors (λ r h. plain_feedless r.new h) plain.contributors) f;
+  licence = λ value new f e. feedless_kept a.replaced_licences (all_by (λ r. IsPlain r.new)
+      (λ r. Feedless r.new) a.replaced_licences (λ r h. plain_feedless r.new h) plain.licences) value new f e;
 }
   where
     notice : (text new : List ℕ) → Feedless text → notice_amended a text ≡ Some new → Feedless new
     notice text new f e = elim (notice_becomes a text new e) [
       | inl same ↦ subst Feedless same f
-      | inr w ↦ (let new_are = all_by (λ r. IsPlain r.new) (λ r. Feedless r.new) a.replaced_holders (λ r h. plain_feedless r.new h) plain.holders in
-          let kept = text_kept_by Feedless a.replaced_holders w.notice.holder new_are (holder_feedless text w.notice w.read f) in
+      | inr w ↦ (let new_are = all_by (λ r. IsPlain r.new) (λ r. Feedless r.new) a.replaced_holders
+          (λ r h. plain_feedless r.new h) plain.holders in
+          let kept =
+          text_kept_by Feedless a.replaced_holders w.notice.holder new_are (holder_feedless text w.notice w.read f) in
           subst Feedless w.written
-          (written_feedless w.prefix (years_amended a w.notice w.holder) w.holder (subst Feedless (sym w.holder_is) kept)))
+          (written_feedless w.prefix (years_amended a w.notice w.holder) w.holder
+          (subst Feedless (sym w.holder_is) kept)))
     ]
 
 amended_feedless : (a : Amendments) → WritePlainTexts a → (old new : Info) → amended a old ≡ Some new → HasNoFeed old
@@ -233,7 +258,8 @@ amended_feedless a plain old new e h =
 -- ---- what is written of a header block, and of a neighbour
 
 pub amended_reads : Known → ((text : List ℕ) → AreLines (lines_of text))
-    → (style : Style) (a : Amendments) (file : List ℕ) (span : HeaderSpan) (new : Info) (kind : LineKind) (form : Form) (marks : LineMarks)
+    → (style : Style) (a : Amendments) (file : List ℕ) (span : HeaderSpan) (new : Info) (kind : LineKind) (form : Form)
+    (marks : LineMarks)
     → WritePlainTexts a → option_map (span_in file) (header_of style file) ≡ Some span
     → amended a (info_of (punctuation_of style) span.contents) ≡ Some new → marks_of style form ≡ Some marks
     → (IsSayable (punctuation_of style) new) × (AreContents kind (block_lines marks new))

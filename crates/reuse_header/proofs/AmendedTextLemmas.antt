@@ -1,5 +1,6 @@
 -- What amending makes of text is text.
-use Rattle.std.proofs.Common.{◌≡◌, ℕ, Bool, true, false, List, [], ◌∷◌, ◌++◌, take, drop, Option, None, Some, refl, sym, ap, subst, ◌∙◌, inl, inr}
+use Rattle.std.proofs.Common.{◌≡◌, ℕ, Bool, true, false, List, [], ◌∷◌, ◌++◌, take, drop, Option, None, Some, refl, sym}
+use Rattle.std.proofs.Common.{ap, subst, ◌∙◌, inl, inr}
 use Rattle.std.specs.Prelude.{Ok, Err, IsUtf8, if◌then◌else◌}
 use Rattle.std.specs.List.{AllByRecursion}
 use Rattle.std.specs.Option.{option_map}
@@ -24,14 +25,17 @@ use Rattle.reuse_header.specs.Header.{HeaderSpan, span_in, header_of, neighbour_
 use Rattle.reuse_header.specs.Writing.{block_text, block_lines, neighbour_marks, ended_by}
 use Rattle.reuse_header.specs.Annotation.{Edit, edited, kind_of_file}
 use Rattle.reuse_header.specs.Neighbour.{is_text, neighbour_end, neighbour_written, replaced_contents}
-use Rattle.reuse_header.specs.Amendment.{amended_information, written_if, amendment_of, neighbour_amendment_of, amended_file}
+use Rattle.reuse_header.specs.Amendment.{amended_information, written_if, amendment_of, neighbour_amendment_of}
+use Rattle.reuse_header.specs.Amendment.{amended_file}
 use Rattle.reuse_header.proofs.SayableLemmas.{Each}
 use Rattle.reuse_header.proofs.LawLemmas.{text_of_edit, text_lines, neighbour_text}
 use Rattle.reuse_header.proofs.LineSoundLemmas.{mark_sound}
 use Rattle.reuse_header.proofs.InfoSoundLemmas.{IsSoundInfo, holder_sound, info_sound}
-use Rattle.reuse_header.proofs.MadeTextLemmas.{block_sound, ended_sound, no_punctuation, no_marks, text_is, text_made, contents_are, behind_end}
+use Rattle.reuse_header.proofs.MadeTextLemmas.{block_sound, ended_sound, no_punctuation, no_marks, text_is, text_made}
+use Rattle.reuse_header.proofs.MadeTextLemmas.{contents_are, behind_end}
 use Rattle.reuse_header.proofs.FileTextLemmas.{marks_sound, low_filler, low_punctuation, span_sound}
-use Rattle.reuse_header.proofs.AmendmentLawLemmas.{amendment_ok, amending_replaces, none_stays, neighbour_amendment_ok, amending_replaces_neighbour}
+use Rattle.reuse_header.proofs.AmendmentLawLemmas.{amendment_ok, amending_replaces, none_stays, neighbour_amendment_ok}
+use Rattle.reuse_header.proofs.AmendmentLawLemmas.{amending_replaces_neighbour}
 use Rattle.reuse_header.proofs.AmendedLemmas.{text_kept_by, notice_becomes, Turns, turned}
 use Rattle.reuse_header.proofs.SecondLemmas.{of_edit, both}
 
@@ -51,18 +55,22 @@ pub record WriteText (a : Amendments) : Type 0 where
 sound_turns : (a : Amendments) → WriteText a → Turns a IsSound IsSound IsSound
 sound_turns a w = record {
   notice = notice;
-  contributor = λ text s. text_kept_by IsSound a.replaced_contributors text (sound_new a.replaced_contributors w.plain.contributors w.utf8.contributors) s;
-  licence = λ value new s e. sound_kept a.replaced_licences (sound_new a.replaced_licences w.plain.licences w.utf8.licences) value new s e;
+  contributor = λ text s. text_kept_by IsSound a.replaced_contributors text
+      (sound_new a.replaced_contributors w.plain.contributors w.utf8.contributors) s;
+  licence = λ value new s e. sound_kept a.replaced_licences
+      (sound_new a.replaced_licences w.plain.licences w.utf8.licences) value new s e;
 }
   where
     notice : (text new : List ℕ) → IsSound text → notice_amended a text ≡ Some new → IsSound new
     notice text new s e = elim (notice_becomes a text new e) [
       | inl same ↦ subst IsSound same s
       | inr n ↦ (let new_are = sound_new a.replaced_holders w.plain.holders w.utf8.holders in
-          let kept = text_kept_by IsSound a.replaced_holders n.notice.holder new_are (holder_sound text n.notice n.read s) in
+          let kept =
+          text_kept_by IsSound a.replaced_holders n.notice.holder new_are (holder_sound text n.notice n.read s) in
           let digits = amended_digits a text n.notice n.holder w.short n.read in
           subst IsSound n.written
-          (written_sound n.prefix (years_amended a n.notice n.holder) n.holder digits (subst IsSound (sym n.holder_is) kept)))
+          (written_sound n.prefix (years_amended a n.notice n.holder) n.holder digits
+          (subst IsSound (sym n.holder_is) kept)))
     ]
 
 amended_sound : (a : Amendments) → WriteText a → (old new : Info) → amended a old ≡ Some new → IsSoundInfo old
@@ -85,14 +93,16 @@ unfolding neighbour_amendment_of
 was_text a file made e = by (is_text file) refl e
   where
     by : (t : Bool) → is_text file ≡ t
-        → amended_file file (if t then written_if (neighbour_written true file) (amended_information a (info_of [] (replaced_contents true file))) else Err (HeaderRefused NotText)) ≡ Ok made
+        → amended_file file (if t then written_if (neighbour_written true file)
+        (amended_information a (info_of [] (replaced_contents true file))) else Err (HeaderRefused NotText)) ≡ Ok made
         → is_text file ≡ true
     by true is e' = is
     by false is e' = absurd (let none : ⊥ = cc e' in none)
 
 -- ---- files
 
-module _ (joined : (text : List ℕ) → text_of (lines_of text) ≡ text) (well : (text : List ℕ) → AreLines (lines_of text)) where
+module _ (joined : (text : List ℕ) → text_of (lines_of text) ≡ text)
+    (well : (text : List ℕ) → AreLines (lines_of text)) where
   block_is_text : (style : Style) (a : Amendments) (file : List ℕ) (edit : Edit) (span : HeaderSpan) → WriteText a
       → is_text file ≡ true → option_map (span_in file) (header_of style file) ≡ Some span
       → amendment_of style a file ≡ Ok (Some edit) → is_text (edited file edit) ≡ true
@@ -109,10 +119,12 @@ module _ (joined : (text : List ℕ) → text_of (lines_of text) ≡ text) (well
       ∙ text_lines w.marks kind w.info in
       let block =
       subst IsSound (sym same)
-      (ended_sound kind (block_lines w.marks w.info) (block_sound w.marks (marks_sound style span.form w.marks w.marks_are) w.info says)) in
+      (ended_sound kind (block_lines w.marks w.info)
+      (block_sound w.marks (marks_sound style span.form w.marks w.marks_are) w.info says)) in
       text_made (edited file edit)
       (subst IsSound (sym (amending_replaces style a file edit span (joined (after_mark file)) e found))
-      (sound_append (take span.start file ++ edit.text) (drop span.end file) (sound_append (take span.start file) edit.text there.before block) there.behind))
+      (sound_append (take span.start file ++ edit.text) (drop span.end file)
+      (sound_append (take span.start file) edit.text there.before block) there.behind))
 
   edit_is_text : (style : Style) (a : Amendments) (file : List ℕ) (edit : Edit) → WriteText a → is_text file ≡ true
       → amendment_of style a file ≡ Ok (Some edit) → is_text (edited file edit) ≡ true
@@ -147,10 +159,14 @@ module _ (joined : (text : List ℕ) → text_of (lines_of text) ≡ text) (well
       subst IsSound (sym same)
       (ended_sound kind (block_lines neighbour_marks w.info) (block_sound neighbour_marks no_marks w.info says)) in
       text_made (edited file edit) (subst IsSound (sym (amending_replaces_neighbour a file edit joined e))
-      (sound_append (mark ++ edit.text) (drop (neighbour_end file) file) (sound_append mark edit.text (mark_sound file (text_is file text)).0 block) (behind_end joined well file text)))
+      (sound_append (mark ++ edit.text) (drop (neighbour_end file) file)
+      (sound_append mark edit.text (mark_sound file (text_is file text)).0 block) (behind_end joined well file text)))
 
   pub neighbour_amended_is_text : (a : Amendments) (file made : List ℕ) → WriteText a
       → amended_file file (neighbour_amendment_of a file) ≡ Ok made → (is_text file ≡ true) × (is_text made ≡ true)
   neighbour_amended_is_text a file made write e =
-      let text = was_text a file made e in
-      (text, of_edit (λ m. is_text m ≡ true) file made (neighbour_amendment_of a file) e (λ none. text) (λ edit is. neighbour_edit_is_text a file edit write text is))
+      let text = was_text a file made e in (
+        text,
+        of_edit (λ m. is_text m ≡ true) file made (neighbour_amendment_of a file) e (λ none. text)
+            (λ edit is. neighbour_edit_is_text a file edit write text is),
+      )

@@ -1,5 +1,7 @@
 -- A text of bounded length, written in parts.
-use Rattle.std.proofs.Common.{◌≡◌, ℕ, ◌-◌, ◌≤◌, Bool, true, false, List, [], ◌∷◌, ◌++◌, length, length-append, map, take, drop, subst, slice_index_or, Option, None, Some, refl, sym, ap, ◌∙◌, append_assoc, inl, inr, arith}
+use Rattle.std.proofs.Common.{◌≡◌, ℕ, ◌-◌, ◌≤◌, Bool, true, false, List, [], ◌∷◌, ◌++◌, length, length-append, map}
+use Rattle.std.proofs.Common.{take, drop, subst, slice_index_or, Option, None, Some, refl, sym, ap, ◌∙◌, append_assoc}
+use Rattle.std.proofs.Common.{inl, inr, arith}
 use Rattle.std.specs.Prelude.{nat_le, if◌then◌else◌}
 use Rattle.std.proofs.lemmas.List.{append-nil, take_rest}
 use Rattle.std.proofs.lemmas.Bool.Decides.{nat_tests}
@@ -35,13 +37,16 @@ with_more-parts room bytes x xs y ys =
       | inl e ↦ ap (λ (text : Option (List ℕ)). with_more room text back) (by_room room bytes x xs true e)
           ∙ ap (λ (bs : List ℕ). if nat_le (length bs) room then Some bs else None) (append_assoc bytes front back)
       | inr e ↦ ap (λ (text : Option (List ℕ)). with_more room text back) (by_room room bytes x xs false e)
-          ∙ sym (by_room room bytes x (xs ++ back) false (still_over (length (bytes ++ front)) (length (bytes ++ (front ++ back))) room (longer bytes front back) e))
+          ∙ sym (by_room room bytes x (xs ++ back) false
+          (still_over (length (bytes ++ front)) (length (bytes ++ (front ++ back))) room (longer bytes front back) e))
     ]
 
-pub with_more-append : (room : ℕ) (text : Option (List ℕ)) (xs ys : List ℕ) → with_more room (with_more room text xs) ys ≡ with_more room text (xs ++ ys)
+pub with_more-append : (room : ℕ) (text : Option (List ℕ)) (xs ys : List ℕ)
+    → with_more room (with_more room text xs) ys ≡ with_more room text (xs ++ ys)
 with_more-append room None xs ys = refl
 with_more-append room (Some bytes) [] ys = ap (λ bs. with_more room (Some bs) ys) (append-nil bytes)
-with_more-append room (Some bytes) (x ∷ xs) [] = with_more-nil room (with_more room (Some bytes) (x ∷ xs)) ∙ ap (with_more room (Some bytes)) (sym (append-nil (x ∷ xs)))
+with_more-append room (Some bytes) (x ∷ xs) [] = with_more-nil room (with_more room (Some bytes) (x ∷ xs))
+    ∙ ap (with_more room (Some bytes)) (sym (append-nil (x ∷ xs)))
 with_more-append room (Some bytes) (x ∷ xs) (y ∷ ys) = with_more-parts room bytes x xs y ys
 
 -- no line
@@ -62,14 +67,18 @@ writes_more {a = a} {b = b} {c = c} {xs = xs} {ys = ys} one two = record {
 -- lines of which some are written: with those that are left, all are
 pub record IsUnderWay (start now : LineWriter) (left all : List (List ℕ)) : Type 0 where
   pub format : now.format ≡ start.format
-  pub text : with_more start.format.room (written now) (ended_by start.format.kind left) ≡ with_more start.format.room (written start) (ended_by start.format.kind all)
+  pub text : with_more start.format.room (written now) (ended_by start.format.kind left) ≡ with_more start.format.room
+      (written start) (ended_by start.format.kind all)
 
-pub under_way-next : {start now next : LineWriter} {line : List ℕ} {left all : List (List ℕ)} → IsUnderWay start now (line ∷ left) all → Writes now next (line ∷ []) → IsUnderWay start next left all
+pub under_way-next : {start now next : LineWriter} {line : List ℕ} {left all : List (List ℕ)}
+    → IsUnderWay start now (line ∷ left) all → Writes now next (line ∷ []) → IsUnderWay start next left all
 under_way-next {start = start} {now = now} {next = next} {line = line} {left = left} before one =
     record {
       format = one.format ∙ before.format;
-      text = ap (λ (text : Option (List ℕ)). with_more start.format.room text (ended_by start.format.kind left)) (one.text ∙ ap (λ form. with_more form.room (written now) (ended_by form.kind (line ∷ []))) before.format)
-          ∙ with_more-append start.format.room (written now) (ended_by start.format.kind (line ∷ [])) (ended_by start.format.kind left)
+      text = ap (λ (text : Option (List ℕ)). with_more start.format.room text (ended_by start.format.kind left))
+          (one.text ∙ ap (λ form. with_more form.room (written now) (ended_by form.kind (line ∷ []))) before.format)
+          ∙ with_more-append start.format.room (written now) (ended_by start.format.kind (line ∷ []))
+          (ended_by start.format.kind left)
           ∙ ap (with_more start.format.room (written now)) (sym (ended_by-append start.format.kind (line ∷ []) left))
           ∙ before.text;
     }
@@ -81,8 +90,10 @@ under_way-end {start = start} {now = now} left = record {
 }
 
 -- the next of some texts is written as a line
-pub under_way-first : {start now next : LineWriter} {all : List (List ℕ)} (f : List ℕ → List ℕ) (texts : List (List ℕ)) (text : List ℕ) → 1 ≤ length texts → text ≡ slice_index_or texts 0 text
-    → IsUnderWay start now (map f texts) all → Writes now next (f text ∷ []) → IsUnderWay start next (map f (take (length texts - 1) (drop 1 texts))) all
+pub under_way-first : {start now next : LineWriter} {all : List (List ℕ)} (f : List ℕ → List ℕ) (texts : List (List ℕ))
+    (text : List ℕ) → 1 ≤ length texts → text ≡ slice_index_or texts 0 text
+    → IsUnderWay start now (map f texts) all → Writes now next (f text ∷ [])
+    → IsUnderWay start next (map f (take (length texts - 1) (drop 1 texts))) all
 under_way-first f [] text some is before one = absurd (omega arith)
 under_way-first {start = start} {now = now} {next = next} {all = all} f (t ∷ texts) text some is before one =
     let P : List ℕ → Type 0 = λ t. Writes now next (f t ∷ []) in

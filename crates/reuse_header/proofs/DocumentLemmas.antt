@@ -6,7 +6,8 @@ use Rattle.std.specs.Str.{bytes_eq}
 use Rattle.std.proofs.lemmas.Bool.Decides.{Decides-int_eq}
 use Rattle.std.proofs.lemmas.Slice.Eq.{bytes_eq-Decides}
 use Rattle.toml.specs.Data.{Data, string, integer, float, boolean, datetime, array, table, Members, no_members, member}
-use Rattle.reuse_header.specs.StyleFile.{NamedText, texts_in, texts_of_value, is_version, texts_of_document, text_members, document_of}
+use Rattle.reuse_header.specs.StyleFile.{NamedText, texts_in, texts_of_value, is_version, texts_of_document}
+use Rattle.reuse_header.specs.StyleFile.{text_members, document_of}
 
 if_some : {X : Type 0} (b : Bool) (o : Option X) (x : X) → cond b o None ≡ Some x → (b ≡ true) × (o ≡ Some x)
 if_some true o x e = (refl, e)
@@ -22,7 +23,9 @@ unfolding texts_in
 table_is no_members texts e = let none : [] ≡ texts = cc in ap text_members none
 table_is (member name (string text) others) texts e = by (λ more is. table_is others more is) (texts_in others) refl e
   where
-    by : ((more : List NamedText) → texts_in others ≡ Some more → others ≡ text_members more) → (o : Option (List NamedText)) → texts_in others ≡ o → option_map (λ ts. (name, text) ∷ ts) o ≡ Some texts → member name (string text) others ≡ text_members texts
+    by : ((more : List NamedText) → texts_in others ≡ Some more → others ≡ text_members more)
+        → (o : Option (List NamedText)) → texts_in others ≡ o → option_map (λ ts. (name, text) ∷ ts) o ≡ Some texts
+        → member name (string text) others ≡ text_members texts
     by rest None is f = absurd (let no : ⊥ = cc f in no)
     by rest (Some more) is f =
         let same : (name, text) ∷ more ≡ texts = cc f in
@@ -39,7 +42,8 @@ unfolding texts_in
 texts_are [] = refl
 texts_are (named ∷ texts) = ap (option_map (λ ts. named ∷ ts)) (texts_are texts)
 
-value_is : (value : Data) (texts : List NamedText) → texts_of_value value ≡ Some texts → value ≡ table (text_members texts)
+value_is : (value : Data) (texts : List NamedText) → texts_of_value value ≡ Some texts
+    → value ≡ table (text_members texts)
 value_is (table ms) texts e = ap table (table_is ms texts e)
 value_is (string s) texts e = absurd (let no : ⊥ = cc e in no)
 value_is (integer z) texts e = absurd (let no : ⊥ = cc e in no)
@@ -57,13 +61,16 @@ version_is (datetime d) e = absurd (let no : ⊥ = cc e in no)
 version_is (array ds) e = absurd (let no : ⊥ = cc e in no)
 version_is (table ms) e = absurd (let no : ⊥ = cc e in no)
 
-stated : (document : Members) (texts : List NamedText) → texts_of_document document ≡ Some texts → document ≡ document_of texts
+stated : (document : Members) (texts : List NamedText) → texts_of_document document ≡ Some texts
+    → document ≡ document_of texts
 unfolding texts_of_document
 stated no_members texts e = absurd (let no : ⊥ = cc e in no)
 stated (member first names no_members) texts e = absurd (let no : ⊥ = cc e in no)
-stated (member first names (member second version (member third value others))) texts e = absurd (let no : ⊥ = cc e in no)
+stated (member first names (member second version (member third value others))) texts e =
+    absurd (let no : ⊥ = cc e in no)
 stated (member first names (member second version no_members)) texts e =
-    let c = if_some (bytes_eq first (codes "styles") && bytes_eq second (codes "version") && is_version version) (texts_of_value names) texts e in
+    let c = if_some (bytes_eq first (codes "styles") && bytes_eq second (codes "version") && is_version version)
+    (texts_of_value names) texts e in
     let p = both (bytes_eq first (codes "styles") && bytes_eq second (codes "version")) (is_version version) c.0 in
     let q = both (bytes_eq first (codes "styles")) (bytes_eq second (codes "version")) p.0 in
     let f : first ≡ codes "styles" = (bytes_eq-Decides first (codes "styles")).0 q.0 in
@@ -72,6 +79,7 @@ stated (member first names (member second version no_members)) texts e =
     let n = value_is names texts c.1 in
     λ i. member (f i) (n i) (member (s i) (v i) no_members)
 
-pub documents_stated : (document : Members) (texts : List NamedText) → (texts_of_document document ≡ Some texts) ↔ (document ≡ document_of texts)
+pub documents_stated : (document : Members) (texts : List NamedText)
+    → (texts_of_document document ≡ Some texts) ↔ (document ≡ document_of texts)
 unfolding texts_of_document
 documents_stated document texts = (stated document texts, λ e. ap texts_of_document e ∙ texts_are texts)

@@ -1,20 +1,26 @@
 -- The texts of contents and of additions hold no LF.
-use Rattle.std.proofs.Common.{◌≡◌, ℕ, zero, suc, ◌+◌, ◌/◌, ◌%◌, Bool, true, false, List, [], ◌∷◌, ◌++◌, length, drop, map, Option, None, Some, refl, sym, ap, subst, ◌∙◌, arith}
+use Rattle.std.proofs.Common.{◌≡◌, ℕ, zero, suc, ◌+◌, ◌/◌, ◌%◌, Bool, true, false, List, [], ◌∷◌, ◌++◌, length, drop}
+use Rattle.std.proofs.Common.{map, Option, None, Some, refl, sym, ap, subst, ◌∙◌, arith}
 use Rattle.std.specs.Prelude.{not, ◌&&◌, ◌==◌, if◌then◌else◌, Contains, codes, nat_eq}
 use Rattle.std.specs.List.{list_any, starts_with}
 use Rattle.std.specs.Option.{option_map}
 use Rattle.std.proofs.lemmas.Bool.{false≢true, eqb-true, or_parts, false_from_ne_true}
 use Rattle.reuse_text.specs.Text.{TextLine, AreLines, line_bytes, lines_of, placed, file_lines, after_mark, mark_len_of}
 use Rattle.reuse_notice.specs.declared.prefixes.Prefix.{Prefix}
-use Rattle.reuse_notice.specs.declared.prefixes.Prefix.TheVariants.{Spdx, SpdxC, SpdxSymbol, SpdxString, SpdxStringC, SpdxStringSymbol, String, StringC, StringSymbol, Symbol}
+use Rattle.reuse_notice.specs.declared.prefixes.Prefix.TheVariants.{Spdx, SpdxC, SpdxSymbol, SpdxString, SpdxStringC}
+use Rattle.reuse_notice.specs.declared.prefixes.Prefix.TheVariants.{SpdxStringSymbol, String, StringC, StringSymbol}
+use Rattle.reuse_notice.specs.declared.prefixes.Prefix.TheVariants.{Symbol}
 use Rattle.reuse_notice.specs.declared.tags.Years.{Years}
 use Rattle.reuse_notice.specs.declared.infos.Info.{Info}
 use Rattle.reuse_notice.specs.declared.adding.Additions.{Additions}
 use Rattle.reuse_notice.specs.Prefixes.{prefix_text}
-use Rattle.reuse_notice.specs.Tags.{NoticeText, is_blank, all_blank, is_filler, drop_front, trimmed, stripped, value_after, licence_lead, contributor_lead, years_front, prefix_of, notice_behind, notice_of}
+use Rattle.reuse_notice.specs.Tags.{NoticeText, is_blank, all_blank, is_filler, drop_front, trimmed, stripped}
+use Rattle.reuse_notice.specs.Tags.{value_after, licence_lead, contributor_lead, years_front, prefix_of, notice_behind}
+use Rattle.reuse_notice.specs.Tags.{notice_of}
 use Rattle.reuse_notice.specs.Adding.{is_control, four_digits, years_text, notice_written}
 use Rattle.reuse_notice.specs.Plain.{IsPlain, ArePlain}
-use Rattle.reuse_notice.proofs.NoneLemmas.{or_none, none_append, none_drop, none_take, none_front, none_end, none_trimmed, none_weaker}
+use Rattle.reuse_notice.proofs.NoneLemmas.{or_none, none_append, none_drop, none_take, none_front, none_end}
+use Rattle.reuse_notice.proofs.NoneLemmas.{none_trimmed, none_weaker}
 use Rattle.reuse_notice.specs.Infos.{info_of}
 use Rattle.reuse_header.specs.declared.style.Style.{Style}
 use Rattle.reuse_header.specs.Search.{is_return}
@@ -45,8 +51,10 @@ feedless_from (b ∷ bytes) none =
 
 pub feedless_holds : (bytes : List ℕ) → Feedless bytes → Contains bytes 10 → ⊥
 feedless_holds [] e (k, low, is) = omega (arith, low)
-feedless_holds (b ∷ bytes) e (zero, low, is) = false≢true (sym (or_parts (is_feed b) (list_any is_feed bytes) e).0 ∙ ap is_feed is)
-feedless_holds (b ∷ bytes) e (suc k, low, is) = feedless_holds bytes (or_parts (is_feed b) (list_any is_feed bytes) e).1 (k, omega (arith, low), is)
+feedless_holds (b ∷ bytes) e (zero, low, is) =
+    false≢true (sym (or_parts (is_feed b) (list_any is_feed bytes) e).0 ∙ ap is_feed is)
+feedless_holds (b ∷ bytes) e (suc k, low, is) =
+    feedless_holds bytes (or_parts (is_feed b) (list_any is_feed bytes) e).1 (k, omega (arith, low), is)
 
 -- ---- the contents of lines
 
@@ -56,7 +64,8 @@ FeedlessLine line = Feedless line.1.content
 placed_feedless : (lines : List TextLine) (start : ℕ) → AreLines lines → Each FeedlessLine (placed start lines)
 unfolding Each
 placed_feedless [] start are = tt
-placed_feedless (line ∷ lines) start are = (feedless_from line.content are.0.no_feed, placed_feedless lines (start + length (line_bytes line)) are.2)
+placed_feedless (line ∷ lines) start are =
+    (feedless_from line.content are.0.no_feed, placed_feedless lines (start + length (line_bytes line)) are.2)
 
 feedless_parts : IsOfParts Feedless
 feedless_parts = record { front = none_take is_feed; back = none_drop is_feed }
@@ -64,23 +73,30 @@ feedless_parts = record { front = none_take is_feed; back = none_drop is_feed }
 returns_feedless : (content : List ℕ) → Feedless content → Feedless (without_returns content)
 returns_feedless content e = none_end is_feed is_return content e
 
-pub found_feedless : (style : Style) (file : List ℕ) (span : HeaderSpan) → AreLines (lines_of (after_mark file)) → option_map (span_in file) (header_of style file) ≡ Some span → Each Feedless span.contents
+pub found_feedless : (style : Style) (file : List ℕ) (span : HeaderSpan) → AreLines (lines_of (after_mark file))
+    → option_map (span_in file) (header_of style file) ≡ Some span → Each Feedless span.contents
 found_feedless style file span are e = by_header (header_of style file) refl e
   where
-    by_header : (header : Option Header) → header_of style file ≡ header → option_map (span_in file) header ≡ Some span → Each Feedless span.contents
+    by_header : (header : Option Header) → header_of style file ≡ header → option_map (span_in file) header ≡ Some span
+        → Each Feedless span.contents
     by_header None is e = absurd (let none : ⊥ = cc in none)
     by_header (Some h) is e =
         let there = split_found style (body_lines style (file_lines file)) h is in
-        let same : h.contents ≡ span.contents = let e' : span_in file h ≡ span = cc in ap (λ (s : HeaderSpan). s.contents) e' in
+        let same : h.contents ≡ span.contents = let e' : span_in file h ≡ span = cc in
+        ap (λ (s : HeaderSpan). s.contents) e' in
         let lines = open_contents (body_lines style (file_lines file)) in
         let good = each_open Feedless (body_lines style (file_lines file))
-        (each_in_body Feedless style (file_lines file) (placed_feedless (lines_of (after_mark file)) (mark_len_of file) are)) in
+        (each_in_body Feedless style (file_lines file)
+        (placed_feedless (lines_of (after_mark file)) (mark_len_of file) are)) in
         subst (λ (cs : List (List ℕ)). Each Feedless cs) (sym there.1.contents ∙ same)
-        (each_content Feedless feedless_parts style h.form (drop (length there.0) lines) true (length h.block) (each_dropped Feedless (length there.0) lines good))
+        (each_content Feedless feedless_parts style h.form (drop (length there.0) lines) true (length h.block)
+        (each_dropped Feedless (length there.0) lines good))
 
-pub neighbour_feedless : (file : List ℕ) → AreLines (lines_of (after_mark file)) → Each Feedless (neighbour_contents file)
+pub neighbour_feedless : (file : List ℕ) → AreLines (lines_of (after_mark file))
+    → Each Feedless (neighbour_contents file)
 unfolding Each
-neighbour_feedless file are = mapped (open_contents (file_lines file)) (each_open Feedless (file_lines file) (placed_feedless (lines_of (after_mark file)) (mark_len_of file) are))
+neighbour_feedless file are = mapped (open_contents (file_lines file))
+    (each_open Feedless (file_lines file) (placed_feedless (lines_of (after_mark file)) (mark_len_of file) are))
   where
     mapped : (cs : List (List ℕ)) → Each Feedless cs → Each Feedless (map without_returns cs)
     mapped [] h = tt
@@ -101,7 +117,8 @@ value_feedless : (lead text v : List ℕ) → Feedless text → value_after lead
 value_feedless lead text v h e = by (starts_with nat_eq text lead && not (all_blank (drop (length lead) text))) e
   where
     by : (b : Bool) → (if b then Some (trimmed is_blank (drop (length lead) text)) else None) ≡ Some v → Feedless v
-    by true f = subst Feedless (let same : trimmed is_blank (drop (length lead) text) ≡ v = cc f in same) (none_trimmed is_feed is_blank (drop (length lead) text) (none_drop is_feed (length lead) text h))
+    by true f = subst Feedless (let same : trimmed is_blank (drop (length lead) text) ≡ v = cc f in same)
+        (none_trimmed is_feed is_blank (drop (length lead) text) (none_drop is_feed (length lead) text h))
     by false f = absurd (let none : ⊥ = cc f in none)
 
 pub plain_feedless : (text : List ℕ) → IsPlain text → Feedless text
@@ -121,18 +138,22 @@ additions_feedless additions plain = record {
 
 -- a notice that is written of a holder
 digit_feedless : (n : ℕ) → is_feed (48 + n) ≡ false
-digit_feedless n = false_from_ne_true (is_feed (48 + n)) (λ t. let e : 48 + n ≡ 10 = eqb-true (48 + n) 10 t in omega arith)
+digit_feedless n =
+    false_from_ne_true (is_feed (48 + n)) (λ t. let e : 48 + n ≡ 10 = eqb-true (48 + n) 10 t in omega arith)
 
 digits_feedless : (n : ℕ) → Feedless (four_digits n)
 digits_feedless n =
-    or_none _ _ (digit_feedless (n / 1000)) (or_none _ _ (digit_feedless (n / 100 % 10)) (or_none _ _ (digit_feedless (n / 10 % 10)) (or_none _ _ (digit_feedless (n % 10)) refl)))
+    or_none _ _ (digit_feedless (n / 1000)) (or_none _ _ (digit_feedless (n / 100 % 10))
+    (or_none _ _ (digit_feedless (n / 10 % 10)) (or_none _ _ (digit_feedless (n % 10)) refl)))
 
 years_feedless : (years : Years) → Feedless (years_text years)
 years_feedless years = by (years.low == years.high)
   where
-    by : (b : Bool) → Feedless (if b then four_digits years.low else four_digits years.low ++ codes " - " ++ four_digits years.high)
+    by : (b : Bool)
+        → Feedless (if b then four_digits years.low else four_digits years.low ++ codes " - " ++ four_digits years.high)
     by true = digits_feedless years.low
-    by false = none_append is_feed (four_digits years.low ++ codes " - ") (four_digits years.high) (none_append is_feed (four_digits years.low) (codes " - ") (digits_feedless years.low) refl) (digits_feedless years.high)
+    by false = none_append is_feed (four_digits years.low ++ codes " - ") (four_digits years.high) (none_append is_feed
+        (four_digits years.low) (codes " - ") (digits_feedless years.low) refl) (digits_feedless years.high)
 
 prefix_feedless : (prefix : Prefix) → Feedless (prefix_text prefix)
 prefix_feedless Spdx = refl
@@ -146,10 +167,13 @@ prefix_feedless StringC = refl
 prefix_feedless StringSymbol = refl
 prefix_feedless Symbol = refl
 
-pub written_feedless : (prefix : Prefix) (years : Option Years) (holder : List ℕ) → Feedless holder → Feedless (notice_written prefix years holder)
-written_feedless prefix None holder h = none_append is_feed (prefix_text prefix) (32 ∷ holder) (prefix_feedless prefix) h
+pub written_feedless : (prefix : Prefix) (years : Option Years) (holder : List ℕ) → Feedless holder
+    → Feedless (notice_written prefix years holder)
+written_feedless prefix None holder h =
+    none_append is_feed (prefix_text prefix) (32 ∷ holder) (prefix_feedless prefix) h
 written_feedless prefix (Some years) holder h =
-    none_append is_feed (prefix_text prefix ++ 32 ∷ years_text years) (32 ∷ holder) (none_append is_feed (prefix_text prefix) (32 ∷ years_text years) (prefix_feedless prefix) (years_feedless years)) h
+    none_append is_feed (prefix_text prefix ++ 32 ∷ years_text years) (32 ∷ holder)
+    (none_append is_feed (prefix_text prefix) (32 ∷ years_text years) (prefix_feedless prefix) (years_feedless years)) h
 
 pub holder_feedless : (text : List ℕ) (n : NoticeText) → notice_of text ≡ Some n → Feedless text → Feedless n.holder
 holder_feedless text n e h = by (prefix_of text) e
@@ -161,7 +185,8 @@ holder_feedless text n e h = by (prefix_of text) e
         let value = drop_front is_blank (drop (length (prefix_text p)) text) in
         subst (λ (m : NoticeText). Feedless m.holder) same
         (none_trimmed is_feed is_blank (drop (years_front value).1 value)
-        (none_drop is_feed (years_front value).1 value (none_front is_feed is_blank (drop (length (prefix_text p)) text) (none_drop is_feed (length (prefix_text p)) text h))))
+        (none_drop is_feed (years_front value).1 value (none_front is_feed is_blank (drop (length (prefix_text p)) text)
+        (none_drop is_feed (length (prefix_text p)) text h))))
 
 -- what is known of the parts of contents
 feedless_spreads : (punct : List ℕ) → Spreads Feedless punct
@@ -169,11 +194,15 @@ feedless_spreads punct = record {
   inner = stripped_feedless punct;
   contributor = value_feedless contributor_lead;
   licence = value_feedless licence_lead;
-  written = λ old text f w. subst Feedless (sym w.written) (written_feedless w.prefix w.years w.notice.holder (holder_feedless old w.notice w.read f));
+  written = λ old text f w. subst Feedless (sym w.written)
+      (written_feedless w.prefix w.years w.notice.holder (holder_feedless old w.notice w.read f));
 }
 
-pub info_feedless : (punct : List ℕ) (contents : List (List ℕ)) → Each Feedless contents → HasNoFeed (info_of punct contents)
+pub info_feedless : (punct : List ℕ) (contents : List (List ℕ)) → Each Feedless contents
+    → HasNoFeed (info_of punct contents)
 info_feedless punct contents h = each_read Feedless punct (feedless_spreads punct) contents h
 
-pub new_feedless : Merges → (punct : List ℕ) (contents : List (List ℕ)) (merge : Bool) (additions : Additions) → Each Feedless contents → AreFeedless additions → HasNoFeed (new_info punct contents merge additions)
-new_feedless merges punct contents merge additions h a = each_new Feedless punct (feedless_spreads punct) merges contents merge additions h a
+pub new_feedless : Merges → (punct : List ℕ) (contents : List (List ℕ)) (merge : Bool) (additions : Additions)
+    → Each Feedless contents → AreFeedless additions → HasNoFeed (new_info punct contents merge additions)
+new_feedless merges punct contents merge additions h a =
+    each_new Feedless punct (feedless_spreads punct) merges contents merge additions h a

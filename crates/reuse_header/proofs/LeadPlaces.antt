@@ -50,16 +50,22 @@ or_third false false true h = refl
 or_third false false false h = absurd (cc)
 
 pub none_yet : (file : List ℕ) → NoLeadBefore file 0
-none_yet file = record { spdx = λ k from to. absurd (omega arith); copyright = λ k from to. absurd (omega arith); sign = λ k from to. absurd (omega arith) }
+none_yet file = record {
+  spdx = λ k from to. absurd (omega arith);
+  copyright = λ k from to. absurd (omega arith);
+  sign = λ k from to. absurd (omega arith);
+}
 
-pub none_up_to : (file : List ℕ) (start more : ℕ) → NoLeadBefore file start → Nowhere (Passes is_lead_byte (drop start file)) 0 more → NoLeadBefore file (start + more)
+pub none_up_to : (file : List ℕ) (start more : ℕ) → NoLeadBefore file start
+    → Nowhere (Passes is_lead_byte (drop start file)) 0 more → NoLeadBefore file (start + more)
 none_up_to file start more before lacking = record {
   spdx = nowhere_by (codes "SPDX-") file is_lead_byte start more (lit< tt) refl before.spdx lacking;
   copyright = nowhere_by (codes "Copyright") file is_lead_byte start more (lit< tt) refl before.copyright lacking;
   sign = nowhere_by copyright_sign file is_lead_byte start more (lit< tt) refl before.sign lacking;
 }
 
-pub none_past : (file : List ℕ) (place : ℕ) → NoLeadBefore file place → begins_with_lead (drop place file) ≡ false → NoLeadBefore file (place + 1)
+pub none_past : (file : List ℕ) (place : ℕ) → NoLeadBefore file place → begins_with_lead (drop place file) ≡ false
+    → NoLeadBefore file (place + 1)
 none_past file place before h =
     let apart = all_false _ _ _ h in
     record {
@@ -76,12 +82,17 @@ three_false true b c p q r = absurd (cc)
 
 pub none_at_all : (file : List ℕ) → NoLeadBefore file (length file) → false ≡ holds_lead file
 none_at_all file none =
-    sym (three_false _ _ _ (not_held_nowhere (codes "SPDX-") file (lit< tt) none.spdx) (not_held_nowhere (codes "Copyright") file (lit< tt) none.copyright) (not_held_nowhere copyright_sign file (lit< tt) none.sign))
+    sym (three_false _ _ _ (not_held_nowhere (codes "SPDX-") file (lit< tt) none.spdx) (not_held_nowhere
+    (codes "Copyright") file (lit< tt) none.copyright) (not_held_nowhere copyright_sign file (lit< tt) none.sign))
 
-pub lead_here : (file : List ℕ) (place : ℕ) → place ≤ length file → begins_with_lead (drop place file) ≡ true → true ≡ holds_lead file
+pub lead_here : (file : List ℕ) (place : ℕ) → place ≤ length file → begins_with_lead (drop place file) ≡ true
+    → true ≡ holds_lead file
 lead_here file place within h =
     sym (one_true _ _ _ (holds_lead file ≡ true)
-    (λ is. or_first (holds (codes "SPDX-") file) (holds (codes "Copyright") file) (holds copyright_sign file) (held_where_it_stands (codes "SPDX-") file place (stands_at (codes "SPDX-") file place within is)))
-    (λ is. or_second (holds (codes "SPDX-") file) (holds (codes "Copyright") file) (holds copyright_sign file) (held_where_it_stands (codes "Copyright") file place (stands_at (codes "Copyright") file place within is)))
-    (λ is. or_third (holds (codes "SPDX-") file) (holds (codes "Copyright") file) (holds copyright_sign file) (held_where_it_stands copyright_sign file place (stands_at copyright_sign file place within is)))
+    (λ is. or_first (holds (codes "SPDX-") file) (holds (codes "Copyright") file) (holds copyright_sign file)
+    (held_where_it_stands (codes "SPDX-") file place (stands_at (codes "SPDX-") file place within is)))
+    (λ is. or_second (holds (codes "SPDX-") file) (holds (codes "Copyright") file) (holds copyright_sign file)
+    (held_where_it_stands (codes "Copyright") file place (stands_at (codes "Copyright") file place within is)))
+    (λ is. or_third (holds (codes "SPDX-") file) (holds (codes "Copyright") file) (holds copyright_sign file)
+    (held_where_it_stands copyright_sign file place (stands_at copyright_sign file place within is)))
     h)

@@ -14,39 +14,50 @@ names_are_listed : map (λ entry. (entry.0.now, entry.1)) NAMES ≡ table_of_nam
 unfolding table_of_names
 names_are_listed = refl
 
-pub listed_lookup : (name : List ℕ) → lookup (map (λ entry. (entry.0.now, entry.1)) NAMES) name ≡ lookup table_of_names name
+pub listed_lookup : (name : List ℕ)
+    → lookup (map (λ entry. (entry.0.now, entry.1)) NAMES) name ≡ lookup table_of_names name
 listed_lookup name = ap (λ table. lookup table name) names_are_listed
 
 -- where an own name has no kind, the table's has
-pub joined_none : (own : List ℕ → Option Kind) (name : List ℕ) (kind : Option Kind) → None ≡ own name → kind ≡ lookup (map (λ entry. (entry.0.now, entry.1)) NAMES) name → kind ≡ joined own name
-joined_none own name kind none is = is ∙ listed_lookup name ∙ ap (λ (o : Option Kind). option_or o (lookup table_of_names name)) none
+pub joined_none : (own : List ℕ → Option Kind) (name : List ℕ) (kind : Option Kind) → None ≡ own name
+    → kind ≡ lookup (map (λ entry. (entry.0.now, entry.1)) NAMES) name → kind ≡ joined own name
+joined_none own name kind none is =
+    is ∙ listed_lookup name ∙ ap (λ (o : Option Kind). option_or o (lookup table_of_names name)) none
 
 -- ---- own names
 
 pub kind_others : (own : List ℕ → Option Kind) (path : List ℕ)
-    → (let part = after_last (λ b. b == slash) path in own part ≡ None → own (from_last (λ b. b == dot) part) ≡ None → kind_in own path ≡ kind_of_name path)
+    → (let part = after_last (λ b. b == slash) path in
+    own part ≡ None → own (from_last (λ b. b == dot) part) ≡ None → kind_in own path ≡ kind_of_name path)
 unfolding kind_in
 kind_others own path whole ending =
     let part = after_last (λ b. b == slash) path in
     let last = from_last (λ b. b == dot) part in
-    ap (λ (o : Option Kind). unwrap_or (option_or (option_or o (lookup table_of_names part)) (option_or (own last) (lookup table_of_names last))) Unknown) whole
-    ∙ ap (λ (o : Option Kind). unwrap_or (option_or (lookup table_of_names part) (option_or o (lookup table_of_names last))) Unknown) ending
+    ap (λ (o : Option Kind). unwrap_or (option_or (option_or o (lookup table_of_names part))
+    (option_or (own last) (lookup table_of_names last))) Unknown) whole
+    ∙ ap (λ (o : Option Kind). unwrap_or
+    (option_or (lookup table_of_names part) (option_or o (lookup table_of_names last))) Unknown) ending
 
 pub kind_none : (path : List ℕ) → kind_in (lookup []) path ≡ kind_of_name path
 unfolding lookup
 kind_none path = kind_others (lookup []) path refl refl
 
-pub kind_whole : (own : List ℕ → Option Kind) (path : List ℕ) (kind : Kind) → own (after_last (λ b. b == slash) path) ≡ Some kind → kind_in own path ≡ kind
+pub kind_whole : (own : List ℕ → Option Kind) (path : List ℕ) (kind : Kind)
+    → own (after_last (λ b. b == slash) path) ≡ Some kind → kind_in own path ≡ kind
 unfolding kind_in
 kind_whole own path kind is =
     let part = after_last (λ b. b == slash) path in
     let last = from_last (λ b. b == dot) part in
-    ap (λ (o : Option Kind). unwrap_or (option_or (option_or o (lookup table_of_names part)) (option_or (own last) (lookup table_of_names last))) Unknown) is
+    ap (λ (o : Option Kind). unwrap_or (option_or (option_or o (lookup table_of_names part))
+    (option_or (own last) (lookup table_of_names last))) Unknown) is
 
-pub lookup_cases : (own : List (List ℕ × Kind)) (name other : List ℕ) → str_eq_ignore_ascii_case name other ≡ true → lookup own name ≡ lookup own other
+pub lookup_cases : (own : List (List ℕ × Kind)) (name other : List ℕ) → str_eq_ignore_ascii_case name other ≡ true
+    → lookup own name ≡ lookup own other
 unfolding lookup
 lookup_cases [] name other e = refl
 lookup_cases (entry ∷ own) name other e =
-    let same : str_to_ascii_lowercase name ≡ str_to_ascii_lowercase other = (bytes_eq-Decides (str_to_ascii_lowercase name) (str_to_ascii_lowercase other)).0 e in
+    let same : str_to_ascii_lowercase name ≡ str_to_ascii_lowercase other =
+    (bytes_eq-Decides (str_to_ascii_lowercase name) (str_to_ascii_lowercase other)).0 e in
     ap (λ (k : List ℕ). cond (bytes_eq (str_to_ascii_lowercase entry.0) k) (Some entry.1) (lookup own name)) same
-    ∙ ap (λ (o : Option Kind). cond (str_eq_ignore_ascii_case entry.0 other) (Some entry.1) o) (lookup_cases own name other e)
+    ∙ ap (λ (o : Option Kind). cond (str_eq_ignore_ascii_case entry.0 other) (Some entry.1) o)
+    (lookup_cases own name other e)

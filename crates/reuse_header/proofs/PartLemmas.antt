@@ -1,5 +1,6 @@
 -- What holds of bytes and of each part of them, and of the lines of a file, holds of the contents of its blocks.
-use Rattle.std.proofs.Common.{◌≡◌, ℕ, zero, suc, Bool, true, false, List, [], ◌∷◌, length, take, drop, Option, None, Some, refl, sym, ap, subst, inl, inr}
+use Rattle.std.proofs.Common.{◌≡◌, ℕ, zero, suc, Bool, true, false, List, [], ◌∷◌, length, take, drop, Option, None}
+use Rattle.std.proofs.Common.{Some, refl, sym, ap, subst, inl, inr}
 use Rattle.std.specs.Prelude.{not, ◌&&◌, ◌||◌, ◌==◌, if◌then◌else◌, unwrap_or, nat_eq}
 use Rattle.std.specs.List.{list_any, list_all, starts_with}
 use Rattle.std.specs.Option.{option_map_or, option_to_list}
@@ -10,8 +11,10 @@ use Rattle.reuse_header.specs.declared.style.Form.{Form}
 use Rattle.reuse_header.specs.declared.style.Form.TheVariants.{Single, Multi}
 use Rattle.reuse_header.specs.Search.{is_return, is_indent, place_of}
 use Rattle.reuse_header.specs.Styles.{BlockForm, line_comment_of, block_comment_of}
-use Rattle.reuse_header.specs.Body.{PlacedLines, is_shebang, is_declaration, is_barrier, without_first, body_lines, open_contents}
-use Rattle.reuse_header.specs.Blocks.{without_returns, without_star, between_marks, is_blank_content as is_blank_line, single_content, multi_content, line_content, contents_from}
+use Rattle.reuse_header.specs.Body.{PlacedLines, is_shebang, is_declaration, is_barrier, without_first, body_lines}
+use Rattle.reuse_header.specs.Body.{open_contents}
+use Rattle.reuse_header.specs.Blocks.{without_returns, without_star, between_marks, is_blank_content as is_blank_line}
+use Rattle.reuse_header.specs.Blocks.{single_content, multi_content, line_content, contents_from}
 use Rattle.reuse_header.proofs.SayableLemmas.{Each, each_both, of_picked}
 
 -- ---- a front and a back part of bytes
@@ -42,15 +45,21 @@ module _ (P : List ℕ → Type 0) where
   pub each_open : (lines : PlacedLines) → Each (λ line. P line.1.content) lines → Each P (open_contents lines)
   unfolding Each
   each_open [] h = tt
-  each_open (line ∷ lines) h = elim (truth (is_barrier line.1.content)) [ inl e ↦ rw e tt | inr e ↦ rw e (h.0, each_open lines h.1) ]
+  each_open (line ∷ lines) h = elim (truth (is_barrier line.1.content)) [
+    | inl e ↦ rw e tt
+    | inr e ↦ rw e (h.0, each_open lines h.1)
+  ]
 
-  each_without : (test : List ℕ → Bool) (lines : PlacedLines) → Each (λ line. P line.1.content) lines → Each (λ line. P line.1.content) (without_first test lines)
+  each_without : (test : List ℕ → Bool) (lines : PlacedLines) → Each (λ line. P line.1.content) lines
+      → Each (λ line. P line.1.content) (without_first test lines)
   unfolding Each
   each_without test [] h = tt
   each_without test (line ∷ lines) h = elim (truth (test line.1.content)) [ inl e ↦ rw e h.1 | inr e ↦ rw e h ]
 
-  pub each_in_body : (style : Style) (lines : PlacedLines) → Each (λ line. P line.1.content) lines → Each (λ line. P line.1.content) (body_lines style lines)
-  each_in_body style lines h = each_without (is_declaration style) (without_first is_shebang lines) (each_without is_shebang lines h)
+  pub each_in_body : (style : Style) (lines : PlacedLines) → Each (λ line. P line.1.content) lines
+      → Each (λ line. P line.1.content) (body_lines style lines)
+  each_in_body style lines h =
+      each_without (is_declaration style) (without_first is_shebang lines) (each_without is_shebang lines h)
 
   pub each_dropped : (n : ℕ) (xs : List (List ℕ)) → Each P xs → Each P (drop n xs)
   unfolding Each
@@ -71,42 +80,59 @@ module _ (P : List ℕ → Type 0) (parts : IsOfParts P) where
   unfolding without_star
   of_star content p =
       let rest = drop_front is_indent content in
-      of_picked P (starts_with nat_eq rest (42 ∷ [])) (drop 1 rest) content (parts.back 1 rest (of_front is_indent content p)) p
+      of_picked P (starts_with nat_eq rest (42 ∷ [])) (drop 1 rest) content
+      (parts.back 1 rest (of_front is_indent content p)) p
 
-  of_between : (comment : BlockForm) (is_first is_last : Bool) (content : List ℕ) → P content → P (between_marks comment is_first is_last content)
+  of_between : (comment : BlockForm) (is_first is_last : Bool) (content : List ℕ) → P content
+      → P (between_marks comment is_first is_last content)
   unfolding between_marks
   of_between comment is_first is_last content p = star _ (closed is_last _ (opened is_first))
     where
       opened : (first : Bool) → P (if first then drop (length comment.opener) content else content)
-      opened first = of_picked P first (drop (length comment.opener) content) content (parts.back (length comment.opener) content p) p
+      opened first = of_picked P first (drop (length comment.opener) content) content
+          (parts.back (length comment.opener) content p) p
 
-      closed : (last : Bool) (bytes : List ℕ) → P bytes → P (if last then drop_end is_blank (take (unwrap_or (place_of comment.closer bytes) (length bytes)) bytes) else bytes)
-      closed true bytes q = of_end is_blank _ (parts.front (unwrap_or (place_of comment.closer bytes) (length bytes)) bytes q)
+      closed : (last : Bool) (bytes : List ℕ) → P bytes → P (if last
+          then drop_end is_blank (take (unwrap_or (place_of comment.closer bytes) (length bytes)) bytes) else bytes)
+      closed true bytes q =
+          of_end is_blank _ (parts.front (unwrap_or (place_of comment.closer bytes) (length bytes)) bytes q)
       closed false bytes q = q
 
-      star : (bytes : List ℕ) → P bytes → P (if is_first || not (list_any (λ b. b == 42) comment.middle) then bytes else without_star bytes)
-      star bytes q = of_picked P (is_first || not (list_any (λ b. b == 42) comment.middle)) bytes (without_star bytes) q (of_star bytes q)
+      star : (bytes : List ℕ) → P bytes
+          → P (if is_first || not (list_any (λ b. b == 42) comment.middle) then bytes else without_star bytes)
+      star bytes q = of_picked P (is_first || not (list_any (λ b. b == 42) comment.middle)) bytes (without_star bytes) q
+          (of_star bytes q)
 
-  of_line : (style : Style) (form : Form) (is_first is_last : Bool) (line : List ℕ) → P line → Each P (option_to_list (line_content style form is_first is_last line))
+  of_line : (style : Style) (form : Form) (is_first is_last : Bool) (line : List ℕ) → P line
+      → Each P (option_to_list (line_content style form is_first is_last line))
   unfolding Each single_content multi_content
-  of_line style Single is_first is_last line p = (of_end is_return _ (parts.back (option_map_or (λ comment. length comment.marker) (line_comment_of style) 0) line p), tt)
-  of_line style Multi is_first is_last line p = by_test ((is_first || is_last) && is_blank_line style inner) inner (of_end is_return _ (by_form (block_comment_of style)))
+  of_line style Single is_first is_last line p = (
+    of_end is_return _ (parts.back (option_map_or (λ comment. length comment.marker) (line_comment_of style) 0) line p),
+    tt,
+  )
+  of_line style Multi is_first is_last line p = by_test ((is_first || is_last) && is_blank_line style inner) inner
+      (of_end is_return _ (by_form (block_comment_of style)))
     where
       inner : List ℕ
-      inner = without_returns (option_map_or (λ comment. between_marks comment is_first is_last line) (block_comment_of style) line)
+      inner = without_returns
+          (option_map_or (λ comment. between_marks comment is_first is_last line) (block_comment_of style) line)
 
-      by_form : (form : Option BlockForm) → P (option_map_or (λ comment. between_marks comment is_first is_last line) form line)
+      by_form : (form : Option BlockForm)
+          → P (option_map_or (λ comment. between_marks comment is_first is_last line) form line)
       by_form None = p
       by_form (Some comment) = of_between comment is_first is_last line p
 
-      by_test : (blank : Bool) (content : List ℕ) → P content → Each P (option_to_list (if blank then None else Some content))
+      by_test : (blank : Bool) (content : List ℕ) → P content
+          → Each P (option_to_list (if blank then None else Some content))
       by_test true content q = tt
       by_test false content q = (q, tt)
 
-  pub each_content : (style : Style) (form : Form) (lines : List (List ℕ)) (is_first : Bool) (count : ℕ) → Each P lines → Each P (contents_from style form is_first count lines)
+  pub each_content : (style : Style) (form : Form) (lines : List (List ℕ)) (is_first : Bool) (count : ℕ) → Each P lines
+      → Each P (contents_from style form is_first count lines)
   unfolding Each contents_from
   each_content style form lines is_first zero h = tt
   each_content style form [] is_first (suc count) h = tt
   each_content style form (line ∷ lines) is_first (suc count) h =
-      each_both P (option_to_list (line_content style form is_first (count == 0) line)) (contents_from style form false count lines)
+      each_both P (option_to_list (line_content style form is_first (count == 0) line))
+      (contents_from style form false count lines)
       (of_line style form is_first (count == 0) line h.0) (each_content style form lines false count h.1)

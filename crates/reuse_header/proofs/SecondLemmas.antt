@@ -1,5 +1,6 @@
 -- A file that was amended is left as it is by the same amendments.
-use Rattle.std.proofs.Common.{◌≡◌, ℕ, ◌+◌, true, List, [], ◌++◌, length, drop, map, Option, None, Some, refl, sym, ap, subst, ◌∙◌, arith}
+use Rattle.std.proofs.Common.{◌≡◌, ℕ, ◌+◌, true, List, [], ◌++◌, length, drop, map, Option, None, Some, refl, sym, ap}
+use Rattle.std.proofs.Common.{subst, ◌∙◌, arith}
 use Rattle.std.specs.Prelude.{Result, Ok, Err}
 use Rattle.std.specs.Option.{option_map}
 use Rattle.reuse_notice.specs.declared.infos.Info.{Info}
@@ -22,14 +23,16 @@ use Rattle.reuse_header.specs.Amendment.{amendment_of, neighbour_amendment_of, a
 use Rattle.reuse_header.specs.AmendmentLaws.{NoticesReadAsAmended}
 use Rattle.reuse_header.proofs.LawLemmas.{text_of_edit, text_lines}
 use Rattle.reuse_header.proofs.OpenLemmas.{is_replacement, standing, text_behind, open_made, read_back}
-use Rattle.reuse_header.proofs.AmendmentLawLemmas.{amendment_ok, amended_read, none_stays, same_stays, neighbour_amendment_ok, neighbour_stays}
+use Rattle.reuse_header.proofs.AmendmentLawLemmas.{amendment_ok, amended_read, none_stays, same_stays}
+use Rattle.reuse_header.proofs.AmendmentLawLemmas.{neighbour_amendment_ok, neighbour_stays}
 use Rattle.reuse_header.proofs.AmendedLemmas.{amended_reads, amended_neighbour_reads}
 
 -- what the law on information says
 abbrev pub Second : Type 0
 Second =
     (a : Amendments)
-    (info new : Info) → BringNothingBack a → NoticesReadAsAmended a info → amended a info ≡ Some new → amended a new ≡ Some new
+    (info new : Info) → BringNothingBack a → NoticesReadAsAmended a info → amended a info ≡ Some new
+    → amended a new ≡ Some new
 
 pub both : (r : Result (Option Edit) AmendHeaderRefusal) (edit : Edit) → r ≡ Ok None → r ≡ Ok (Some edit) → ⊥
 both r edit none some = let same = sym none ∙ some in cc
@@ -81,7 +84,8 @@ block_again second known laws style a file edit span back plain reads found e =
     let s =
     amended_reads known laws.well style a file span w.info kind span.form w.marks plain found w.is.made w.marks_are in
     let read =
-    amended_read laws.joined laws.well laws.only laws.sets style a file edit span w.info span.form w.marks e found block s.0 s.1 in
+    amended_read laws.joined laws.well laws.only laws.sets style a file edit span w.info span.form w.marks e found
+    block s.0 s.1 in
     let q =
     quiet a (info_of (punctuation_of style) read.0.contents) w.info read.1.says
     (second a old w.info back reads w.is.made) in

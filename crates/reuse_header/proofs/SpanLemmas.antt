@@ -1,11 +1,14 @@
 -- The places of lines within their file.
-use Rattle.std.proofs.Common.{◌≡◌, ℕ, ◌+◌, ◌≤◌, Bool, true, List, [], ◌∷◌, length, length-append, length-drop, refl, ap, ◌∙◌, inl, inr, arith}
+use Rattle.std.proofs.Common.{◌≡◌, ℕ, ◌+◌, ◌≤◌, Bool, true, List, [], ◌∷◌, length, length-append, length-drop, refl, ap}
+use Rattle.std.proofs.Common.{◌∙◌, inl, inr, arith}
 use Rattle.std.specs.Prelude.{nat_eq}
 use Rattle.std.specs.List.{starts_with}
 use Rattle.std.proofs.lemmas.Bool.{and_parts}
-use Rattle.reuse_text.specs.Text.{TextLine, line_bytes, text_of, lines_of, placed, file_lines, after_mark, mark_len_of, byte_order_mark}
+use Rattle.reuse_text.specs.Text.{TextLine, line_bytes, text_of, lines_of, placed, file_lines, after_mark, mark_len_of}
+use Rattle.reuse_text.specs.Text.{byte_order_mark}
 use Rattle.reuse_header.specs.declared.style.Style.{Style}
-use Rattle.reuse_header.specs.Body.{PlacedLines, is_shebang, is_declaration, is_barrier, without_first, body_lines, place_in}
+use Rattle.reuse_header.specs.Body.{PlacedLines, is_shebang, is_declaration, is_barrier, without_first, body_lines}
+use Rattle.reuse_header.specs.Body.{place_in}
 use Rattle.reuse_header.specs.Neighbour.{closed_lines, neighbour_end}
 use Rattle.std.proofs.lemmas.Bool.{cases_Bool as truth}
 
@@ -17,21 +20,25 @@ pub record AreLast (file : List ℕ) (least : ℕ) (lines : PlacedLines) : Type 
   pub are : lines ≡ placed start texts
   pub end : start + length (text_of texts) ≡ length file
 
-last_place : (file : List ℕ) (start : ℕ) (texts : List TextLine) → start + length (text_of texts) ≡ length file → place_in file (placed start texts) ≡ start
+last_place : (file : List ℕ) (start : ℕ) (texts : List TextLine) → start + length (text_of texts) ≡ length file
+    → place_in file (placed start texts) ≡ start
 last_place file start [] e = omega (arith, e)
 last_place file start (t ∷ texts) e = refl
 
 -- where they begin
-pub last-place : {file : List ℕ} {least : ℕ} {lines : PlacedLines} → AreLast file least lines → (least ≤ place_in file lines) × (place_in file lines ≤ length file)
+pub last-place : {file : List ℕ} {least : ℕ} {lines : PlacedLines} → AreLast file least lines
+    → (least ≤ place_in file lines) × (place_in file lines ≤ length file)
 last-place {file = file} {lines = lines} last =
     let is = ap (place_in file) last.are ∙ last_place file last.start last.texts last.end in
     (omega (arith, is, last.later), omega (arith, is, last.end))
 
 -- all but the first of them
-last-next : (file : List ℕ) (least : ℕ) (line : ℕ × TextLine) (lines : PlacedLines) → AreLast file least (line ∷ lines) → AreLast file least lines
+last-next : (file : List ℕ) (least : ℕ) (line : ℕ × TextLine) (lines : PlacedLines) → AreLast file least (line ∷ lines)
+    → AreLast file least lines
 last-next file least line lines last = next last.start last.texts last.later last.are last.end
   where
-    next : (start : ℕ) (texts : List TextLine) → least ≤ start → line ∷ lines ≡ placed start texts → start + length (text_of texts) ≡ length file → AreLast file least lines
+    next : (start : ℕ) (texts : List TextLine) → least ≤ start → line ∷ lines ≡ placed start texts
+        → start + length (text_of texts) ≡ length file → AreLast file least lines
     next start [] later are end = cc
     next start (t ∷ texts) later are end =
         let rest : lines ≡ placed (start + length (line_bytes t)) texts = cc in
@@ -43,14 +50,16 @@ last-next file least line lines last = next last.start last.texts last.later las
           end = omega (arith, end, length-append (line_bytes t) (text_of texts));
         }
 
-last-without_first : (file : List ℕ) (least : ℕ) (test : List ℕ → Bool) (lines : PlacedLines) → AreLast file least lines → AreLast file least (without_first test lines)
+last-without_first : (file : List ℕ) (least : ℕ) (test : List ℕ → Bool) (lines : PlacedLines) → AreLast file least lines
+    → AreLast file least (without_first test lines)
 last-without_first file least test [] last = last
 last-without_first file least test (line ∷ lines) last = elim (truth (test line.1.content)) [
   | inl e ↦ rw e (last-next file least line lines last)
   | inr e ↦ rw e last
 ]
 
-pub last-closed : (file : List ℕ) (least : ℕ) (lines : PlacedLines) → AreLast file least lines → AreLast file least (closed_lines lines)
+pub last-closed : (file : List ℕ) (least : ℕ) (lines : PlacedLines) → AreLast file least lines
+    → AreLast file least (closed_lines lines)
 last-closed file least [] last = last
 last-closed file least (line ∷ lines) last = elim (truth (is_barrier line.1.content)) [
   | inl e ↦ rw e last
@@ -70,7 +79,8 @@ mark_within file = elim (truth (starts_with nat_eq file byte_order_mark)) [
 ]
 
 -- the lines of a file, if those of each text join to it
-lines-last : (file : List ℕ) → text_of (lines_of (after_mark file)) ≡ after_mark file → AreLast file (mark_len_of file) (file_lines file)
+lines-last : (file : List ℕ) → text_of (lines_of (after_mark file)) ≡ after_mark file
+    → AreLast file (mark_len_of file) (file_lines file)
 lines-last file joined = record {
   start = mark_len_of file;
   texts = lines_of (after_mark file);
@@ -83,8 +93,12 @@ module _ (joined : (text : List ℕ) → text_of (lines_of text) ≡ text) where
   pub body-within : (style : Style) (file : List ℕ) → place_in file (body_lines style (file_lines file)) ≤ length file
   body-within style file =
       let lines = file_lines file in
-      let one = last-without_first file (mark_len_of file) is_shebang lines (lines-last file (joined (after_mark file))) in
-      (last-place (last-without_first file (mark_len_of file) (is_declaration style) (without_first is_shebang lines) one)).1
+      let one =
+      last-without_first file (mark_len_of file) is_shebang lines (lines-last file (joined (after_mark file))) in
+      (last-place
+      (last-without_first file (mark_len_of file) (is_declaration style) (without_first is_shebang lines) one)).1
 
-  pub neighbour_end-within : (file : List ℕ) → (mark_len_of file ≤ neighbour_end file) × (neighbour_end file ≤ length file)
-  neighbour_end-within file = last-place (last-closed file (mark_len_of file) (file_lines file) (lines-last file (joined (after_mark file))))
+  pub neighbour_end-within : (file : List ℕ)
+      → (mark_len_of file ≤ neighbour_end file) × (neighbour_end file ≤ length file)
+  neighbour_end-within file =
+      last-place (last-closed file (mark_len_of file) (file_lines file) (lines-last file (joined (after_mark file))))

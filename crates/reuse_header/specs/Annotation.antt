@@ -1,6 +1,7 @@
 -- What annotating makes of a file: the edit that puts the new header block in, or the first refusal (the reuse tool's
 -- manual page of `annotate`; form, place and refusals: docs/RULES.md, "What annotate writes").
-use Rattle.std.specs.Prelude.{ℕ, ◌+◌, ◌-◌, Bool, true, false, not, ◌&&◌, ◌==◌, nat_lt, List, [], ◌∷◌, ◌++◌, length, Option, None, Some, Result, Ok, Err, is_some, unwrap_or, if◌then◌else◌}
+use Rattle.std.specs.Prelude.{ℕ, ◌+◌, ◌-◌, Bool, true, false, not, ◌&&◌, ◌==◌, nat_lt, List, [], ◌∷◌, ◌++◌, length}
+use Rattle.std.specs.Prelude.{Option, None, Some, Result, Ok, Err, is_some, unwrap_or, if◌then◌else◌}
 use Rattle.std.specs.Option.{option_map, option_map_or, option_or}
 use Rattle.reuse_text.specs.declared.TheConstants.{LONGEST_FILE}
 use Rattle.reuse_text.specs.declared.LineKind.{LineKind}
@@ -12,7 +13,8 @@ use Rattle.reuse_header.specs.declared.style.Form.{Form}
 use Rattle.reuse_header.specs.declared.style.Form.TheVariants.{Single, Multi}
 use Rattle.reuse_header.specs.declared.annotation.How.{How}
 use Rattle.reuse_header.specs.declared.annotation.HeaderRefusal.{HeaderRefusal}
-use Rattle.reuse_header.specs.declared.annotation.HeaderRefusal.TheVariants.{NoSuchForm, HoldsCloser, TooLong, Unsettled}
+use Rattle.reuse_header.specs.declared.annotation.HeaderRefusal.TheVariants.{NoSuchForm, HoldsCloser, TooLong}
+use Rattle.reuse_header.specs.declared.annotation.HeaderRefusal.TheVariants.{Unsettled}
 use Rattle.reuse_header.specs.Styles.{line_comment_of, punctuation_of}
 use Rattle.reuse_header.specs.Marks.{LineMarks, marks_of}
 use Rattle.reuse_header.specs.Body.{PlacedLines, is_shebang, is_declaration, without_first, body_lines, place_in}
@@ -107,7 +109,8 @@ edit_of style file None text =
 -- the form that is asked for, else the old block's, else single-line where the style has it, else multi-line
 abbrev pub chosen_form : Style → Option Form → Option HeaderSpan → Form
 chosen_form style asked old =
-    unwrap_or (option_or asked (option_map (λ span. span.form) old)) (if is_some (line_comment_of style) then Single else Multi)
+    unwrap_or (option_or asked (option_map (λ span. span.form) old))
+    (if is_some (line_comment_of style) then Single else Multi)
 
 -- the old block, if it is to be replaced, and its contents
 abbrev pub replaced_block : Bool → Option HeaderSpan → Option HeaderSpan
@@ -124,7 +127,8 @@ settled made edit is_found =
 -- whether the header block of a file stands from one place to another
 abbrev pub stands_at : Style → List ℕ → ℕ → ℕ → Bool
 stands_at style file start end =
-    option_map_or (λ span. span.start == start && span.end == end) (option_map (span_in file) (header_of style file)) false
+    option_map_or (λ span. span.start == start && span.end == end)
+    (option_map (span_in file) (header_of style file)) false
 
 -- the edit that writes a block by the marks of its form, or the first refusal
 unfoldable pub written_by : Style → List ℕ → Option HeaderSpan → Info → Option LineMarks → Result Edit HeaderRefusal

@@ -5,7 +5,8 @@ use Rattle.reuse_text.specs.declared.LineKind.{LineKind}
 use Rattle.reuse_header.specs.declared.place.Place.{Place}
 use Rattle.reuse_header.specs.declared.draft.Draft.{Draft}
 use Rattle.reuse_header.specs.declared.annotation.HeaderRefusal.{HeaderRefusal}
-use Rattle.reuse_header.specs.declared.annotation.HeaderRefusal.TheVariants.{NotText, NoSuchForm, HoldsCloser, TooLong, Unsettled, Memory}
+use Rattle.reuse_header.specs.declared.annotation.HeaderRefusal.TheVariants.{NotText, NoSuchForm, HoldsCloser, TooLong}
+use Rattle.reuse_header.specs.declared.annotation.HeaderRefusal.TheVariants.{Unsettled, Memory}
 use Rattle.reuse_header.specs.Header.{HeaderSpan}
 use Rattle.reuse_header.specs.Annotation.{Edit, ending_if, new_bytes, edited, text_start, text_end}
 

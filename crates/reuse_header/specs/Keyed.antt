@@ -21,6 +21,8 @@ pub record IsKeyed (names : BTreeMap (List ℕ) Kind) (own : List ℕ → Option
   pub kinds : (name : List ℕ) → get (slice_cmp nat_cmp) names (str_to_ascii_lowercase name) ≡ own name
 
 -- a map holds the entries of earlier names
-pub record Keyed (names : BTreeMap (List ℕ) Kind) (earlier : List (List ℕ)) (entries : List (List ℕ × Kind)) : Type 0 where
+pub record Keyed (names : BTreeMap (List ℕ) Kind) (earlier : List (List ℕ))
+    (entries : List (List ℕ × Kind)) : Type 0 where
   pub own : IsKeyed names (lookup entries)
-  pub held : (name : List ℕ) → is_some (lookup entries name) ≡ list_any (λ other. str_eq_ignore_ascii_case other name) earlier
+  pub held : (name : List ℕ)
+      → is_some (lookup entries name) ≡ list_any (λ other. str_eq_ignore_ascii_case other name) earlier

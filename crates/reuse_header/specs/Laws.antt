@@ -1,5 +1,6 @@
 -- Words of the laws (this project's own).
-use Rattle.std.specs.Prelude.{◌≡◌, ℕ, ◌+◌, ◌-◌, ◌<◌, Bool, true, false, List, [], ◌∷◌, ◌++◌, length, map, take, drop, Contains, All, ◌⊎◌, Option, None, Some}
+use Rattle.std.specs.Prelude.{◌≡◌, ℕ, ◌+◌, ◌-◌, ◌<◌, Bool, true, false, List, [], ◌∷◌, ◌++◌, length, map, take, drop}
+use Rattle.std.specs.Prelude.{Contains, All, ◌⊎◌, Option, None, Some}
 use Rattle.reuse_text.specs.declared.LineKind.{LineKind}
 use Rattle.reuse_notice.specs.declared.infos.Info.{Info}
 use Rattle.reuse_notice.specs.Keeping.{IsKeptBy}
@@ -18,7 +19,8 @@ use Rattle.reuse_header.specs.Header.{HeaderSpan, span_in, header_of, neighbour_
 use Rattle.reuse_notice.specs.declared.adding.Additions.{Additions}
 use Rattle.reuse_header.specs.declared.annotation.How.{How}
 use Rattle.reuse_header.specs.Writing.{block_text, new_info}
-use Rattle.reuse_header.specs.Annotation.{Edit, edited, ending_if, kind_of_file, replaced_block, old_contents, prefix_lines}
+use Rattle.reuse_header.specs.Annotation.{Edit, edited, ending_if, kind_of_file, replaced_block, old_contents}
+use Rattle.reuse_header.specs.Annotation.{prefix_lines}
 use Rattle.reuse_header.specs.Neighbour.{closed_lines, neighbour_end, replaced_contents}
 
 -- the bytes from one place of a file on to another
@@ -27,7 +29,8 @@ part file start end = take (end - start) (drop start file)
 
 -- a text stands in bytes behind the first `place` of them
 abbrev pub StandsAt : List ℕ → List ℕ → ℕ → Type 0
-StandsAt text bytes place = (front : List ℕ) × (back : List ℕ) × (length front ≡ place) × (bytes ≡ front ++ text ++ back)
+StandsAt text bytes place =
+    (front : List ℕ) × (back : List ℕ) × (length front ≡ place) × (bytes ≡ front ++ text ++ back)
 
 -- it stands there, and behind no fewer of them
 pub record IsFirstPlace (text bytes : List ℕ) (place : ℕ) : Type 0 where
@@ -53,7 +56,8 @@ pub record IsEndedBy (closer : List ℕ) (lines : List (List ℕ)) (count : ℕ)
 -- the first `count` lines are one comment: they begin with the opener, and end by the closer behind it
 abbrev pub IsEnclosed : BlockForm → List (List ℕ) → ℕ → Type 0
 IsEnclosed comment lines count =
-    (first : List ℕ) × (after : List (List ℕ)) × (lines ≡ (comment.opener ++ first) ∷ after) × IsEndedBy comment.closer (first ∷ after) count
+    (first : List ℕ) × (after : List (List ℕ)) × (lines ≡ (comment.opener ++ first) ∷ after)
+    × IsEndedBy comment.closer (first ∷ after) count
 
 -- the first of some lines, if there is one, is a barrier
 abbrev pub BeginsClosed : PlacedLines → Type 0
@@ -75,7 +79,8 @@ pub record IsCutAtBarrier (file : List ℕ) (open_lines : PlacedLines) : Type 0 
 pub record IsInsertion (file : List ℕ) (place : ℕ) (edit : Edit) : Type 0 where
   pub made : edited file edit ≡ take place file ++ (edit.front ++ (edit.text ++ edit.back)) ++ drop place file
   pub takes_nothing : edit.old_len ≡ 0
-  pub front : (ends_line : Bool) × (empty_line : Bool) × (edit.front ≡ ending_if ends_line (kind_of_file file) ++ ending_if empty_line (kind_of_file file))
+  pub front : (ends_line : Bool) × (empty_line : Bool)
+      × (edit.front ≡ ending_if ends_line (kind_of_file file) ++ ending_if empty_line (kind_of_file file))
   pub back : (empty_line : Bool) × (edit.back ≡ ending_if empty_line (kind_of_file file))
 
 -- a notice stands among others, or, where they are merged, one of its holder does whose years include its own
@@ -91,12 +96,14 @@ pub record Keeps (merge : Bool) (old new : Info) : Type 0 where
   pub free : new.free ≡ old.free
 
 -- the text of a block of a style that says some information
-pub record IsBlockText (style : Style) (kind : LineKind) (info : Info) (form : Form) (marks : LineMarks) (text : List ℕ) : Type 0 where
+pub record IsBlockText (style : Style) (kind : LineKind) (info : Info) (form : Form) (marks : LineMarks)
+    (text : List ℕ) : Type 0 where
   pub marks_are : marks_of style form ≡ Some marks
   pub text_is : text ≡ block_text marks kind info
 
 -- the header block of a file stands from one place to another, in a form, and says some information
-pub record ReadsAs (style : Style) (file : List ℕ) (start end : ℕ) (form : Form) (info : Info) (span : HeaderSpan) : Type 0 where
+pub record ReadsAs (style : Style) (file : List ℕ) (start end : ℕ) (form : Form) (info : Info)
+    (span : HeaderSpan) : Type 0 where
   pub found : option_map (span_in file) (header_of style file) ≡ Some span
   pub starts : span.start ≡ start
   pub ends : span.end ≡ end
@@ -124,4 +131,5 @@ neighbour_info_written how additions file = new_info [] (replaced_contents how.r
 -- CRLF, and the file of another kind
 abbrev pub EndsPlainly : Style → List ℕ → Type 0
 EndsPlainly style file =
-    (line : ℕ × TextLine) → prefix_lines style (file_lines file) ≡ line ∷ [] → line.1.ending ≡ None → ends_in_return file ≡ false
+    (line : ℕ × TextLine) → prefix_lines style (file_lines file) ≡ line ∷ [] → line.1.ending ≡ None
+    → ends_in_return file ≡ false

@@ -4,4 +4,10 @@ use Rattle.reuse_header.specs.declared.writer.Marks.{Marks}
 use Rattle.reuse_header.specs.Marks.{LineMarks}
 
 abbrev pub marks_view : Marks → LineMarks
-marks_view m = record { lead = m.lead.now; mark = m.mark.now; first = option_copied m.first; last = option_copied m.last; closer = option_copied m.closer }
+marks_view m = record {
+  lead = m.lead.now;
+  mark = m.mark.now;
+  first = option_copied m.first;
+  last = option_copied m.last;
+  closer = option_copied m.closer;
+}

@@ -13,7 +13,8 @@ use Rattle.reuse_header.specs.declared.annotation.HeaderRefusal.TheVariants.{Not
 use Rattle.reuse_header.specs.Body.{PlacedLines, place_in, is_barrier}
 use Rattle.reuse_header.specs.Header.{neighbour_contents}
 use Rattle.reuse_header.specs.Writing.{new_info, neighbour_marks, block_text}
-use Rattle.reuse_header.specs.Annotation.{Edit, edited, text_start, text_end, replacement, insertion, kind_of_file, settled, made_by}
+use Rattle.reuse_header.specs.Annotation.{Edit, edited, text_start, text_end, replacement, insertion, kind_of_file}
+use Rattle.reuse_header.specs.Annotation.{settled, made_by}
 
 -- UTF-8 without a NUL byte
 abbrev pub is_text : List ℕ → Bool

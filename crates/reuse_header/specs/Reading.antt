@@ -12,7 +12,8 @@ use Rattle.reuse_header.specs.Writing.{contributor_text, licence_text}
 -- contents are no tags, and none at their outer ends is blank
 pub record IsSayable (punct : List ℕ) (info : Info) : Type 0 where
   pub notices : All (λ text. notice_text (tag_of punct text) ≡ Some text) info.notices
-  pub contributors : All (λ value. contributor_value (tag_of punct (contributor_text value)) ≡ Some value) info.contributors
+  pub contributors : All
+      (λ value. contributor_value (tag_of punct (contributor_text value)) ≡ Some value) info.contributors
   pub licences : All (λ value. licence_value (tag_of punct (licence_text value)) ≡ Some value) info.licences
   pub free : All (λ content. (tag_of punct content ≡ None) × (without_returns content ≡ content)) info.free
   pub free_ends : trimmed (is_blank_content punct) info.free ≡ info.free
@@ -23,5 +24,6 @@ pub record IsSayable (punct : List ℕ) (info : Info) : Type 0 where
 -- each text of the additions reads as what it is
 pub record AreSayable (punct : List ℕ) (additions : Additions) : Type 0 where
   pub notices : All (λ text. notice_text (tag_of punct text) ≡ Some text) additions.notices
-  pub contributors : All (λ value. contributor_value (tag_of punct (contributor_text value)) ≡ Some value) additions.contributors
+  pub contributors : All
+      (λ value. contributor_value (tag_of punct (contributor_text value)) ≡ Some value) additions.contributors
   pub licences : All (λ value. licence_value (tag_of punct (licence_text value)) ≡ Some value) additions.licences

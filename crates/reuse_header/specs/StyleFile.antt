@@ -1,5 +1,6 @@
 -- The kinds that a project's file of styles gives to names (TOML 1.0, and this project's own keys).
-use Rattle.std.specs.Prelude.{◌≡◌, ℕ, pos, Bool, true, false, ◌&&◌, ◌==◌, List, [], ◌∷◌, ◌++◌, Option, Some, None, is_none, Result, Ok, Err, if◌then◌else◌, codes}
+use Rattle.std.specs.Prelude.{◌≡◌, ℕ, pos, Bool, true, false, ◌&&◌, ◌==◌, List, [], ◌∷◌, ◌++◌, Option, Some, None}
+use Rattle.std.specs.Prelude.{is_none, Result, Ok, Err, if◌then◌else◌, codes}
 use Rattle.std.specs.List.{list_any, filter_map}
 use Rattle.std.specs.Option.{option_or, option_map}
 use Rattle.std.specs.Ordering.{int_eq}
@@ -9,13 +10,15 @@ use Rattle.toml.specs.Parse.{parse_document}
 use Rattle.reuse_header.specs.declared.style.Kind.{Kind}
 use Rattle.reuse_header.specs.declared.style.Kind.TheVariants.{Style, Uncommentable}
 use Rattle.reuse_header.specs.declared.style_refusal.StylesRefusal.{StylesRefusal}
-use Rattle.reuse_header.specs.declared.style_refusal.StylesRefusal.TheVariants.{NotToml, BadShape, BadName, BadStyle, Repeated, Memory}
+use Rattle.reuse_header.specs.declared.style_refusal.StylesRefusal.TheVariants.{NotToml, BadShape, BadName, BadStyle}
+use Rattle.reuse_header.specs.declared.style_refusal.StylesRefusal.TheVariants.{Repeated, Memory}
 use Rattle.reuse_header.specs.Styles.{style_named}
 use Rattle.reuse_header.specs.Names.{slash, lookup}
 
 -- the kind that a text names: a style's name, or `uncommentable`
 abbrev pub kind_named : List ℕ → Option Kind
-kind_named text = if bytes_eq text (codes "uncommentable") then Some Uncommentable else option_map (λ style. Style style) (style_named text)
+kind_named text = if bytes_eq text (codes "uncommentable") then Some Uncommentable
+    else option_map (λ style. Style style) (style_named text)
 
 -- a name, and the text that stands for its kind
 abbrev pub NamedText : Type 0
@@ -40,7 +43,8 @@ is_version value = false
 -- the names and texts of a document whose only keys are, in byte order, `styles` and `version`
 unfoldable pub texts_of_document : Members → Option (List NamedText)
 texts_of_document (member first names (member second version no_members)) =
-    if bytes_eq first (codes "styles") && bytes_eq second (codes "version") && is_version version then texts_of_value names else None
+    if bytes_eq first (codes "styles") && bytes_eq second (codes "version") && is_version version
+    then texts_of_value names else None
 texts_of_document document = None
 
 -- texts as the table of their names, and as the document that says them
@@ -49,7 +53,8 @@ text_members [] = no_members
 text_members (named ∷ texts) = member named.0 (string named.1) (text_members texts)
 
 abbrev pub document_of : List NamedText → Members
-document_of texts = member (codes "styles") (table (text_members texts)) (member (codes "version") (integer (pos 1)) no_members)
+document_of texts =
+    member (codes "styles") (table (text_members texts)) (member (codes "version") (integer (pos 1)) no_members)
 
 -- no last part of a path is such a name
 abbrev pub is_bad_name : List ℕ → Bool
@@ -67,7 +72,8 @@ refusal_at earlier (name, text) =
 -- the first refusal of names in order, behind other names
 unfoldable pub first_refusal : List (List ℕ) → List NamedText → Option StylesRefusal
 first_refusal earlier [] = None
-first_refusal earlier (named ∷ others) = option_or (refusal_at earlier named) (first_refusal (earlier ++ named.0 ∷ []) others)
+first_refusal earlier (named ∷ others) =
+    option_or (refusal_at earlier named) (first_refusal (earlier ++ named.0 ∷ []) others)
 
 -- the kinds that texts name
 abbrev pub kinds_of : List NamedText → List (List ℕ × Kind)

@@ -7,7 +7,8 @@ ghost use Rattle.reuse_header.specs.Neighbour.{replaced_contents, neighbour_writ
 ghost use Rattle.reuse_header.specs.Marks.{marks_of};
 ghost use Rattle.reuse_header.specs.Annotation.{written_by};
 ghost use Rattle.reuse_header.specs.Drafts.{IsWithin};
-ghost use Rattle.reuse_header.specs.Amendment.{amended_information, as_amendment, block_amendment, written_if, amendment_of, neighbour_amendment_of, amendment_answer, IsAmendmentDue};
+ghost use Rattle.reuse_header.specs.Amendment.{amended_information, as_amendment, block_amendment, written_if};
+ghost use Rattle.reuse_header.specs.Amendment.{amendment_of, neighbour_amendment_of, amendment_answer, IsAmendmentDue};
 
 use crate::amendment::AmendHeaderRefusal;
 use crate::annotate::{collected, write_block};
@@ -55,7 +56,8 @@ fn amend_block(
 ) -> Result<Option<Splice>, AmendHeaderRefusal>
     requires within { IsWithin file.now (Some (block_view block)) }
     requires short { length file.now ≤ LONGEST_FILE }
-    ensures { IsAmendmentDue (amendment_answer file.now (block_amendment style amendments.now file.now (block_view block.entry))) result }
+    ensures { IsAmendmentDue
+        (amendment_answer file.now (block_amendment style amendments.now file.now (block_view block.entry))) result }
 {
     let info = read_block(alloc, block.contents, style.punctuation())?;
     match amend_information(alloc, &info, amendments) {
@@ -82,7 +84,8 @@ fn write_new(
 ) -> Result<Option<Splice>, AmendHeaderRefusal>
     requires within { IsWithin file.now (Some (block_view block)) }
     requires short { length file.now ≤ LONGEST_FILE }
-    ensures { IsAmendmentDue (amendment_answer file.now (written_if (λ info. written_by style file.now (Some (block_view block.entry)) info (marks_of style block.entry.form)) (Ok new))) result }
+    ensures { IsAmendmentDue (amendment_answer file.now (written_if (λ info. written_by style file.now
+        (Some (block_view block.entry)) info (marks_of style block.entry.form)) (Ok new))) result }
 {
     match new {
         None => Ok(None),
@@ -100,7 +103,8 @@ fn write_amended(
 ) -> Result<Option<Splice>, AmendHeaderRefusal>
     requires within { IsWithin file.now (Some (block_view block)) }
     requires short { length file.now ≤ LONGEST_FILE }
-    ensures { IsAmendmentDue (amendment_answer file.now (as_amendment (written_by style file.now (Some (block_view block.entry)) info.now (marks_of style block.entry.form)))) result }
+    ensures { IsAmendmentDue (amendment_answer file.now (as_amendment (written_by style file.now
+        (Some (block_view block.entry)) info.now (marks_of style block.entry.form)))) result }
 {
     let Some(marks) = marks_of(style, block.form) else {
         return Err(AmendHeaderRefusal::Header(HeaderRefusal::NoSuchForm));
@@ -139,7 +143,8 @@ fn amend_text(
     amendments: &Amendments,
 ) -> Result<Option<Splice>, AmendHeaderRefusal>
     requires { length file.now ≤ LONGEST_FILE }
-    ensures { IsAmendmentDue (amendment_answer file.now (written_if (neighbour_written true file.now) (amended_information amendments.now (info_of [] (replaced_contents true file.now))))) result }
+    ensures { IsAmendmentDue (amendment_answer file.now (written_if (neighbour_written true file.now)
+        (amended_information amendments.now (info_of [] (replaced_contents true file.now))))) result }
 {
     let info = read_neighbour(alloc, file)?;
     match amend_information(alloc, &info, amendments) {
@@ -155,7 +160,8 @@ fn write_new_neighbour(
     new: Option<Info>,
 ) -> Result<Option<Splice>, AmendHeaderRefusal>
     requires { length file.now ≤ LONGEST_FILE }
-    ensures { IsAmendmentDue (amendment_answer file.now (written_if (neighbour_written true file.now) (Ok new))) result }
+    ensures { IsAmendmentDue
+        (amendment_answer file.now (written_if (neighbour_written true file.now) (Ok new))) result }
 {
     match new {
         None => Ok(None),
@@ -178,7 +184,8 @@ fn write_amended_neighbour(
     info: &Info,
 ) -> Result<Option<Splice>, AmendHeaderRefusal>
     requires { length file.now ≤ LONGEST_FILE }
-    ensures { IsAmendmentDue (amendment_answer file.now (as_amendment (neighbour_written true file.now info.now))) result }
+    ensures { IsAmendmentDue
+        (amendment_answer file.now (as_amendment (neighbour_written true file.now info.now))) result }
 {
     match write_neighbour(alloc, file, true, info) {
         Ok(splice) => Ok(splice),

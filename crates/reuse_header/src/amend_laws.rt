@@ -29,8 +29,10 @@ use reuse_text::lines_are_one;
 /// Amending makes nothing: a file without a header block stays, and so does one whose block the
 /// amendments change nothing of.
 pub fn unamended_files_stay()
-    ensures none { (style : Style) (a : Amendments) (file : List ℕ) → option_map (span_in file) (header_of style file) ≡ None → amendment_of style a file ≡ Ok None }
-    ensures same { (style : Style) (a : Amendments) (file : List ℕ) (span : HeaderSpan) (new : Info) → option_map (span_in file) (header_of style file) ≡ Some span
+    ensures none { (style : Style) (a : Amendments) (file : List ℕ)
+        → option_map (span_in file) (header_of style file) ≡ None → amendment_of style a file ≡ Ok None }
+    ensures same { (style : Style) (a : Amendments) (file : List ℕ) (span : HeaderSpan) (new : Info)
+        → option_map (span_in file) (header_of style file) ≡ Some span
         → let old = info_of (punctuation_of style) span.contents in
         amended a old ≡ Some new → says_the_same old new ≡ true → amendment_of style a file ≡ Ok None }
 {}
@@ -38,8 +40,10 @@ pub fn unamended_files_stay()
 /// Amending keeps every byte outside the block: the new text stands between what stood in front of
 /// the old block and what stood behind it.
 pub fn amending_keeps_other_bytes()
-    ensures files { (style : Style) (a : Amendments) (file : List ℕ) (edit : Edit) (span : HeaderSpan) → amendment_of style a file ≡ Ok (Some edit)
-        → option_map (span_in file) (header_of style file) ≡ Some span → edited file edit ≡ take span.start file ++ edit.text ++ drop span.end file }
+    ensures files { (style : Style) (a : Amendments) (file : List ℕ) (edit : Edit) (span : HeaderSpan)
+        → amendment_of style a file ≡ Ok (Some edit)
+        → option_map (span_in file) (header_of style file) ≡ Some span
+        → edited file edit ≡ take span.start file ++ edit.text ++ drop span.end file }
     ensures neighbours { (a : Amendments) (file : List ℕ) (edit : Edit) → neighbour_amendment_of a file ≡ Ok (Some edit)
         → edited file edit ≡ take (mark_len_of file) file ++ edit.text ++ drop (neighbour_end file) file }
 {
@@ -48,7 +52,8 @@ pub fn amending_keeps_other_bytes()
 
 /// The edit that amending is lies within its file, and the file that it makes has at most 16 MiB.
 pub fn amendments_fit()
-    ensures files { (style : Style) (a : Amendments) (file : List ℕ) (edit : Edit) → amendment_of style a file ≡ Ok (Some edit)
+    ensures files { (style : Style) (a : Amendments) (file : List ℕ) (edit : Edit)
+        → amendment_of style a file ≡ Ok (Some edit)
         → (edit.start + edit.old_len ≤ length file) × (length (edited file edit) ≤ LONGEST_FILE) }
     ensures neighbours { (a : Amendments) (file : List ℕ) (edit : Edit) → neighbour_amendment_of a file ≡ Ok (Some edit)
         → (edit.start + edit.old_len ≤ length file) × (length (edited file edit) ≤ LONGEST_FILE) }
@@ -59,18 +64,23 @@ pub fn amendments_fit()
 /// The new block says the amended information in the form of the old block, and the contents
 /// without a tag stay.
 pub fn amended_blocks_say_what_is_amended()
-    ensures files { (style : Style) (a : Amendments) (file : List ℕ) (edit : Edit) (span : HeaderSpan) → amendment_of style a file ≡ Ok (Some edit)
+    ensures files { (style : Style) (a : Amendments) (file : List ℕ) (edit : Edit) (span : HeaderSpan)
+        → amendment_of style a file ≡ Ok (Some edit)
         → option_map (span_in file) (header_of style file) ≡ Some span → AmendsBlock style a file span edit }
-    ensures neighbours { (a : Amendments) (file : List ℕ) (edit : Edit) → neighbour_amendment_of a file ≡ Ok (Some edit) → AmendsNeighbour a file edit }
+    ensures neighbours { (a : Amendments) (file : List ℕ) (edit : Edit) → neighbour_amendment_of a file ≡ Ok (Some edit)
+        → AmendsNeighbour a file edit }
 {}
 
 /// The block that amending writes is the new file's header block, and reading it gives what was
 /// written, where each of its texts reads as what it is and its lines are the contents of lines.
 pub fn amended_blocks_read_back()
-    ensures { (style : Style) (a : Amendments) (file : List ℕ) (edit : Edit) (span : HeaderSpan) (info : Info) (form : Form) (marks : LineMarks)
-        → amendment_of style a file ≡ Ok (Some edit) → option_map (span_in file) (header_of style file) ≡ Some span → IsBlockText style (kind_of_file file) info form marks edit.text
+    ensures { (style : Style) (a : Amendments) (file : List ℕ) (edit : Edit) (span : HeaderSpan) (info : Info)
+        (form : Form) (marks : LineMarks)
+        → amendment_of style a file ≡ Ok (Some edit) → option_map (span_in file) (header_of style file) ≡ Some span
+        → IsBlockText style (kind_of_file file) info form marks edit.text
         → IsSayable (punctuation_of style) info → AreContents (kind_of_file file) (block_lines marks info)
-        → (written : HeaderSpan) × ReadsAs style (edited file edit) (text_start edit) (text_end edit) form info written }
+        → (written : HeaderSpan)
+        × ReadsAs style (edited file edit) (text_start edit) (text_end edit) form info written }
 {
     lines_are_one();
     sets_are_one();
@@ -79,10 +89,13 @@ pub fn amended_blocks_read_back()
 /// What amending writes reads back, and its lines are the contents of lines, where each new text is
 /// plain.
 pub fn amended_information_is_sayable()
-    ensures files { (style : Style) (a : Amendments) (file : List ℕ) (span : HeaderSpan) (new : Info) (kind : LineKind) (form : Form) (marks : LineMarks) → WritePlainTexts a
-        → option_map (span_in file) (header_of style file) ≡ Some span → amended a (info_of (punctuation_of style) span.contents) ≡ Some new → marks_of style form ≡ Some marks
+    ensures files { (style : Style) (a : Amendments) (file : List ℕ) (span : HeaderSpan) (new : Info) (kind : LineKind)
+        (form : Form) (marks : LineMarks) → WritePlainTexts a
+        → option_map (span_in file) (header_of style file) ≡ Some span
+        → amended a (info_of (punctuation_of style) span.contents) ≡ Some new → marks_of style form ≡ Some marks
         → (IsSayable (punctuation_of style) new) × (AreContents kind (block_lines marks new)) }
-    ensures neighbours { (a : Amendments) (file : List ℕ) (new : Info) (kind : LineKind) → WritePlainTexts a → amended a (info_of [] (neighbour_contents file)) ≡ Some new
+    ensures neighbours { (a : Amendments) (file : List ℕ) (new : Info) (kind : LineKind) → WritePlainTexts a
+        → amended a (info_of [] (neighbour_contents file)) ≡ Some new
         → (IsSayable [] new) × (AreContents kind (block_lines neighbour_marks new)) }
 {
     lower_laws();
@@ -91,9 +104,11 @@ pub fn amended_information_is_sayable()
 /// What amending makes of text is text, UTF-8 without a NUL byte, where each new text is plain and
 /// UTF-8, and the year has four digits. A neighbour that isn't text is refused.
 pub fn amended_texts_are_texts()
-    ensures files { (style : Style) (a : Amendments) (file made : List ℕ) → WritePlainTexts a → WriteUtf8Texts a → HasFourDigits a.until → is_text file ≡ true
+    ensures files { (style : Style) (a : Amendments) (file made : List ℕ) → WritePlainTexts a → WriteUtf8Texts a
+        → HasFourDigits a.until → is_text file ≡ true
         → amended_file file (amendment_of style a file) ≡ Ok made → is_text made ≡ true }
-    ensures neighbours { (a : Amendments) (file made : List ℕ) → WritePlainTexts a → WriteUtf8Texts a → HasFourDigits a.until
+    ensures neighbours { (a : Amendments) (file made : List ℕ) → WritePlainTexts a → WriteUtf8Texts a
+        → HasFourDigits a.until
         → amended_file file (neighbour_amendment_of a file) ≡ Ok made → (is_text file ≡ true) × (is_text made ≡ true) }
 {
     lower_laws();
@@ -106,8 +121,10 @@ pub fn second_amendments_leave_files()
     ensures files { (style : Style) (a : Amendments) (file made : List ℕ) → BringNothingBack a → WritePlainTexts a
         → ((info : Info) → information_in style file ≡ Some info → NoticesReadAsAmended a info)
         → amended_file file (amendment_of style a file) ≡ Ok made → amendment_of style a made ≡ Ok None }
-    ensures neighbours { (a : Amendments) (file made : List ℕ) → BringNothingBack a → WritePlainTexts a → NoticesReadAsAmended a (info_of [] (neighbour_contents file))
-        → is_text made ≡ true → amended_file file (neighbour_amendment_of a file) ≡ Ok made → neighbour_amendment_of a made ≡ Ok None }
+    ensures neighbours { (a : Amendments) (file made : List ℕ) → BringNothingBack a → WritePlainTexts a
+        → NoticesReadAsAmended a (info_of [] (neighbour_contents file))
+        → is_text made ≡ true → amended_file file (neighbour_amendment_of a file) ≡ Ok made
+        → neighbour_amendment_of a made ≡ Ok None }
 {
     lower_laws();
     second_amendments_change_nothing();

@@ -40,7 +40,8 @@ fn any_line_holds(alloc: Global, text: &[u8], marks: Marks, info: &Info) -> Resu
 
 // Whether parts of a block are set off from each other.
 fn has_separator(info: &Info) -> bool
-    ensures { result ≡ not ((no_lines info.now.notices && no_lines info.now.contributors) || no_lines info.now.licences) || not (no_lines info.now.free) }
+    ensures { result ≡ not ((no_lines info.now.notices && no_lines info.now.contributors) || no_lines info.now.licences)
+        || not (no_lines info.now.free) }
 {
     is_joined(info) || !info.free().is_empty()
 }
@@ -53,7 +54,8 @@ fn line_holds(
     tag: &[u8],
     values: &[Bytes],
 ) -> Result<bool, AllocError>
-    ensures { IfOk result (λ answer. answer ≡ list_any (holds text.now) (map (λ value. lead.now ++ (tag.now ++ value)) values.now)) }
+    ensures { IfOk result
+        (λ answer. answer ≡ list_any (holds text.now) (map (λ value. lead.now ++ (tag.now ++ value)) values.now)) }
 {
     let mut line = Vec::new(alloc);
     let mut rest = values;

@@ -1,5 +1,6 @@
 //! Laws of the definitions that the contracts cite.
-ghost use Rattle.std.specs.Prelude.{◌≡◌, ◌≤◌, ◌+◌, ◌⊎◌, ◌↔◌, ◌++◌, ℕ, List, Option, None, Some, Ok, true, false, length, take, drop, map, [], ◌==◌, All};
+ghost use Rattle.std.specs.Prelude.{◌≡◌, ◌≤◌, ◌+◌, ◌⊎◌, ◌↔◌, ◌++◌, ℕ, List, Option, None, Some, Ok, true, false};
+ghost use Rattle.std.specs.Prelude.{length, take, drop, map, [], ◌==◌, All};
 ghost use Rattle.reuse_header.specs.declared.style.Style.{Style};
 ghost use Rattle.reuse_header.specs.declared.blocks.BlockSize.{BlockSize};
 ghost use Rattle.reuse_header.specs.Body.{PlacedLines, body_lines, place_in};
@@ -8,7 +9,8 @@ ghost use Rattle.reuse_header.specs.Search.{place_of};
 ghost use Rattle.reuse_header.specs.Header.{Header, HeaderSpan, header_in, header_of, span_in, neighbour_contents};
 ghost use Rattle.reuse_notice.specs.declared.adding.Additions.{Additions};
 ghost use Rattle.reuse_header.specs.declared.annotation.How.{How};
-ghost use Rattle.reuse_header.specs.Annotation.{Edit, annotation_of, annotated, edited, new_bytes, kind_of_file, text_start, text_end};
+ghost use Rattle.reuse_header.specs.Annotation.{Edit, annotation_of, annotated, edited, new_bytes, kind_of_file};
+ghost use Rattle.reuse_header.specs.Annotation.{text_start, text_end};
 ghost use Rattle.reuse_header.specs.Neighbour.{is_text, neighbour_annotation_of, neighbour_annotated, neighbour_end};
 ghost use Rattle.reuse_header.specs.Writing.{block_lines, block_text, neighbour_marks};
 ghost use Rattle.reuse_header.specs.Marks.{LineMarks, marks_of};
@@ -23,7 +25,9 @@ ghost use Rattle.reuse_notice.specs.declared.infos.Info.{Info};
 ghost use Rattle.reuse_notice.specs.Infos.{info_of, union_of, merged_of};
 ghost use Rattle.reuse_text.specs.declared.LineKind.{LineKind};
 ghost use Rattle.reuse_text.specs.Text.{file_lines, mark_len_of};
-ghost use Rattle.reuse_header.specs.Laws.{part, IsFirstPlace, StandsNowhere, IsEndedBy, IsEnclosed, IsCutAtBarrier, IsInsertion, Keeps, IsBlockText, ReadsAs, AreContents, EndsPlainly, information_in, info_written, neighbour_info_written};
+ghost use Rattle.reuse_header.specs.Laws.{part, IsFirstPlace, StandsNowhere, IsEndedBy, IsEnclosed, IsCutAtBarrier};
+ghost use Rattle.reuse_header.specs.Laws.{IsInsertion, Keeps, IsBlockText, ReadsAs, AreContents, EndsPlainly};
+ghost use Rattle.reuse_header.specs.Laws.{information_in, info_written, neighbour_info_written};
 ghost use Rattle.reuse_header.specs.LowerLaws.{Known, Laws};
 ghost use Rattle.reuse_header.specs.Splices.{answer_of};
 ghost use Rattle.reuse_header.specs.Split.{AreCommentBlocks, comment_blocks, IsSplit, IsHeaderBlock, HasNoHeader};
@@ -56,8 +60,10 @@ pub(crate) fn lower_laws()
 /// The comment blocks of open lines are one answer: the block whose form begins at a line, unless
 /// the line is a later line of another block.
 pub fn comment_blocks_are_one()
-    ensures are { (style : Style) (contents : List (List ℕ)) → AreCommentBlocks style contents (comment_blocks style contents) }
-    ensures only { (style : Style) (contents : List (List ℕ)) (begins : ℕ → Option BlockSize) → AreCommentBlocks style contents begins
+    ensures are { (style : Style) (contents : List (List ℕ))
+        → AreCommentBlocks style contents (comment_blocks style contents) }
+    ensures only { (style : Style) (contents : List (List ℕ)) (begins : ℕ → Option BlockSize)
+        → AreCommentBlocks style contents begins
         → (line : ℕ) → begins line ≡ comment_blocks style contents line }
 {}
 
@@ -73,7 +79,8 @@ pub fn header_splits_are_one()
 /// The span of a header block cuts its file's bytes in three, by the lines before the block, its
 /// own, and those after it. Where the search finds none, the lines have no header split.
 pub fn header_spans_cut_files()
-    ensures found { (style : Style) (file : List ℕ) (span : HeaderSpan) → option_map (span_in file) (header_of style file) ≡ Some span → IsHeaderBlock style file span }
+    ensures found { (style : Style) (file : List ℕ) (span : HeaderSpan)
+        → option_map (span_in file) (header_of style file) ≡ Some span → IsHeaderBlock style file span }
     ensures none { (style : Style) (file : List ℕ) → header_of style file ≡ None → HasNoHeader style file }
 {
     lines_are_one();
@@ -82,15 +89,18 @@ pub fn header_spans_cut_files()
 /// The search for a text in bytes finds the least place at which the text stands, and none exactly
 /// where it stands nowhere.
 pub fn texts_are_found_first()
-    ensures found { (text bytes : List ℕ) (place : ℕ) → (place_of text bytes ≡ Some place) ↔ IsFirstPlace text bytes place }
+    ensures found { (text bytes : List ℕ) (place : ℕ)
+        → (place_of text bytes ≡ Some place) ↔ IsFirstPlace text bytes place }
     ensures none { (text bytes : List ℕ) → (place_of text bytes ≡ None) ↔ StandsNowhere text bytes }
 {}
 
 /// A multi-line block has exactly the lines from its opener to the first that holds the closer
 /// behind it, where only blank bytes follow that closer.
 pub fn multi_line_blocks_are_enclosed()
-    ensures closed { (closer : List ℕ) (lines : List (List ℕ)) (count : ℕ) → (count_to_closer closer lines ≡ Some count) ↔ IsEndedBy closer lines count }
-    ensures enclosed { (comment : BlockForm) (lines : List (List ℕ)) (count : ℕ) → (multi_count comment lines ≡ Some count) ↔ IsEnclosed comment lines count }
+    ensures closed { (closer : List ℕ) (lines : List (List ℕ)) (count : ℕ)
+        → (count_to_closer closer lines ≡ Some count) ↔ IsEndedBy closer lines count }
+    ensures enclosed { (comment : BlockForm) (lines : List (List ℕ)) (count : ℕ)
+        → (multi_count comment lines ≡ Some count) ↔ IsEnclosed comment lines count }
 {}
 
 /// A neighbour file is its mark, its lines before the first barrier, and the others. The lines
@@ -103,9 +113,11 @@ pub fn neighbours_are_cut_at_barriers()
 
 /// The edit that annotating is lies within its file, and the file that it makes has at most 16 MiB.
 pub fn annotations_fit()
-    ensures files { (style : Style) (how : How) (additions : Additions) (file : List ℕ) (edit : Edit) → annotation_of style how additions file ≡ Ok edit
+    ensures files { (style : Style) (how : How) (additions : Additions) (file : List ℕ) (edit : Edit)
+        → annotation_of style how additions file ≡ Ok edit
         → (edit.start + edit.old_len ≤ length file) × (length (edited file edit) ≤ LONGEST_FILE) }
-    ensures neighbours { (how : How) (additions : Additions) (file : List ℕ) (edit : Edit) → neighbour_annotation_of how additions file ≡ Ok edit
+    ensures neighbours { (how : How) (additions : Additions) (file : List ℕ) (edit : Edit)
+        → neighbour_annotation_of how additions file ≡ Ok edit
         → (edit.start + edit.old_len ≤ length file) × (length (edited file edit) ≤ LONGEST_FILE) }
 {
     lines_are_one();
@@ -116,14 +128,20 @@ pub fn annotations_fit()
 /// is not to be replaced, no byte is taken away: the text stands behind the prefix lines, or behind
 /// the mark of a neighbour.
 pub fn annotating_keeps_other_bytes()
-    ensures replaced { (style : Style) (how : How) (additions : Additions) (file : List ℕ) (edit : Edit) (span : HeaderSpan) → how.replace ≡ true
-        → annotation_of style how additions file ≡ Ok edit → option_map (span_in file) (header_of style file) ≡ Some span
+    ensures replaced { (style : Style) (how : How) (additions : Additions) (file : List ℕ) (edit : Edit)
+        (span : HeaderSpan) → how.replace ≡ true
+        → annotation_of style how additions file ≡ Ok edit
+        → option_map (span_in file) (header_of style file) ≡ Some span
         → edited file edit ≡ take span.start file ++ edit.text ++ drop span.end file }
-    ensures inserted { (style : Style) (how : How) (additions : Additions) (file : List ℕ) (edit : Edit) → (how.replace ≡ false) ⊎ (header_of style file ≡ None)
-        → annotation_of style how additions file ≡ Ok edit → IsInsertion file (place_in file (body_lines style (file_lines file))) edit }
-    ensures neighbour_replaced { (how : How) (additions : Additions) (file : List ℕ) (edit : Edit) → how.replace ≡ true → neighbour_annotation_of how additions file ≡ Ok edit
+    ensures inserted { (style : Style) (how : How) (additions : Additions) (file : List ℕ) (edit : Edit)
+        → (how.replace ≡ false) ⊎ (header_of style file ≡ None)
+        → annotation_of style how additions file ≡ Ok edit
+        → IsInsertion file (place_in file (body_lines style (file_lines file))) edit }
+    ensures neighbour_replaced { (how : How) (additions : Additions) (file : List ℕ) (edit : Edit) → how.replace ≡ true
+        → neighbour_annotation_of how additions file ≡ Ok edit
         → edited file edit ≡ take (mark_len_of file) file ++ edit.text ++ drop (neighbour_end file) file }
-    ensures neighbour_inserted { (how : How) (additions : Additions) (file : List ℕ) (edit : Edit) → how.replace ≡ false → neighbour_annotation_of how additions file ≡ Ok edit
+    ensures neighbour_inserted { (how : How) (additions : Additions) (file : List ℕ) (edit : Edit) → how.replace ≡ false
+        → neighbour_annotation_of how additions file ≡ Ok edit
         → IsInsertion file (mark_len_of file) edit }
 {
     lines_are_one();
@@ -131,11 +149,16 @@ pub fn annotating_keeps_other_bytes()
 
 /// Where the old block is not to be replaced, it stays byte for byte, behind the new one.
 pub fn insertions_keep_blocks()
-    ensures files { (style : Style) (how : How) (additions : Additions) (file : List ℕ) (edit : Edit) (span : HeaderSpan) → how.replace ≡ false
-        → annotation_of style how additions file ≡ Ok edit → option_map (span_in file) (header_of style file) ≡ Some span
-        → part (edited file edit) (span.start + length (new_bytes edit)) (span.end + length (new_bytes edit)) ≡ part file span.start span.end }
-    ensures neighbours { (how : How) (additions : Additions) (file : List ℕ) (edit : Edit) → how.replace ≡ false → neighbour_annotation_of how additions file ≡ Ok edit
-        → part (edited file edit) (mark_len_of file + length (new_bytes edit)) (neighbour_end file + length (new_bytes edit)) ≡ part file (mark_len_of file) (neighbour_end file) }
+    ensures files { (style : Style) (how : How) (additions : Additions) (file : List ℕ) (edit : Edit)
+        (span : HeaderSpan) → how.replace ≡ false
+        → annotation_of style how additions file ≡ Ok edit
+        → option_map (span_in file) (header_of style file) ≡ Some span
+        → part (edited file edit) (span.start + length (new_bytes edit))
+        (span.end + length (new_bytes edit)) ≡ part file span.start span.end }
+    ensures neighbours { (how : How) (additions : Additions) (file : List ℕ) (edit : Edit) → how.replace ≡ false
+        → neighbour_annotation_of how additions file ≡ Ok edit
+        → part (edited file edit) (mark_len_of file + length (new_bytes edit))
+        (neighbour_end file + length (new_bytes edit)) ≡ part file (mark_len_of file) (neighbour_end file) }
 {
     lines_are_one();
 }
@@ -143,11 +166,17 @@ pub fn insertions_keep_blocks()
 /// The block that takes an old one's place says what the old one did: each text stands in it, or,
 /// where notices are merged, a notice of the same holder whose years include the old ones.
 pub fn replacements_keep_information()
-    ensures files { (style : Style) (how : How) (additions : Additions) (file : List ℕ) (edit : Edit) (span : HeaderSpan) → how.replace ≡ true
-        → annotation_of style how additions file ≡ Ok edit → option_map (span_in file) (header_of style file) ≡ Some span
-        → (info : Info) × (form : Form) × (marks : LineMarks) × (IsBlockText style (kind_of_file file) info form marks edit.text) × (Keeps how.merge (info_of (punctuation_of style) span.contents) info) }
-    ensures neighbours { (how : How) (additions : Additions) (file : List ℕ) (edit : Edit) → how.replace ≡ true → neighbour_annotation_of how additions file ≡ Ok edit
-        → (info : Info) × (edit.text ≡ block_text neighbour_marks (kind_of_file file) info) × (Keeps how.merge (info_of [] (neighbour_contents file)) info) }
+    ensures files { (style : Style) (how : How) (additions : Additions) (file : List ℕ) (edit : Edit)
+        (span : HeaderSpan) → how.replace ≡ true
+        → annotation_of style how additions file ≡ Ok edit
+        → option_map (span_in file) (header_of style file) ≡ Some span
+        → (info : Info) × (form : Form) × (marks : LineMarks)
+        × (IsBlockText style (kind_of_file file) info form marks edit.text)
+        × (Keeps how.merge (info_of (punctuation_of style) span.contents) info) }
+    ensures neighbours { (how : How) (additions : Additions) (file : List ℕ) (edit : Edit) → how.replace ≡ true
+        → neighbour_annotation_of how additions file ≡ Ok edit
+        → (info : Info) × (edit.text ≡ block_text neighbour_marks (kind_of_file file) info)
+        × (Keeps how.merge (info_of [] (neighbour_contents file)) info) }
 {
     sets_are_one();
     merging_keeps_holders();
@@ -156,17 +185,22 @@ pub fn replacements_keep_information()
 /// Reading the block that is written of some information, in any style and form, gives that
 /// information again, where each of its texts reads as what it is.
 pub fn written_blocks_read_back()
-    ensures files { (style : Style) (form : Form) (marks : LineMarks) (info : Info) (rest : List (List ℕ)) → marks_of style form ≡ Some marks → IsSayable (punctuation_of style) info
-        → info_of (punctuation_of style) (contents_of style (record { form = form; count = length (block_lines marks info) }) (block_lines marks info ++ rest)) ≡ info }
-    ensures neighbours { (info : Info) → IsSayable [] info → info_of [] (map without_returns (block_lines neighbour_marks info)) ≡ info }
+    ensures files { (style : Style) (form : Form) (marks : LineMarks) (info : Info) (rest : List (List ℕ))
+        → marks_of style form ≡ Some marks → IsSayable (punctuation_of style) info
+        → info_of (punctuation_of style) (contents_of style
+        (record { form = form; count = length (block_lines marks info) }) (block_lines marks info ++ rest)) ≡ info }
+    ensures neighbours { (info : Info) → IsSayable [] info
+        → info_of [] (map without_returns (block_lines neighbour_marks info)) ≡ info }
 {
     sets_are_one();
 }
 
 /// The block that annotating writes is the new file's header block, and says what was written.
 pub fn written_blocks_are_found()
-    ensures { (style : Style) (how : How) (additions : Additions) (file : List ℕ) (edit : Edit) (info : Info) (form : Form) (marks : LineMarks)
-        → annotation_of style how additions file ≡ Ok edit → IsBlockText style (kind_of_file file) info form marks edit.text
+    ensures { (style : Style) (how : How) (additions : Additions) (file : List ℕ) (edit : Edit) (info : Info)
+        (form : Form) (marks : LineMarks)
+        → annotation_of style how additions file ≡ Ok edit
+        → IsBlockText style (kind_of_file file) info form marks edit.text
         → IsSayable (punctuation_of style) info → AreContents (kind_of_file file) (block_lines marks info)
         → (span : HeaderSpan) × ReadsAs style (edited file edit) (text_start edit) (text_end edit) form info span }
 {
@@ -178,14 +212,18 @@ pub fn written_blocks_are_found()
 /// additions that do, where `S`, the first letter of the written leads (`SPDX-`), is no
 /// punctuation; and what is merged reads back.
 pub fn information_is_sayable()
-    ensures read { (punct : List ℕ) (contents : List (List ℕ)) → is_filler punct 83 ≡ false → All (λ content. without_returns content ≡ content) contents
+    ensures read { (punct : List ℕ) (contents : List (List ℕ)) → is_filler punct 83 ≡ false
+        → All (λ content. without_returns content ≡ content) contents
         → IsSayable punct (info_of punct contents) }
-    ensures found { (style : Style) (file : List ℕ) (span : HeaderSpan) → option_map (span_in file) (header_of style file) ≡ Some span
+    ensures found { (style : Style) (file : List ℕ) (span : HeaderSpan)
+        → option_map (span_in file) (header_of style file) ≡ Some span
         → IsSayable (punctuation_of style) (info_of (punctuation_of style) span.contents) }
     ensures neighbours { (file : List ℕ) → IsSayable [] (info_of [] (neighbour_contents file)) }
-    ensures joined { (punct : List ℕ) (info : Info) (additions : Additions) → IsSayable punct info → AreSayable punct additions → IsSayable punct (union_of info additions) }
+    ensures joined { (punct : List ℕ) (info : Info) (additions : Additions) → IsSayable punct info
+        → AreSayable punct additions → IsSayable punct (union_of info additions) }
     ensures merged { (style : Style) (info : Info) (additions : Additions)
-        → (IsSayable (punctuation_of style) info → IsSayable (punctuation_of style) (merged_of info additions)) × (IsSayable [] info → IsSayable [] (merged_of info additions)) }
+        → (IsSayable (punctuation_of style) info → IsSayable (punctuation_of style) (merged_of info additions))
+        × (IsSayable [] info → IsSayable [] (merged_of info additions)) }
     ensures added { (style : Style) (arguments : Arguments) → ArePlain (additions_of arguments)
         → AreSayable (punctuation_of style) (additions_of arguments) × AreSayable [] (additions_of arguments) }
 {
@@ -195,10 +233,12 @@ pub fn information_is_sayable()
 /// The information that annotating writes reads back, and its lines are the contents of lines: they
 /// hold no LF, and no CR at their ends.
 pub fn written_information_is_sayable()
-    ensures files { (style : Style) (how : How) (arguments : Arguments) (file : List ℕ) (kind : LineKind) (form : Form) (marks : LineMarks) → ArePlain (additions_of arguments) → marks_of style form ≡ Some marks
+    ensures files { (style : Style) (how : How) (arguments : Arguments) (file : List ℕ) (kind : LineKind) (form : Form)
+        (marks : LineMarks) → ArePlain (additions_of arguments) → marks_of style form ≡ Some marks
         → let info = info_written style how (additions_of arguments) file in
         (IsSayable (punctuation_of style) info) × (AreContents kind (block_lines marks info)) }
-    ensures neighbours { (how : How) (arguments : Arguments) (file : List ℕ) (kind : LineKind) → ArePlain (additions_of arguments)
+    ensures neighbours { (how : How) (arguments : Arguments) (file : List ℕ) (kind : LineKind)
+        → ArePlain (additions_of arguments)
         → let info = neighbour_info_written how (additions_of arguments) file in
         (IsSayable [] info) × (AreContents kind (block_lines neighbour_marks info)) }
 {
@@ -209,11 +249,14 @@ pub fn written_information_is_sayable()
 /// header block says that, or a neighbour's contents, or, where old ones are not to be replaced,
 /// the first of them, which are the lines of the new block.
 pub fn annotated_files_read_back()
-    ensures files { (style : Style) (how : How) (arguments : Arguments) (file made : List ℕ) → ArePlain (additions_of arguments) → annotated style how (additions_of arguments) file ≡ Ok made
+    ensures files { (style : Style) (how : How) (arguments : Arguments) (file made : List ℕ)
+        → ArePlain (additions_of arguments) → annotated style how (additions_of arguments) file ≡ Ok made
         → information_in style made ≡ Some (info_written style how (additions_of arguments) file) }
-    ensures neighbours { (how : How) (arguments : Arguments) (file made : List ℕ) → how.replace ≡ true → ArePlain (additions_of arguments) → neighbour_annotated how (additions_of arguments) file ≡ Ok made
+    ensures neighbours { (how : How) (arguments : Arguments) (file made : List ℕ) → how.replace ≡ true
+        → ArePlain (additions_of arguments) → neighbour_annotated how (additions_of arguments) file ≡ Ok made
         → info_of [] (neighbour_contents made) ≡ neighbour_info_written how (additions_of arguments) file }
-    ensures begun_neighbours { (how : How) (arguments : Arguments) (file made : List ℕ) → how.replace ≡ false → ArePlain (additions_of arguments) → neighbour_annotated how (additions_of arguments) file ≡ Ok made
+    ensures begun_neighbours { (how : How) (arguments : Arguments) (file made : List ℕ) → how.replace ≡ false
+        → ArePlain (additions_of arguments) → neighbour_annotated how (additions_of arguments) file ≡ Ok made
         → let info = neighbour_info_written how (additions_of arguments) file in
         info_of [] (take (length (block_lines neighbour_marks info)) (neighbour_contents made)) ≡ info }
 {
@@ -223,9 +266,11 @@ pub fn annotated_files_read_back()
 /// What annotating makes of text is text, UTF-8 without a NUL byte, where the additions are plain
 /// and UTF-8, as `Additions::new` makes them. A neighbour that isn't text is refused.
 pub fn annotated_texts_are_texts()
-    ensures files { (style : Style) (how : How) (additions : Additions) (file made : List ℕ) → ArePlain additions → AreUtf8 additions → is_text file ≡ true
+    ensures files { (style : Style) (how : How) (additions : Additions) (file made : List ℕ) → ArePlain additions
+        → AreUtf8 additions → is_text file ≡ true
         → annotated style how additions file ≡ Ok made → is_text made ≡ true }
-    ensures neighbours { (how : How) (additions : Additions) (file made : List ℕ) → ArePlain additions → AreUtf8 additions → neighbour_annotated how additions file ≡ Ok made
+    ensures neighbours { (how : How) (additions : Additions) (file made : List ℕ) → ArePlain additions
+        → AreUtf8 additions → neighbour_annotated how additions file ≡ Ok made
         → (is_text file ≡ true) × (is_text made ≡ true) }
 {
     lower_laws();
@@ -237,10 +282,14 @@ pub fn annotated_texts_are_texts()
 /// neighbour that isn't text is refused, and what is made of one is text where the additions are
 /// plain and UTF-8, as `Additions::new` makes them.
 pub fn annotating_again_changes_nothing()
-    ensures files { (style : Style) (how : How) (arguments : Arguments) (file made : List ℕ) → how.replace ≡ true → ArePlain (additions_of arguments) → EndsPlainly style file
-        → annotated style how (additions_of arguments) file ≡ Ok made → answer_of made (annotation_of style how (additions_of arguments) made) ≡ Ok None }
-    ensures neighbours { (how : How) (arguments : Arguments) (file made : List ℕ) → how.replace ≡ true → ArePlain (additions_of arguments) → AreUtf8 (additions_of arguments)
-        → neighbour_annotated how (additions_of arguments) file ≡ Ok made → answer_of made (neighbour_annotation_of how (additions_of arguments) made) ≡ Ok None }
+    ensures files { (style : Style) (how : How) (arguments : Arguments) (file made : List ℕ) → how.replace ≡ true
+        → ArePlain (additions_of arguments) → EndsPlainly style file
+        → annotated style how (additions_of arguments) file ≡ Ok made
+        → answer_of made (annotation_of style how (additions_of arguments) made) ≡ Ok None }
+    ensures neighbours { (how : How) (arguments : Arguments) (file made : List ℕ) → how.replace ≡ true
+        → ArePlain (additions_of arguments) → AreUtf8 (additions_of arguments)
+        → neighbour_annotated how (additions_of arguments) file ≡ Ok made
+        → answer_of made (neighbour_annotation_of how (additions_of arguments) made) ≡ Ok None }
 {
     lower_laws();
     annotated_texts_are_texts();
@@ -255,12 +304,15 @@ pub fn own_names_stand_first()
     ensures others { (own : List ℕ → Option Kind) (path : List ℕ)
         → let part = after_last (λ b. b == slash) path in
         own part ≡ None → own (from_last (λ b. b == dot) part) ≡ None → kind_in own path ≡ kind_of_name path }
-    ensures whole { (own : List ℕ → Option Kind) (path : List ℕ) (kind : Kind) → own (after_last (λ b. b == slash) path) ≡ Some kind → kind_in own path ≡ kind }
-    ensures cases { (own : List (List ℕ × Kind)) (name other : List ℕ) → str_eq_ignore_ascii_case name other ≡ true → lookup own name ≡ lookup own other }
+    ensures whole { (own : List ℕ → Option Kind) (path : List ℕ) (kind : Kind)
+        → own (after_last (λ b. b == slash) path) ≡ Some kind → kind_in own path ≡ kind }
+    ensures cases { (own : List (List ℕ × Kind)) (name other : List ℕ) → str_eq_ignore_ascii_case name other ≡ true
+        → lookup own name ≡ lookup own other }
 {}
 
 /// The names and texts of a document of styles are those that it states: it has the keys `styles`
 /// and `version` alone, the one a table of these texts, and the other the number 1.
 pub fn style_documents_are_stated()
-    ensures { (document : Members) (texts : List NamedText) → (texts_of_document document ≡ Some texts) ↔ (document ≡ document_of texts) }
+    ensures { (document : Members) (texts : List NamedText)
+        → (texts_of_document document ≡ Some texts) ↔ (document ≡ document_of texts) }
 {}

@@ -2,7 +2,8 @@
 ghost use Rattle.std.specs.Prelude.{◌≡◌, ◌≤◌, IfOk, length, map};
 ghost use Rattle.reuse_header.specs.Open.{open_left};
 ghost use Rattle.reuse_header.specs.Blocks.{without_returns};
-ghost use Rattle.reuse_header.specs.Neighbour.{is_text, neighbour_annotation_of, neighbour_stands, neighbour_written, replaced_contents};
+ghost use Rattle.reuse_header.specs.Neighbour.{is_text, neighbour_annotation_of, neighbour_stands, neighbour_written};
+ghost use Rattle.reuse_header.specs.Neighbour.{replaced_contents};
 ghost use Rattle.reuse_header.specs.Splices.{IsDue, answer_of};
 
 use crate::annotate::{into_splice, new_info};
@@ -106,7 +107,8 @@ pub(crate) fn replaced_contents<'a>(
 
 // The contents that are left, without CR bytes at their ends.
 fn collected<'a>(alloc: Global, contents: OpenContents<'a>) -> Result<Vec<&'a [u8]>, AllocError>
-    ensures { IfOk result (λ list. map (λ content. content.now) list.items ≡ map without_returns (open_left contents.entry)) }
+    ensures { IfOk result
+        (λ list. map (λ content. content.now) list.items ≡ map without_returns (open_left contents.entry)) }
 {
     let mut list = Vec::new(alloc);
     let mut rest = contents;

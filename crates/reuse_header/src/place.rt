@@ -5,7 +5,8 @@ ghost use Rattle.reuse_text.specs.Text.{file_lines, mark_len_of};
 ghost use Rattle.reuse_text.specs.Lines.{line_view, lines_left};
 ghost use Rattle.reuse_header.specs.Body.{is_shebang, is_declaration, body_lines, place_in};
 ghost use Rattle.reuse_header.specs.Found.{block_view};
-ghost use Rattle.reuse_header.specs.Annotation.{first_if, prefix_lines, has_lines, is_last_ended, begins_full, kind_of_file, edit_of};
+ghost use Rattle.reuse_header.specs.Annotation.{first_if, prefix_lines, has_lines, is_last_ended, begins_full};
+ghost use Rattle.reuse_header.specs.Annotation.{kind_of_file, edit_of};
 ghost use Rattle.reuse_header.specs.Neighbour.{closed_lines, neighbour_end, neighbour_edit};
 ghost use Rattle.reuse_header.specs.Drafts.{IsWithin, edit_at};
 ghost use Rattle.reuse_header.specs.declared.style.Style.{Style};
@@ -30,7 +31,14 @@ impl Place {
     // The place of the bytes from `start` to `end`.
     fn of_range(start: usize, end: usize) -> Place
         requires { start ≤ end }
-        ensures { result ≡ record { start = start; old_len = end - start; ends_line = false; empty_before = false; empty_behind = false } }
+        ensures { result
+            ≡ record {
+              start = start;
+              old_len = end - start;
+              ends_line = false;
+              empty_before = false;
+              empty_behind = false;
+            } }
     {
         Place {
             start,
@@ -46,7 +54,8 @@ impl Place {
 #[tactic(auto, unfolding(crate::specs::Annotation::edit_of))]
 pub(crate) fn file_place(file: &[u8], style: Style, old: Option<Block>) -> Place
     requires { IsWithin file.now (option_map block_view old) }
-    ensures edit { (text : List ℕ) → edit_at result (kind_of_file file.now) text ≡ edit_of style file.now (option_map block_view old.entry) text }
+    ensures edit { (text : List ℕ)
+        → edit_at result (kind_of_file file.now) text ≡ edit_of style file.now (option_map block_view old.entry) text }
     ensures within { result.start + result.old_len ≤ length file.now }
 {
     match old {
@@ -87,7 +96,8 @@ fn is_ended(line: Option<Line>) -> bool
 #[tactic(auto, unfolding(crate::specs::Annotation::prefix_lines))]
 fn last_prefix_line<'a>(lines: Lines<'a>, style: Style) -> Option<Line<'a>>
     ensures some { is_some result ≡ has_lines (prefix_lines style (lines_left lines.entry)) }
-    ensures ended { option_map_or (λ line. is_some line.ending) result true ≡ is_last_ended (prefix_lines style (lines_left lines.entry)) }
+    ensures ended { option_map_or (λ line. is_some line.ending) result true ≡ is_last_ended
+        (prefix_lines style (lines_left lines.entry)) }
 {
     match declaration_line(after_shebang(lines), style) {
         None => shebang_line(lines),
@@ -131,7 +141,8 @@ fn begins_full(lines: Lines) -> bool
 // The place of a neighbour file's block, if that is replaced, else in front of it.
 #[tactic(auto, unfolding(crate::specs::Neighbour::neighbour_edit))]
 pub(crate) fn neighbour_place(file: &[u8], replace: bool) -> Place
-    ensures edit { (text : List ℕ) → edit_at result (kind_of_file file.now) text ≡ neighbour_edit replace file.now text }
+    ensures edit { (text : List ℕ)
+        → edit_at result (kind_of_file file.now) text ≡ neighbour_edit replace file.now text }
     ensures within { result.start + result.old_len ≤ length file.now }
 {
     places_fit();

@@ -4,7 +4,8 @@ ghost use Rattle.std.specs.Option.{option_map};
 ghost use Rattle.std.specs.Str.{bytes_eq};
 ghost use Rattle.toml.specs.View.{view, table_view};
 ghost use Rattle.reuse_header.specs.declared.style.Kind.{Kind};
-ghost use Rattle.reuse_header.specs.StyleFile.{kind_named, texts_in, texts_of_document, is_version, is_bad_name, refusal_at, own_names, read_document, styles_in, IsRefused, IsFirst};
+ghost use Rattle.reuse_header.specs.StyleFile.{kind_named, texts_in, texts_of_document, is_version, is_bad_name};
+ghost use Rattle.reuse_header.specs.StyleFile.{refusal_at, own_names, read_document, styles_in, IsRefused, IsFirst};
 ghost use Rattle.reuse_header.specs.Keyed.{Keyed, IsKeyed};
 
 use crate::style::Kind;
@@ -19,7 +20,8 @@ type NamedTexts<'t> = Vec<(&'t str, &'t str)>;
 
 /// The names of a file in lower case, with their kinds.
 pub(crate) fn read_names(alloc: Global, file: &[u8]) -> Result<BTreeMap<Bytes, Kind>, StylesRefusal>
-    ensures ok { IfOk result (λ names. (own : List ℕ → Option Kind) × (styles_in (read_document file.now) ≡ Ok own) × IsKeyed names own) }
+    ensures ok { IfOk result
+        (λ names. (own : List ℕ → Option Kind) × (styles_in (read_document file.now) ≡ Ok own) × IsKeyed names own) }
     ensures refused { IfErr result (IsRefused (styles_in (read_document file.now))) }
 {
     let document = match toml::table_from_slice(alloc, file) {
@@ -43,7 +45,8 @@ fn texts_of_document<'t>(
     alloc: Global,
     document: &'t Table,
 ) -> Result<Option<NamedTexts<'t>>, AllocError>
-    ensures { IfOk result (λ texts. texts_of_document (table_view document.now) ≡ option_map (λ v. map (λ t. (t.0.now, t.1.now)) v.items) texts) }
+    ensures { IfOk result (λ texts. texts_of_document (table_view document.now) ≡ option_map
+        (λ v. map (λ t. (t.0.now, t.1.now)) v.items) texts) }
 {
     let mut entries = document.iter();
     let Some((first, names)) = entries.next() else {
@@ -78,7 +81,8 @@ fn is_version(version: &Value) -> bool
 // The names and texts of a table, where each value is a text.
 #[tactic(auto, unfolding(crate::specs::StyleFile::texts_in))]
 fn texts_of_table<'t>(alloc: Global, names: &'t Table) -> Result<Option<NamedTexts<'t>>, AllocError>
-    ensures { IfOk result (λ texts. texts_in (table_view names.now) ≡ option_map (λ v. map (λ t. (t.0.now, t.1.now)) v.items) texts) }
+    ensures { IfOk result
+        (λ texts. texts_in (table_view names.now) ≡ option_map (λ v. map (λ t. (t.0.now, t.1.now)) v.items) texts) }
 {
     let mut texts = Vec::new(alloc);
     let mut entries = names.iter();
@@ -96,7 +100,8 @@ fn names_of_texts(
     alloc: Global,
     texts: &[(&str, &str)],
 ) -> Result<BTreeMap<Bytes, Kind>, StylesRefusal>
-    ensures ok { IfOk result (λ names. (own : List ℕ → Option Kind) × (own_names (Some (map (λ t. (t.0.now, t.1.now)) texts.now)) ≡ Ok own) × IsKeyed names own) }
+    ensures ok { IfOk result (λ names. (own : List ℕ → Option Kind)
+        × (own_names (Some (map (λ t. (t.0.now, t.1.now)) texts.now)) ≡ Ok own) × IsKeyed names own) }
     ensures refused { IfErr result (IsRefused (own_names (Some (map (λ t. (t.0.now, t.1.now)) texts.now)))) }
 {
     let mut names = BTreeMap::new(alloc);
@@ -114,7 +119,8 @@ fn add_name(
     text: &str,
 ) -> Result<(), StylesRefusal>
     ensures ok { (earlier : List (List ℕ)) (entries : List (List ℕ × Kind)) → Keyed names.old earlier entries
-        → IfOk result (λ _. (kind : Kind) × (kind_named text.now ≡ Some kind) × (refusal_at earlier (name.now, text.now) ≡ None)
+        → IfOk result
+        (λ _. (kind : Kind) × (kind_named text.now ≡ Some kind) × (refusal_at earlier (name.now, text.now) ≡ None)
         × Keyed names.new (earlier ++ name.now ∷ []) (entries ++ (name.now, kind) ∷ [])) }
     ensures refused { (earlier : List (List ℕ)) (entries : List (List ℕ × Kind)) → Keyed names.old earlier entries
         → IfErr result (IsFirst (refusal_at earlier (name.now, text.now))) }

@@ -6,6 +6,7 @@ returns c =
     let known = c.lower_laws.ensures.known in
     let well = c.lower_laws.ensures.laws.well in
     record {
-      files = λ style a file span new kind form marks plain found e is. amended_reads known well style a file span new kind form marks plain found e is;
+      files = λ style a file span new kind form marks plain found e is.
+          amended_reads known well style a file span new kind form marks plain found e is;
       neighbours = λ a file new kind plain e. amended_neighbour_reads known well a file new kind plain e;
     }

@@ -5,6 +5,8 @@ pub returns : goal.returns
 returns c =
     let laws = c.lower_laws.ensures.laws in
     record {
-      files = λ style a file made plain utf8 short text e. amended_is_text laws.joined laws.well style a file made (record { plain = plain; utf8 = utf8; short = short }) text e;
-      neighbours = λ a file made plain utf8 short e. neighbour_amended_is_text laws.joined laws.well a file made (record { plain = plain; utf8 = utf8; short = short }) e;
+      files = λ style a file made plain utf8 short text e. amended_is_text laws.joined laws.well style a file made
+          (record { plain = plain; utf8 = utf8; short = short }) text e;
+      neighbours = λ a file made plain utf8 short e. neighbour_amended_is_text laws.joined laws.well a file made
+          (record { plain = plain; utf8 = utf8; short = short }) e;
     }

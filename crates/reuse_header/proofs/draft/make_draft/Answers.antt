@@ -7,7 +7,10 @@ use Rattle.reuse_header.proofs.draft.make_draft.Goals.{In_ok-empty_line_if-3}
 use Rattle.reuse_header.proofs.draft.make_draft.Goals as goal
 
 -- what the writer went through
-steps_of : (c : In_ok-empty_line_if-3) → Steps c.args.place c.args.kind (LONGEST_FILE - (length c.args.file.now - c.args.place.old_len)) (block_lines (marks_view c.args.marks) c.args.info.now) c.new-writer.result c.empty_line_if.new.self c.empty_line_if-2.new.self c.block.new.self c.empty_line_if-3.new.self
+steps_of : (c : In_ok-empty_line_if-3)
+    → Steps c.args.place c.args.kind (LONGEST_FILE - (length c.args.file.now - c.args.place.old_len))
+    (block_lines (marks_view c.args.marks) c.args.info.now) c.new-writer.result c.empty_line_if.new.self
+    c.empty_line_if-2.new.self c.block.new.self c.empty_line_if-3.new.self
 steps_of c = record {
   format = c.new-writer.ensures.format;
   nothing = c.new-writer.ensures.text;
@@ -20,9 +23,11 @@ steps_of c = record {
 pub returns-in-None : goal.returns-in-None
 unfolding block_text
 returns-in-None c =
-    too_long _ _ _ _ (steps_of (goal.at.returns-in-None c).In_ok-empty_line_if-3) c.args.file.now c.requires.within c.requires.short refl (sym c.into_text.ensures ∙ c.in-None.is)
+    too_long _ _ _ _ (steps_of (goal.at.returns-in-None c).In_ok-empty_line_if-3) c.args.file.now c.requires.within
+    c.requires.short refl (sym c.into_text.ensures ∙ c.in-None.is)
 
 pub returns-in-Some : goal.returns-in-Some
 unfolding block_text
 returns-in-Some c =
-    drafted _ _ _ _ (steps_of (goal.at.returns-in-Some c).In_ok-empty_line_if-3) c.args.file.now c.requires.within c.requires.short refl c.in-Some.new (sym c.into_text.ensures ∙ c.in-Some.is) c.len.ensures c.len-2.ensures
+    drafted _ _ _ _ (steps_of (goal.at.returns-in-Some c).In_ok-empty_line_if-3) c.args.file.now c.requires.within
+    c.requires.short refl c.in-Some.new (sym c.into_text.ensures ∙ c.in-Some.is) c.len.ensures c.len-2.ensures

@@ -7,6 +7,8 @@ returns c =
     let laws = c.lower_laws.ensures.laws in
     record {
       files = λ style how arguments file made plain e. file_read known laws style how arguments file made plain e;
-      neighbours = λ how arguments file made replace plain e. neighbour_read known laws how arguments file made replace plain e;
-      begun_neighbours = λ how arguments file made add plain e. neighbour_first_read known laws how arguments file made add plain e;
+      neighbours =
+          λ how arguments file made replace plain e. neighbour_read known laws how arguments file made replace plain e;
+      begun_neighbours =
+          λ how arguments file made add plain e. neighbour_first_read known laws how arguments file made add plain e;
     }

@@ -7,6 +7,8 @@ returns c =
     let merges = c.lower_laws.ensures.known.merges in
     let laws = c.lower_laws.ensures.laws in
     record {
-      files = λ style how additions file made plain utf8 text e. file_is_text laws.joined laws.well merges style how additions file made plain utf8 text e;
-      neighbours = λ how additions file made plain utf8 e. neighbour_is_text laws.joined laws.well merges how additions file made plain utf8 e;
+      files = λ style how additions file made plain utf8 text e.
+          file_is_text laws.joined laws.well merges style how additions file made plain utf8 text e;
+      neighbours = λ how additions file made plain utf8 e.
+          neighbour_is_text laws.joined laws.well merges how additions file made plain utf8 e;
     }

@@ -8,7 +8,9 @@ returns c =
     let known = c.lower_laws.ensures.known in
     let laws = c.lower_laws.ensures.laws in
     record {
-      files = λ style how arguments file made replace plain ends e. file_again known laws style how arguments file made replace plain ends e;
+      files = λ style how arguments file made replace plain ends e.
+          file_again known laws style how arguments file made replace plain ends e;
       neighbours = λ how arguments file made replace plain utf8 e.
-          neighbour_file_again known laws how arguments file made replace plain (c.annotated_texts_are_texts.ensures.neighbours how (additions_of arguments) file made plain utf8 e).1 e;
+          neighbour_file_again known laws how arguments file made replace plain
+          (c.annotated_texts_are_texts.ensures.neighbours how (additions_of arguments) file made plain utf8 e).1 e;
     }

@@ -11,14 +11,16 @@ returns c =
     let known = c.lower_laws.ensures.known in
     record {
       read = λ punct contents e good. info_sayable known.sorted punct contents e good;
-      found = λ style file span e. info_sayable known.sorted (punctuation_of style) span.contents (letters style).s (found_clean style file span e);
+      found = λ style file span e. info_sayable known.sorted (punctuation_of style) span.contents (letters style).s
+          (found_clean style file span e);
       neighbours = λ file. info_sayable known.sorted [] (neighbour_contents file) refl (neighbour_clean file);
       added = λ style arguments plain. (
         additions_sayable known.none (punctuation_of style) (letters style) arguments plain,
         additions_sayable known.none [] no_letters arguments plain,
       );
       merged = λ style info additions. (
-        (λ s. merged_sayable known.merges known.sorted known.none (punctuation_of style) (letters style) info additions s),
+        (λ s. merged_sayable known.merges known.sorted known.none (punctuation_of style)
+            (letters style) info additions s),
         (λ s. merged_sayable known.merges known.sorted known.none [] no_letters info additions s),
       );
       joined = λ punct info additions s a. union_sayable known.sorted punct info additions s a;

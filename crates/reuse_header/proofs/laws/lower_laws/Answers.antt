@@ -3,7 +3,11 @@ use Rattle.reuse_header.proofs.laws.lower_laws.Goals as goal
 pub returns : goal.returns
 returns c = record {
   known = record {
-    merges = record { written = c.merged_notices_are_written.ensures; some = c.holders_are_values.ensures.some; trim = c.holders_are_values.ensures.trimmed };
+    merges = record {
+      written = c.merged_notices_are_written.ensures;
+      some = c.holders_are_values.ensures.some;
+      trim = c.holders_are_values.ensures.trimmed;
+    };
     sorted = c.sets_are_one.ensures.sorted;
     none = c.longest_prefix_counts.ensures.none;
   };

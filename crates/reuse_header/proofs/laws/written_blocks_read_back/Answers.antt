@@ -13,8 +13,11 @@ unfolding block_lines
 returns c = record {
   files = λ style form marks info rest is s.
       ap (info_of (punctuation_of style)) (block_contents style form marks info rest is)
-      ∙ reads_back c.sets_are_one.ensures.only (punctuation_of style) (inner_content style form) marks info (the_reader style form marks is) s;
+      ∙ reads_back c.sets_are_one.ensures.only (punctuation_of style) (inner_content style form) marks info
+      (the_reader style form marks is) s;
   neighbours = λ info s.
-      ap (λ (lines : List (List ℕ)). info_of [] (map without_returns lines)) (append-nil (inner_lines neighbour_marks info))
-      ∙ reads_back c.sets_are_one.ensures.only [] (λ line. without_returns line) neighbour_marks info neighbour_reader s;
+      ap (λ (lines : List (List ℕ)). info_of [] (map without_returns lines))
+      (append-nil (inner_lines neighbour_marks info))
+      ∙ reads_back c.sets_are_one.ensures.only []
+      (λ line. without_returns line) neighbour_marks info neighbour_reader s;
 }

@@ -9,23 +9,30 @@ loop-start-init c = record { within = omega arith; none = none_yet c.args.file.n
 pub returns-in_default : goal.returns-in_default
 returns-in_default c =
     let lacking = rw (take_rest c.args.file.now c.loop-start.start) at c.in_default.ensures in
-    let end : c.loop-start.start + length (drop c.loop-start.start c.args.file.now) ≡ length c.args.file.now = omega (arith, length-drop c.loop-start.start c.args.file.now) in
-    none_at_all c.args.file.now (rw end at (none_up_to c.args.file.now c.loop-start.start (length (drop c.loop-start.start c.args.file.now)) c.loop-start.invariant.none lacking))
+    let end : c.loop-start.start + length (drop c.loop-start.start c.args.file.now) ≡ length c.args.file.now =
+    omega (arith, length-drop c.loop-start.start c.args.file.now) in
+    none_at_all c.args.file.now (rw end at (none_up_to c.args.file.now c.loop-start.start
+    (length (drop c.loop-start.start c.args.file.now)) c.loop-start.invariant.none lacking))
 
 pub returns-then-begins_with_lead : goal.returns-then-begins_with_lead
 returns-then-begins_with_lead c =
     let high = rw (take_rest c.args.file.now c.loop-start.start) at c.in-Some.ensures.0.high in
-    let here = sym (rw (take_rest c.args.file.now (c.loop-start.start + c.in-Some.step)) at c.begins_with_lead.ensures) ∙ c.if-begins_with_lead.true in
-    lead_here c.args.file.now (c.loop-start.start + c.in-Some.step) (omega (arith, high, length-drop c.loop-start.start c.args.file.now)) here
+    let here = sym (rw (take_rest c.args.file.now (c.loop-start.start + c.in-Some.step)) at c.begins_with_lead.ensures)
+    ∙ c.if-begins_with_lead.true in
+    lead_here c.args.file.now (c.loop-start.start + c.in-Some.step)
+    (omega (arith, high, length-drop c.loop-start.start c.args.file.now)) here
 
 pub loop-start-preserved : goal.loop-start-preserved
 loop-start-preserved c =
     let high = rw (take_rest c.args.file.now c.loop-start.start) at c.in-Some.ensures.0.high in
     let lacking = rw (take_rest c.args.file.now c.loop-start.start) at c.in-Some.ensures.0.before in
-    let not_here = sym (rw (take_rest c.args.file.now (c.loop-start.start + c.in-Some.step)) at c.begins_with_lead.ensures) ∙ c.if-begins_with_lead.false in
+    let not_here =
+    sym (rw (take_rest c.args.file.now (c.loop-start.start + c.in-Some.step)) at c.begins_with_lead.ensures)
+    ∙ c.if-begins_with_lead.false in
     record {
       within = omega (arith, high, length-drop c.loop-start.start c.args.file.now);
-      none = none_past c.args.file.now (c.loop-start.start + c.in-Some.step) (none_up_to c.args.file.now c.loop-start.start c.in-Some.step c.loop-start.invariant.none lacking) not_here;
+      none = none_past c.args.file.now (c.loop-start.start + c.in-Some.step)
+          (none_up_to c.args.file.now c.loop-start.start c.in-Some.step c.loop-start.invariant.none lacking) not_here;
     }
 
 pub returns : goal.returns

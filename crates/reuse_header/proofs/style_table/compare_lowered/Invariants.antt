@@ -5,7 +5,8 @@ use Rattle.std.specs.Str.{str_to_ascii_lowercase}
 use Rattle.reuse_header.proofs.style_table.compare_lowered.Given as goal
 
 abbrev pub invariant-loop-lowered : goal.invariant-loop-lowered
-invariant-loop-lowered l = slice_cmp nat_cmp l.lowered (str_to_ascii_lowercase l.name) ≡ slice_cmp nat_cmp l.initial.lowered (str_to_ascii_lowercase l.initial.name)
+invariant-loop-lowered l = slice_cmp nat_cmp l.lowered
+    (str_to_ascii_lowercase l.name) ≡ slice_cmp nat_cmp l.initial.lowered (str_to_ascii_lowercase l.initial.name)
 
 abbrev pub decreases-loop-lowered : goal.decreases-loop-lowered
 decreases-loop-lowered l = length l.lowered

@@ -8,5 +8,6 @@ pub returns : goal.returns
 unfolding block_lines inner_lines
 returns c =
     on_ok_weaker c.optional_line-2.result
-    (λ last. writes_same _ (writes_more (writes_more c.in_ok-optional_line.ensures (writes_more c.in_ok-tags.ensures c.in_ok-free.ensures)) last) refl)
+    (λ last. writes_same _ (writes_more
+    (writes_more c.in_ok-optional_line.ensures (writes_more c.in_ok-tags.ensures c.in_ok-free.ensures)) last) refl)
     c.optional_line-2.ensures

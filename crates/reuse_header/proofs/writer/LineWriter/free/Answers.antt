@@ -8,5 +8,7 @@ use Rattle.reuse_header.proofs.writer.LineWriter.free.Goals as goal
 
 pub returns : goal.returns
 returns c =
-    let all = free-set_off (separator_of (marks_view c.args.marks)) (λ text. c.args.marks.mark.now ++ text) c.free-2.ensures c.free.ensures c.is_empty.ensures in
-    on_ok_weaker c.lines.result (λ last. writes_same _ (writes_more c.in_ok-separator_if.ensures last) all) c.lines.ensures
+    let all = free-set_off (separator_of (marks_view c.args.marks))
+    (λ text. c.args.marks.mark.now ++ text) c.free-2.ensures c.free.ensures c.is_empty.ensures in
+    on_ok_weaker c.lines.result
+    (λ last. writes_same _ (writes_more c.in_ok-separator_if.ensures last) all) c.lines.ensures
