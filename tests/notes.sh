@@ -173,6 +173,8 @@ once() {
   for kind in quiet verbose; do
     rm -rf "$room/copy"
     cp -a "$tree" "$room/copy"
+    # (a file that was changed right before the call may be read twice)
+    sleep 0.2
     [[ $kind == quiet ]] && set -- || set -- -v
     strace -f -qq -o "$room/trace" "$program" --root "$room/copy" "$@" annotate -l MIT \
       --skip-unrecognised -r . > /dev/null 2> "$room/error"
