@@ -5,7 +5,8 @@ use Rattle.reuse_amend.specs.declared.amendments.AmendRefusal.{AmendRefusal}
 use Rattle.reuse_amend.specs.declared.amendments.AmendRefusal.TheVariants.{BadExpression, Memory}
 use Rattle.reuse_amend.specs.AmendmentViews.{IsAnswer}
 
-pub answer-stop : {X Y : Type 0} (due : Option X) (whole : Option Y) (e : AmendRefusal) → (due ≡ None → whole ≡ None)
-    → IsAnswer due (Err e) → IsAnswer whole (Err e)
-answer-stop due whole BadExpression f is = f is
-answer-stop due whole (Memory e) f is = tt
+pub answer-stop : {X Y : Type 0} (expected : Option X) (whole : Option Y) (e : AmendRefusal)
+    → (expected ≡ None → whole ≡ None)
+    → IsAnswer expected (Err e) → IsAnswer whole (Err e)
+answer-stop expected whole BadExpression f is = f is
+answer-stop expected whole (Memory e) f is = tt

@@ -14,7 +14,9 @@ use Rattle.std.proofs.lemmas.Slice.Eq.{bytes_eq-Decides}
 use Rattle.reuse_notice.specs.declared.expressions.Token.{Token}
 use Rattle.reuse_notice.specs.declared.expressions.Token.TheVariants.{Open, Close, Operator, With, Identifier, Stray}
 use Rattle.reuse_amend.specs.declared.replacements.Replacement.{Replacement}
-use Rattle.reuse_notice.specs.Expressions.{Expression, licence, licence_with, group, joined, spelling, IsExpression, IsExpressionText, is_word_byte, word_len, has_plus, word_token, token_at, token_len}
+use Rattle.reuse_notice.specs.Expressions.{Expression, licence, licence_with, group, joined, spelling, IsExpression}
+use Rattle.reuse_notice.specs.Expressions.{IsExpressionText, is_word_byte, word_len, has_plus, word_token, token_at}
+use Rattle.reuse_notice.specs.Expressions.{token_len}
 use Rattle.reuse_amend.specs.Pieces.{pieces_of, is_name, is_operator, is_identifier, has_operator}
 use Rattle.reuse_notice.specs.ExpressionSteps.{start}
 use Rattle.reuse_amend.specs.Amending.{operand, is_behind_with, expression_replaced}
@@ -22,8 +24,10 @@ use Rattle.reuse_amend.specs.Meanings.{words_of}
 use Rattle.reuse_notice.proofs.GrammarLemmas.{run_from_expression}
 use Rattle.reuse_amend.proofs.UnnamedLemmas.{together, pieces-join, other_text}
 use Rattle.reuse_amend.proofs.PieceLemmas.{pieces-nil}
-use Rattle.reuse_amend.proofs.CutLemmas.{is_plain, IsPiece, EndsBefore, WellCut, EndsInWord, front_piece, cut_again, pieces_cut, plain_first, together-append, pieces-apart, pieces-append}
-use Rattle.reuse_amend.proofs.WordLemmas.{Word, kinds, without_blanks, no_space, blank_plain, name_is, name_begins, grouped_pieces, grouped, kinds-append, words_are_tokens}
+use Rattle.reuse_amend.proofs.CutLemmas.{is_plain, IsPiece, EndsBefore, WellCut, EndsInWord, front_piece, cut_again}
+use Rattle.reuse_amend.proofs.CutLemmas.{pieces_cut, plain_first, together-append, pieces-apart, pieces-append}
+use Rattle.reuse_amend.proofs.WordLemmas.{Word, kinds, without_blanks, no_space, blank_plain, name_is, name_begins}
+use Rattle.reuse_amend.proofs.WordLemmas.{grouped_pieces, grouped, kinds-append, words_are_tokens}
 use Rattle.reuse_amend.proofs.PassLemmas.{Passes, passes_both, behind_name}
 use Rattle.reuse_amend.proofs.ReplacedLemmas.{new_pieces, new_together, plain_kept, plain_other, not_old}
 

@@ -13,18 +13,24 @@ use Rattle.std.proofs.lemmas.Slice.Eq.{bytes_eq-Decides}
 use Rattle.reuse_notice.specs.declared.expressions.Token.{Token}
 use Rattle.reuse_notice.specs.declared.expressions.Token.TheVariants.{Open, Close, Operator, With, Identifier, Stray}
 use Rattle.reuse_amend.specs.declared.replacements.Replacement.{Replacement}
-use Rattle.reuse_notice.specs.Expressions.{token_at, token_len, word_len, has_plus, is_word_byte, word_token, tokens_from, tokens_of, kinds_of, IsExpression, IsExpressionText}
+use Rattle.reuse_notice.specs.Expressions.{token_at, token_len, word_len, has_plus, is_word_byte, word_token}
+use Rattle.reuse_notice.specs.Expressions.{tokens_from, tokens_of, kinds_of, IsExpression, IsExpressionText}
 use Rattle.reuse_notice.specs.ExpressionSteps.{fault_of, State, state, step_of, start}
 use Rattle.reuse_notice.specs.ExpressionSteps as steps
 use Rattle.reuse_amend.specs.Pieces.{pieces_from, pieces_of, is_name, is_operator, is_identifier, has_operator}
-use Rattle.reuse_amend.specs.Amending.{operand as as_operand, is_behind_with, piece_replaced, pieces_replaced, expression_replaced, licence_replaced, if_expression}
-use Rattle.reuse_amend.specs.Meanings.{Meaning, licence, excepted, both, either, Rank, Operand, Conjunction, Whole, Phrase, name, name_with, group, operand, joined_by_and, conjunction, joined_by_or, written, meant, words_of, Means, exception_replaced, meaning_replaced}
+use Rattle.reuse_amend.specs.Amending.{operand as as_operand, is_behind_with, piece_replaced, pieces_replaced}
+use Rattle.reuse_amend.specs.Amending.{expression_replaced, licence_replaced, if_expression}
+use Rattle.reuse_amend.specs.Meanings.{Meaning, licence, excepted, both, either, Rank, Operand, Conjunction, Whole}
+use Rattle.reuse_amend.specs.Meanings.{Phrase, name, name_with, group, operand, joined_by_and, conjunction}
+use Rattle.reuse_amend.specs.Meanings.{joined_by_or, written, meant, words_of, Means, exception_replaced}
+use Rattle.reuse_amend.specs.Meanings.{meaning_replaced}
 use Rattle.reuse_notice.proofs.GrammarLemmas.{run_from_expression}
 use Rattle.reuse_notice.proofs.PlainLemmas.{or-none}
 use Rattle.reuse_notice.proofs.PlaceLemmas.{none_exactly}
 use Rattle.reuse_amend.proofs.UnnamedLemmas.{together, other_text, own_text}
 use Rattle.reuse_amend.proofs.CutLemmas.{cut_again, pieces_cut}
-use Rattle.reuse_amend.proofs.WordLemmas.{Word, kinds, kinds-append, no_space, without_blanks, words_are_tokens, name_is, identifier_words, lone, grouped}
+use Rattle.reuse_amend.proofs.WordLemmas.{Word, kinds, kinds-append, no_space, without_blanks, words_are_tokens}
+use Rattle.reuse_amend.proofs.WordLemmas.{name_is, identifier_words, lone, grouped}
 use Rattle.reuse_amend.proofs.PassLemmas.{Passes, passes_both, close_with, with_twice, with_plus}
 use Rattle.reuse_amend.proofs.ReplacedLemmas.{new_pieces, new_words, new_together, not_old, new_cut, words_replaced}
 use Rattle.reuse_amend.proofs.FusedLemmas.{replaced_pieces}

@@ -5,8 +5,11 @@ use Rattle.std.specs.Prelude.{codes, Option, None, Some, ◌||◌}
 use Rattle.std.specs.Str.{bytes_eq}
 use Rattle.reuse_notice.specs.declared.expressions.Token.{Token}
 use Rattle.reuse_notice.specs.declared.expressions.Token.TheVariants.{Open, Close, Operator, With, Identifier, Stray}
-use Rattle.reuse_notice.specs.Expressions.{Expression, licence as a_licence, licence_with, group as a_group, joined, spelling, IsExpression}
-use Rattle.reuse_amend.specs.Meanings.{Meaning, licence, excepted, both, either, Rank, Operand, Conjunction, Whole, Phrase, name, name_with, group, operand, joined_by_and, conjunction, joined_by_or, written, meant}
+use Rattle.reuse_notice.specs.Expressions.{Expression, licence as a_licence, licence_with, group as a_group, joined}
+use Rattle.reuse_notice.specs.Expressions.{spelling, IsExpression}
+use Rattle.reuse_amend.specs.Meanings.{Meaning, licence, excepted, both, either, Rank, Operand, Conjunction, Whole}
+use Rattle.reuse_amend.specs.Meanings.{Phrase, name, name_with, group, operand, joined_by_and, conjunction}
+use Rattle.reuse_amend.specs.Meanings.{joined_by_or, written, meant}
 use Rattle.reuse_amend.proofs.WordLemmas.{Word, kinds, kinds-append}
 
 -- ---- reading words from left to right, as a stack of what is open

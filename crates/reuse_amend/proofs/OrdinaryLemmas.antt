@@ -17,7 +17,8 @@ use Rattle.reuse_notice.specs.Adding.{notice_written}
 use Rattle.reuse_notice.specs.Merging.{says}
 use Rattle.reuse_notice.specs.MergeSteps.{is_among}
 use Rattle.reuse_notice.specs.Keeping.{HaveFourDigits}
-use Rattle.reuse_amend.specs.Amending.{text_replaced, text_amended, years_until, concerns, years_amended, prefix_amended, notice_saying, holder_amended}
+use Rattle.reuse_amend.specs.Amending.{text_replaced, text_amended, years_until, concerns, years_amended}
+use Rattle.reuse_amend.specs.Amending.{prefix_amended, notice_saying, holder_amended}
 use Rattle.reuse_notice.specs.Plain.{IsPlain}
 use Rattle.reuse_amend.specs.Settled.{ReadsAsAmended, WritePlainTexts, CanBeWritten, HasFourDigits, may_be_misread}
 use Rattle.reuse_notice.proofs.PlainLemmas.{read-digits, year-short}

@@ -12,7 +12,9 @@ use Rattle.reuse_notice.specs.Expressions.{Expression, licence as a_licence, lic
 use Rattle.reuse_notice.specs.Expressions.{spelling, IsExpression, word_len, has_plus, word_token, token_at, token_len}
 use Rattle.reuse_notice.specs.ExpressionSteps.{fault_of}
 use Rattle.reuse_amend.specs.Pieces.{pieces_of, is_operator}
-use Rattle.reuse_amend.specs.Meanings.{Meaning, Rank, Operand, Conjunction, Whole, Phrase, name, name_with, group, operand, joined_by_and, conjunction, joined_by_or, written, meant, words_of, Means}
+use Rattle.reuse_amend.specs.Meanings.{Meaning, Rank, Operand, Conjunction, Whole, Phrase, name, name_with, group}
+use Rattle.reuse_amend.specs.Meanings.{operand, joined_by_and, conjunction, joined_by_or, written, meant, words_of}
+use Rattle.reuse_amend.specs.Meanings.{Means}
 use Rattle.reuse_notice.proofs.PlaceLemmas.{none_exactly}
 use Rattle.reuse_amend.proofs.CutLemmas.{IsPiece, WellCut, pieces_cut}
 use Rattle.reuse_amend.proofs.WordLemmas.{Word, kinds, no_space, without_blanks, words_are_tokens}

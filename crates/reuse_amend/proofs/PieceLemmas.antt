@@ -11,7 +11,8 @@ use Rattle.reuse_notice.specs.declared.expressions.Token.{Token}
 use Rattle.reuse_amend.specs.declared.replacements.Replacement.{Replacement}
 use Rattle.reuse_notice.specs.Expressions.{token_at, token_len, word_len, has_plus}
 use Rattle.reuse_amend.specs.Pieces.{pieces_from, pieces_of, is_operator}
-use Rattle.reuse_amend.specs.Amending.{is_behind_with, piece_replaced, pieces_replaced, licence_replaced, licence_amended, each_made}
+use Rattle.reuse_amend.specs.Amending.{is_behind_with, piece_replaced, pieces_replaced, licence_replaced}
+use Rattle.reuse_amend.specs.Amending.{licence_amended, each_made}
 use Rattle.reuse_notice.proofs.BlankLemmas.{drop_next}
 
 pieces_from-skip : (skip : ℕ) (bytes : List ℕ) → pieces_from skip bytes ≡ pieces_from 0 (drop skip bytes)

@@ -13,7 +13,8 @@ use Rattle.reuse_amend.specs.Pieces.{pieces_of, is_name, is_identifier}
 use Rattle.reuse_amend.specs.Amending.{operand, is_behind_with, pieces_replaced}
 use Rattle.reuse_amend.specs.Meanings.{words_of}
 use Rattle.reuse_amend.proofs.UnnamedLemmas.{together, pieces-join, other_text}
-use Rattle.reuse_amend.proofs.CutLemmas.{is_plain, IsPiece, WellCut, EndsInWord, EndsBefore, pieces_cut, plain_first, together-append, cut-append}
+use Rattle.reuse_amend.proofs.CutLemmas.{is_plain, IsPiece, WellCut, EndsInWord, EndsBefore, pieces_cut, plain_first}
+use Rattle.reuse_amend.proofs.CutLemmas.{together-append, cut-append}
 use Rattle.reuse_amend.proofs.WordLemmas.{Word, no_space, without_blanks, blank_plain, name_begins}
 
 -- ---- the pieces replaced

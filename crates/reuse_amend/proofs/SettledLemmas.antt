@@ -10,16 +10,19 @@ use Rattle.std.proofs.lemmas.Slice.Eq.{bytes_eq-Decides}
 use Rattle.reuse_notice.specs.declared.expressions.Token.{Token}
 use Rattle.reuse_notice.specs.declared.expressions.Token.TheVariants.{Close, Operator}
 use Rattle.reuse_amend.specs.declared.replacements.Replacement.{Replacement}
-use Rattle.reuse_notice.specs.Expressions.{Expression, licence, licence_with, group, joined, spelling, IsExpression, IsExpressionText, token_at, token_len}
+use Rattle.reuse_notice.specs.Expressions.{Expression, licence, licence_with, group, joined, spelling, IsExpression}
+use Rattle.reuse_notice.specs.Expressions.{IsExpressionText, token_at, token_len}
 use Rattle.reuse_notice.specs.ExpressionSteps.{fault_of}
 use Rattle.reuse_amend.specs.Pieces.{pieces_of, is_name, is_identifier, has_operator}
-use Rattle.reuse_amend.specs.Amending.{operand, is_behind_with, pieces_replaced, expression_replaced, if_expression, licence_replaced, licence_amended}
+use Rattle.reuse_amend.specs.Amending.{operand, is_behind_with, pieces_replaced, expression_replaced, if_expression}
+use Rattle.reuse_amend.specs.Amending.{licence_replaced, licence_amended}
 use Rattle.reuse_amend.specs.Meanings.{words_of}
 use Rattle.reuse_amend.specs.Settled.{DoesNotBringIn, NoLicenceComesBack}
 use Rattle.reuse_notice.proofs.PlaceLemmas.{none_exactly}
 use Rattle.reuse_amend.proofs.UnnamedLemmas.{together, pieces-join, other_text, own_text}
 use Rattle.reuse_amend.proofs.CutLemmas.{WellCut, pieces_cut}
-use Rattle.reuse_amend.proofs.WordLemmas.{Word, kinds, without_blanks, blank_plain, name_is, identifier_pieces, grouped_pieces}
+use Rattle.reuse_amend.proofs.WordLemmas.{Word, kinds, without_blanks, blank_plain, name_is, identifier_pieces}
+use Rattle.reuse_amend.proofs.WordLemmas.{grouped_pieces}
 use Rattle.reuse_amend.proofs.ReplacedLemmas.{new_pieces}
 use Rattle.reuse_amend.proofs.FusedLemmas.{new_expression, replaced_pieces}
 use Rattle.reuse_amend.proofs.MeaningLemmas.{expression_is}

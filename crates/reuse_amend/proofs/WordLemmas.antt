@@ -10,7 +10,8 @@ use Rattle.std.proofs.lemmas.List.Elements.{filter-append}
 use Rattle.std.proofs.lemmas.Slice.Eq.{bytes_eq-Decides}
 use Rattle.reuse_notice.specs.declared.expressions.Token.{Token}
 use Rattle.reuse_notice.specs.declared.expressions.Token.TheVariants.{Open, Close, Operator, With, Identifier, Stray}
-use Rattle.reuse_notice.specs.Expressions.{token_at, token_len, word_len, has_plus, is_word_byte, word_token, tokens_from, tokens_of, kinds_of}
+use Rattle.reuse_notice.specs.Expressions.{token_at, token_len, word_len, has_plus, is_word_byte, word_token}
+use Rattle.reuse_notice.specs.Expressions.{tokens_from, tokens_of, kinds_of}
 use Rattle.reuse_amend.specs.Pieces.{pieces_from, pieces_of, is_name, is_operator, is_identifier}
 use Rattle.reuse_amend.specs.Amending.{operand}
 use Rattle.reuse_amend.specs.Meanings.{words_of}

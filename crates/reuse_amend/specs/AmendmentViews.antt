@@ -24,8 +24,8 @@ no_amendments = record {
 abbrev pub replacement : List ℕ → List ℕ → Replacement
 replacement old new = record { old = without_spaces old; new = without_spaces new }
 
--- the answer that is due, or want of memory, which may take its place
+-- the answer that is expected, or an allocation failure, which may take its place
 abbrev pub IsAnswer : {X : Type 0} → Option X → Result X AmendRefusal → Type 0
-IsAnswer due (Ok x) = due ≡ Some x
-IsAnswer due (Err BadExpression) = due ≡ None
-IsAnswer due (Err (Memory e)) = Unit {0}
+IsAnswer expected (Ok x) = expected ≡ Some x
+IsAnswer expected (Err BadExpression) = expected ≡ None
+IsAnswer expected (Err (Memory e)) = Unit {0}

@@ -2,6 +2,6 @@ pub mod Pieces
 pub mod Amending
 pub mod AmendmentViews
 pub mod Unnamed
-pub mod Sought
+pub mod Searched
 pub mod Settled
 pub mod Meanings

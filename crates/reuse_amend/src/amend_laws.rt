@@ -17,7 +17,8 @@ ghost use Rattle.reuse_notice.specs.ExpressionSteps.{fault_of};
 ghost use Rattle.reuse_notice.specs.Adding.{without_spaces, is_bad_text, notice_written};
 ghost use Rattle.reuse_notice.specs.Merging.{says};
 ghost use Rattle.reuse_notice.specs.Plain.{IsPlain};
-ghost use Rattle.reuse_amend.specs.Settled.{NoLicenceComesBack, BringNothingBack, ReadsAsAmended, WritePlainTexts, CanBeWritten, HasFourDigits, may_be_misread};
+ghost use Rattle.reuse_amend.specs.Settled.{NoLicenceComesBack, BringNothingBack, ReadsAsAmended, WritePlainTexts};
+ghost use Rattle.reuse_amend.specs.Settled.{CanBeWritten, HasFourDigits, may_be_misread};
 
 /// A licence is its pieces, put together: its tokens and the bytes between them.
 pub fn licences_are_their_pieces()

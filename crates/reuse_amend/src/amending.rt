@@ -2,7 +2,10 @@
 ghost use Rattle.std.specs.Prelude.{◌≡◌, ◌++◌, IfOk, OnOk};
 ghost use Rattle.std.specs.Option.{option_to_list};
 ghost use Rattle.reuse_notice.specs.TagViews.{notice_view};
-ghost use Rattle.reuse_amend.specs.Amending.{amended, each_made, licence_amended, text_amended, text_replaced, years_until, years_amended, prefix_amended, notice_saying, notice_amended, notices_amended, contributors_amended, licences_amended, licence_alone, unless_removed};
+ghost use Rattle.reuse_amend.specs.Amending.{amended, each_made, licence_amended, text_amended, text_replaced};
+ghost use Rattle.reuse_amend.specs.Amending.{years_until, years_amended, prefix_amended, notice_saying, notice_amended};
+ghost use Rattle.reuse_amend.specs.Amending.{notices_amended, contributors_amended, licences_amended, licence_alone};
+ghost use Rattle.reuse_amend.specs.Amending.{unless_removed};
 ghost use Rattle.reuse_amend.specs.AmendmentViews.{IsAnswer};
 
 use crate::amendments::{AmendRefusal, Amendments};

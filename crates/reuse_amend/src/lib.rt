@@ -8,7 +8,7 @@ mod amending;
 mod amendments;
 mod replacements;
 mod replacing;
-mod sought;
+mod searched;
 
 pub use amend_laws::{
     amended_years_include_the_old, expressions_have_one_meaning, licences_are_their_pieces,
@@ -19,4 +19,4 @@ pub use amend_laws::{
 pub use amending::{amend_info, amend_one_licence, amend_one_notice};
 pub use amendments::{AmendRefusal, Amendments};
 pub use replacements::{Replacement, Replacements};
-pub use sought::may_change;
+pub use searched::may_change;

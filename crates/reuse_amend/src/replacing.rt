@@ -5,7 +5,8 @@ ghost use Rattle.std.specs.Prelude.{◌&&◌, ◌||◌, not, if◌then◌else◌
 ghost use Rattle.std.specs.Str.{bytes_eq};
 ghost use Rattle.reuse_notice.specs.Expressions.{token_len};
 ghost use Rattle.reuse_amend.specs.Pieces.{is_identifier, has_operator, is_operator, is_name};
-ghost use Rattle.reuse_amend.specs.Amending.{operand, is_behind_with, piece_replaced, expression_replaced, licence_replaced, licence_amended};
+ghost use Rattle.reuse_amend.specs.Amending.{operand, is_behind_with, piece_replaced, expression_replaced};
+ghost use Rattle.reuse_amend.specs.Amending.{licence_replaced, licence_amended};
 ghost use Rattle.reuse_amend.specs.AmendmentViews.{IsAnswer};
 
 use crate::amendments::AmendRefusal;

@@ -1,5 +1,6 @@
 -- The changes of `amend` in their order, one at a time.
-use Rattle.std.proofs.Common.{◌≡◌, ◌≤◌, ◌<◌, ◌-◌, ◌∙◌, ℕ, List, [], ◌∷◌, Bor, arith, ap, refl, sym, get_or, length, map, take, drop, codes, true, false, cond}
+use Rattle.std.proofs.Common.{◌≡◌, ◌≤◌, ◌<◌, ◌-◌, ◌∙◌, ℕ, List, [], ◌∷◌, Bor, arith, ap, refl, sym, get_or, length, map}
+use Rattle.std.proofs.Common.{take, drop, codes, true, false, cond}
 use Rattle.std.specs.Prelude.{Result, Ok, Err, IfSome}
 use Rattle.std.proofs.lemmas.List.{take_all}
 use Rattle.reuse_amend.specs.declared.amendments.Amendments.{Amendments}
@@ -109,7 +110,7 @@ unfolding in_turn
 turn_end step given wanted so_far e = ap (λ x. then_read (step x so_far) (in_turn [])) (sym e) ∙ alone
     (step given so_far)
   where
-    alone : (due : Result Amendments Mistake) → then_read due (in_turn []) ≡ due
+    alone : (expected : Result Amendments Mistake) → then_read expected (in_turn []) ≡ expected
     alone (Ok a) = refl
     alone (Err mistake) = refl
 

@@ -2,7 +2,8 @@
 use Rattle.std.proofs.Common.{Bor, ◌≡◌, ◌∙◌, ℕ, true, false, cond, List, [], ◌∷◌, Option, Some, None, ap, sym}
 use Rattle.std.specs.Prelude.{Ok, Err, IfSome, option_map}
 use Rattle.std.specs.Option.{option_or}
-use Rattle.reuse_notice.specs.Adding.{Refusal, bad_expression, bad_licence, bad_text, bad_year, is_bad_text, is_bad_year, without_spaces}
+use Rattle.reuse_notice.specs.Adding.{Refusal, bad_expression, bad_licence, bad_text, bad_year, is_bad_text}
+use Rattle.reuse_notice.specs.Adding.{is_bad_year, without_spaces}
 use Rattle.reuse_amend.specs.AmendmentViews.{replacement}
 use Rattle.reuse_notice.specs.ExpressionSteps.{fault_of}
 use Rattle.reuse_notice.specs.Refusals.{refusal_view}
@@ -10,32 +11,33 @@ use Rattle.reuse_notice.specs.Tags.{year_of}
 use Rattle.reuse_notice.specs.declared.prefixes.Prefix.{Prefix}
 use Rattle.reuse_notice.specs.declared.adding.NoticeRefusal.{NoticeRefusal}
 use Rattle.reuse_amend.specs.declared.amendments.Amendments.{Amendments}
-use Rattle.reuse_arguments.specs.AmendSteps.{new_refusal, prefix_read, removed, replaced, sought_read, with_holder, with_prefix, with_removed, with_replaced, with_until}
+use Rattle.reuse_arguments.specs.AmendSteps.{new_refusal, prefix_read, removed, replaced, searched_read, with_holder}
+use Rattle.reuse_arguments.specs.AmendSteps.{with_prefix, with_removed, with_replaced, with_until}
 use Rattle.reuse_arguments.specs.LineFaults.{bad_additions, mistake_of, unless_refused}
 use Rattle.reuse_arguments.specs.declared.line.LineFault.{LineFault}
 use Rattle.reuse_arguments.specs.declared.line.LineFault.TheVariants as faults
 use Rattle.reuse_arguments.specs.declared.words.amend_words.Part.{Part}
 use Rattle.reuse_arguments.proofs.LineFaultLemmas.{mistake_first, mistake_same, read_on, refused_mistake}
 
-pub removed_now : (part : Part) (text found : List ℕ) (so_far after : Amendments) → sought_read text ≡ Ok found
+pub removed_now : (part : Part) (text found : List ℕ) (so_far after : Amendments) → searched_read text ≡ Ok found
     → after ≡ with_removed part (without_spaces found) so_far
     → removed part text so_far ≡ Ok after
 unfolding removed
 removed_now part text found so_far after is e =
-    read_on (sought_read text) (λ sought. Ok (with_removed part (without_spaces sought) so_far)) found is ∙ ap Ok
+    read_on (searched_read text) (λ searched. Ok (with_removed part (without_spaces searched) so_far)) found is ∙ ap Ok
     (sym e)
 
-pub replaced_now : (part : Part) (old new found : List ℕ) (so_far after : Amendments) → sought_read old ≡ Ok found
+pub replaced_now : (part : Part) (old new found : List ℕ) (so_far after : Amendments) → searched_read old ≡ Ok found
     → new_refusal part (without_spaces new) ≡ None
     → after ≡ with_replaced part (replacement found new) so_far → replaced part old new so_far ≡ Ok after
 unfolding replaced
 replaced_now part old new found so_far after is fit e =
-    read_on (sought_read old) (λ sought. unless_refused (new_refusal part (without_spaces new))
-    (with_replaced part (replacement sought new) so_far)) found is
+    read_on (searched_read old) (λ searched. unless_refused (new_refusal part (without_spaces new))
+    (with_replaced part (replacement searched new) so_far)) found is
     ∙ ap (λ o. unless_refused o (with_replaced part (replacement found new) so_far)) fit ∙ ap Ok (sym e)
 
 pub replaced_refused : (part : Part) (old new found : List ℕ) (so_far : Amendments) (e : NoticeRefusal)
-    → sought_read old ≡ Ok found
+    → searched_read old ≡ Ok found
     → IfSome (refusal_view e) (λ refusal. new_refusal part (without_spaces new) ≡ Some refusal)
     → IfSome (mistake_of (faults.BadAdditions e)) (λ mistake. replaced part old new so_far ≡ Err mistake)
 unfolding replaced
@@ -46,8 +48,8 @@ replaced_refused part old new found so_far e is h = refused_mistake (replaced pa
         (λ refusal. replaced part old new so_far ≡ Err (bad_additions refusal))
     go None h = tt
     go (Some refusal) h =
-        read_on (sought_read old) (λ sought. unless_refused (new_refusal part (without_spaces new))
-        (with_replaced part (replacement sought new) so_far)) found is
+        read_on (searched_read old) (λ searched. unless_refused (new_refusal part (without_spaces new))
+        (with_replaced part (replacement searched new) so_far)) found is
         ∙ ap (λ o. unless_refused o (with_replaced part (replacement found new) so_far)) h
 
 -- a licence or a text that is fit, and one that isn't
@@ -115,22 +117,22 @@ prefix_mistake name text so_far fault is h =
 
 -- the holder
 pub holder_now : (name : Option (Bor (List ℕ))) (text found : Bor (List ℕ)) (so_far after : Amendments) → name
-    ≡ Some text → sought_read text.now ≡ Ok found.now
+    ≡ Some text → searched_read text.now ≡ Ok found.now
     → after ≡ record so_far { holder = Some (without_spaces found.now) } → with_holder
     (option_map (λ t. t.now) name) so_far ≡ Ok after
 unfolding with_holder
 holder_now name text found so_far after is read e =
     ap (λ y. with_holder (option_map (λ t. t.now) y) so_far) is
-    ∙ read_on (sought_read text.now) (λ sought. Ok
-    (record so_far { holder = Some (without_spaces sought) })) found.now read ∙ ap Ok (sym e)
+    ∙ read_on (searched_read text.now) (λ searched. Ok
+    (record so_far { holder = Some (without_spaces searched) })) found.now read ∙ ap Ok (sym e)
 
 pub holder_mistake : (name : Option (Bor (List ℕ))) (text : Bor (List ℕ)) (so_far : Amendments) (fault : LineFault)
     → name ≡ Some text
-    → IfSome (mistake_of fault) (λ mistake. sought_read text.now ≡ Err mistake) → IfSome (mistake_of fault)
+    → IfSome (mistake_of fault) (λ mistake. searched_read text.now ≡ Err mistake) → IfSome (mistake_of fault)
     (λ mistake. with_holder (option_map (λ t. t.now) name) so_far ≡ Err mistake)
 unfolding with_holder
 holder_mistake name text so_far fault is h =
     mistake_same (with_holder (option_map (λ t. t.now) name) so_far) (with_holder (Some text.now) so_far) fault
     (ap (λ y. with_holder (option_map (λ t. t.now) y) so_far) is)
-    (mistake_first (sought_read text.now) (λ sought. Ok
-    (record so_far { holder = Some (without_spaces sought) })) fault h)
+    (mistake_first (searched_read text.now) (λ searched. Ok
+    (record so_far { holder = Some (without_spaces searched) })) fault h)

@@ -6,7 +6,7 @@ use Rattle.std.proofs.lemmas.Bool.{false_from_ne_true}
 use Rattle.std.proofs.lemmas.Slice.Eq.{bytes_eq-Decides}
 use Rattle.reuse_command.specs.declared.request.Call.{Call}
 use Rattle.reuse_command.specs.declared.request.Request.{Request}
-use Rattle.reuse_arguments.specs.Asking.{Asked}
+use Rattle.reuse_arguments.specs.Asking.{Invocation}
 use Rattle.reuse_arguments.specs.Choices.{change_status_of, format_of, is_dry_run}
 use Rattle.reuse_arguments.specs.CommandLine.{call_read, request_read, texts_read}
 use Rattle.reuse_arguments.specs.Found.{Rows}
@@ -59,7 +59,7 @@ pub made_of : (asked : Call) (moment : ℕ) (dry wanted : Bool) (request : Reque
 made_of asked moment dry wanted request same is = ap (made_or_seen asked moment) (sym same) ∙ sym is
 
 -- a line of these parts
-abbrev asked_of : List ℕ → Request → Option (List ℕ) → OutputFormat → ChangeStatus → Asked
+abbrev asked_of : List ℕ → Request → Option (List ℕ) → OutputFormat → ChangeStatus → Invocation
 asked_of root request texts format status =
     record { root = root; request = request; texts = texts; format = format; change_status = status }
 

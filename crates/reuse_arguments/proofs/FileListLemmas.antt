@@ -14,20 +14,26 @@ use Rattle.reuse_arguments.specs.FileLists.{path_at, path_of_word}
 use Rattle.reuse_arguments.specs.Places.{place_of_word}
 
 -- a word that is UTF-8, and one that isn't
-pub named : (word text : List ℕ) (place : Option Place) (path : List ℕ) → IsUtf8 word → text ≡ word → place ≡ place_of_word text → place ≡ Some (Path path) → Some path ≡ path_of_word word
+pub named : (word text : List ℕ) (place : Option Place) (path : List ℕ) → IsUtf8 word → text ≡ word
+    → place ≡ place_of_word text → place ≡ Some (Path path) → Some path ≡ path_of_word word
 named word text place path utf8 same e is =
-    sym (ap (λ b. cond b (path_at (place_of_word word)) None) (is_utf8-from_IsUtf8 word utf8) ∙ ap (λ t. path_at (place_of_word t)) (sym same) ∙ ap path_at (sym e ∙ is))
+    sym (ap (λ b. cond b (path_at (place_of_word word)) None) (is_utf8-from_IsUtf8 word utf8)
+    ∙ ap (λ t. path_at (place_of_word t)) (sym same) ∙ ap path_at (sym e ∙ is))
 
 pub unnamed : (word : List ℕ) → ¬ IsUtf8 word → None ≡ path_of_word word
 unnamed word h = sym (ap (λ b. cond b (path_at (place_of_word word)) None) (not_utf8 word h))
 
 -- the paths of one word more
-pub one_word_more : (named : List ℕ → Option (List ℕ)) (words : List (Bor (List ℕ))) (word : Bor (List ℕ)) (old new : List (List ℕ)) → old ≡ filter_map named (map (λ (w : Bor (List ℕ)). w.now) words)
-    → new ≡ old ++ option_to_list (named word.now) → new ≡ filter_map named (map (λ (w : Bor (List ℕ)). w.now) (words ++ word ∷ []))
+pub one_word_more : (named : List ℕ → Option (List ℕ)) (words : List (Bor (List ℕ))) (word : Bor (List ℕ))
+    (old new : List (List ℕ)) → old ≡ filter_map named (map (λ (w : Bor (List ℕ)). w.now) words)
+    → new ≡ old ++ option_to_list (named word.now)
+    → new ≡ filter_map named (map (λ (w : Bor (List ℕ)). w.now) (words ++ word ∷ []))
 one_word_more named words word old new so is =
     let front = map (λ (w : Bor (List ℕ)). w.now) words in
-    is ∙ ap (λ ys. ys ++ option_to_list (named word.now)) so ∙ ap (λ ys. filter_map named front ++ ys) (of_one (named word.now))
-    ∙ sym (filter_map-append named front (word.now ∷ [])) ∙ ap (filter_map named) (sym (map-append (λ (w : Bor (List ℕ)). w.now) words (word ∷ [])))
+    is ∙ ap (λ ys. ys ++ option_to_list (named word.now)) so
+    ∙ ap (λ ys. filter_map named front ++ ys) (of_one (named word.now))
+    ∙ sym (filter_map-append named front (word.now ∷ []))
+    ∙ ap (filter_map named) (sym (map-append (λ (w : Bor (List ℕ)). w.now) words (word ∷ [])))
   where
     of_one : (o : Option (List ℕ)) → option_to_list o ≡ cons_option o []
     of_one None = refl

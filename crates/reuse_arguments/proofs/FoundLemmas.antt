@@ -1,5 +1,6 @@
 -- What clap's getters read, by the rows of what was found.
-use Rattle.std.proofs.Common.{◌≡◌, ◌^◌, ◌<◌, ◌∙◌, ℕ, Bool, true, false, List, Option, Some, None, refl, sym, ap, cond, codes, arith}
+use Rattle.std.proofs.Common.{◌≡◌, ◌^◌, ◌<◌, ◌∙◌, ℕ, Bool, true, false, List, Option, Some, None, refl, sym, ap, cond}
+use Rattle.std.proofs.Common.{codes, arith}
 use Rattle.std.specs.Prelude.{Result, Ok, Err, unwrap_or, option_and_then}
 use Rattle.std.specs.Option.{option_map_or}
 use Rattle.std.specs.Str.{bytes_eq}

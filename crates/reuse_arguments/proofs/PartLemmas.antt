@@ -1,5 +1,7 @@
 -- The parts of a word, one more at a time.
-use Rattle.std.proofs.Common.{◌≡◌, ◌≢◌, ◌<◌, ◌+◌, ◌-◌, ℕ, Bool, true, false, cond, List, [], ◌∷◌, ◌++◌, None, Some, length, take, map, filter, refl, sym, ◌∙◌, ap, append_assoc, append-nil, get_or, nat_eq, Bor, subst}
+use Rattle.std.proofs.Common.{◌≡◌, ◌≢◌, ◌<◌, ◌+◌, ◌-◌, ℕ, Bool, true, false, cond, List, [], ◌∷◌, ◌++◌, None, Some}
+use Rattle.std.proofs.Common.{length, take, map, filter, refl, sym, ◌∙◌, ap, append_assoc, append-nil, get_or, nat_eq}
+use Rattle.std.proofs.Common.{Bor, subst}
 use Rattle.std.proofs.lemmas.List.{take_more, map-append}
 use Rattle.std.proofs.lemmas.List.Elements.{filter-append}
 use Rattle.std.proofs.lemmas.Bool.{false_from_ne_true}
@@ -9,13 +11,16 @@ use Rattle.std.specs.List.{join_with_byte, ends_with}
 use Rattle.reuse_arguments.specs.Places.{without_end_slash, is_named, path_along}
 
 -- a word with no slash at its end stays as it is
-pub without_end_slash-none : (word : List ℕ) → ((front : List ℕ) → word ≢ front ++ (47 ∷ [])) → word ≡ without_end_slash word
+pub without_end_slash-none : (word : List ℕ) → ((front : List ℕ) → word ≢ front ++ (47 ∷ []))
+    → word ≡ without_end_slash word
 without_end_slash-none word none =
-    let no : ends_with nat_eq word (47 ∷ []) ≡ false = false_from_ne_true _ (λ yes. none _ ((ends_is Decides-eqb word (47 ∷ []) _ refl).0 yes)) in
+    let no : ends_with nat_eq word (47 ∷ []) ≡ false =
+    false_from_ne_true _ (λ yes. none _ ((ends_is Decides-eqb word (47 ∷ []) _ refl).0 yes)) in
     sym (ap (λ (b : Bool). cond b (take (length word - 1) word) word) no)
 
 -- one more piece at the end
-join_with_byte-push : (c : ℕ) (x : List ℕ) (xs : List (List ℕ)) (y : List ℕ) → join_with_byte c ((x ∷ xs) ++ y ∷ []) ≡ join_with_byte c (x ∷ xs) ++ c ∷ y
+join_with_byte-push : (c : ℕ) (x : List ℕ) (xs : List (List ℕ)) (y : List ℕ)
+    → join_with_byte c ((x ∷ xs) ++ y ∷ []) ≡ join_with_byte c (x ∷ xs) ++ c ∷ y
 join_with_byte-push c x [] y = refl
 join_with_byte-push c x (z ∷ xs) y =
     ap (λ l. x ++ c ∷ l) (join_with_byte-push c z xs y) ∙ sym (append_assoc x (c ∷ join_with_byte c (z ∷ xs)) (c ∷ y))
@@ -29,12 +34,14 @@ pub record AreJoined (is_empty : Bool) (text : List ℕ) (parts : List (List ℕ
 abbrev pub pushed : Bool → List ℕ → List ℕ → List ℕ
 pushed is_empty text part = cond is_empty (text ++ part) (text ++ 47 ∷ part)
 
-AreJoined-push : (is_empty : Bool) (text : List ℕ) (parts : List (List ℕ)) (part : List ℕ) → AreJoined is_empty text parts → AreJoined false (pushed is_empty text part) (parts ++ part ∷ [])
+AreJoined-push : (is_empty : Bool) (text : List ℕ) (parts : List (List ℕ)) (part : List ℕ)
+    → AreJoined is_empty text parts → AreJoined false (pushed is_empty text part) (parts ++ part ∷ [])
 AreJoined-push true text [] part h = let e = h.bytes in record { path = rw e refl; bytes = rw e refl }
 AreJoined-push false text [] part h = let bad = h.path in absurd (cc)
 AreJoined-push true text (x ∷ xs) part h = let bad = h.path in absurd (cc)
 AreJoined-push false text (x ∷ xs) part h =
-    let e : text ++ 47 ∷ part ≡ join_with_byte 47 ((x ∷ xs) ++ part ∷ []) = ap (λ l. l ++ 47 ∷ part) h.bytes ∙ sym (join_with_byte-push 47 x xs part) in
+    let e : text ++ 47 ∷ part ≡ join_with_byte 47 ((x ∷ xs) ++ part ∷ []) =
+    ap (λ l. l ++ 47 ∷ part) h.bytes ∙ sym (join_with_byte-push 47 x xs part) in
     record { path = ap (λ l. Some l) e; bytes = e }
 
 -- the named parts among the first ones
@@ -49,7 +56,8 @@ named_front-more i parts d h =
     ∙ filter-append is_named (map (λ p. p.now) (take i parts)) ((get_or parts i d).now ∷ [])
 
 -- a named part is added
-pub AreJoined-named : (is_empty : Bool) (text : List ℕ) (i : ℕ) (parts : List (Bor (List ℕ))) (d : Bor (List ℕ)) → i < length parts
+pub AreJoined-named : (is_empty : Bool) (text : List ℕ) (i : ℕ) (parts : List (Bor (List ℕ))) (d : Bor (List ℕ))
+    → i < length parts
     → true ≡ is_named (get_or parts i d).now → AreJoined is_empty text (named_front i parts)
     → AreJoined false (pushed is_empty text (get_or parts i d).now) (named_front (i + 1) parts)
 AreJoined-named is_empty text i parts d h named joined =
@@ -60,8 +68,10 @@ AreJoined-named is_empty text i parts d h named joined =
     (AreJoined-push is_empty text (named_front i parts) part joined)
 
 -- another part changes nothing
-pub AreJoined-unnamed : (is_empty : Bool) (text : List ℕ) (i : ℕ) (parts : List (Bor (List ℕ))) (d : Bor (List ℕ)) → i < length parts
-    → false ≡ is_named (get_or parts i d).now → AreJoined is_empty text (named_front i parts) → AreJoined is_empty text (named_front (i + 1) parts)
+pub AreJoined-unnamed : (is_empty : Bool) (text : List ℕ) (i : ℕ) (parts : List (Bor (List ℕ))) (d : Bor (List ℕ))
+    → i < length parts
+    → false ≡ is_named (get_or parts i d).now → AreJoined is_empty text (named_front i parts)
+    → AreJoined is_empty text (named_front (i + 1) parts)
 AreJoined-unnamed is_empty text i parts d h unnamed joined =
     let part = (get_or parts i d).now in
     let dropped : filter is_named (part ∷ []) ≡ [] = ap (λ (b : Bool). cond b (part ∷ []) []) (sym unnamed) in

@@ -1,5 +1,6 @@
 -- What words make, one word at a time.
-use Rattle.std.proofs.Common.{◌≡◌, ◌≤◌, ◌<◌, ◌+◌, ◌∙◌, ℕ, suc, List, [], ◌∷◌, ◌++◌, Bor, arith, ap, refl, sym, get_or, length, map, take, drop, append_assoc, append-nil}
+use Rattle.std.proofs.Common.{◌≡◌, ◌≤◌, ◌<◌, ◌+◌, ◌∙◌, ℕ, suc, List, [], ◌∷◌, ◌++◌, Bor, arith, ap, refl, sym, get_or}
+use Rattle.std.proofs.Common.{length, map, take, drop, append_assoc, append-nil}
 use Rattle.std.specs.Prelude.{Result, Ok, Err, IfSome}
 use Rattle.std.proofs.lemmas.List.{drop_all, take_more, map-append}
 use Rattle.std.proofs.Math.Seq.{drop-cons}
@@ -11,10 +12,10 @@ use Rattle.reuse_arguments.proofs.LineFaultLemmas.{mistake_first, mistake_same, 
 abbrev pub texts_in : List (Bor (List ℕ)) → List (List ℕ)
 texts_in list = map (λ (text : Bor (List ℕ)). text.now) list
 
--- what is due is what was made, and behind it what the other words make
+-- what is expected is what was made, and behind it what the other words make
 pub record HasRead {A : Type 0} (read : List ℕ → Result (List A) Mistake) (words : List (Bor (List ℕ))) (i : ℕ)
     (made : List A) : Type 0 where
-  pub due : all_read read (texts_in words) ≡ then_read (all_read read (texts_in (drop i words)))
+  pub expected : all_read read (texts_in words) ≡ then_read (all_read read (texts_in (drop i words)))
       (λ others. Ok (made ++ others))
 
 next_word : (words : List (Bor (List ℕ))) (i : ℕ) (d : Bor (List ℕ)) → i < length words → texts_in (drop i words) ≡
@@ -24,8 +25,9 @@ next_word words i d h =
     ap (λ l. texts_in l) (drop-cons words i d h) ∙ ap (λ n. (get_or words i d).now ∷ texts_in (drop n words)) next
 
 module _ {A : Type 0} where
-  behind : (due : Result (List A) Mistake) (made more : List A)
-      → then_read (then_read due (λ others. Ok (more ++ others))) (λ others. Ok (made ++ others)) ≡ then_read due
+  behind : (expected : Result (List A) Mistake) (made more : List A)
+      → then_read (then_read expected (λ others. Ok (more ++ others)))
+      (λ others. Ok (made ++ others)) ≡ then_read expected
       (λ others. Ok ((made ++ more) ++ others))
   behind (Ok list) made more = ap Ok (sym (append_assoc made more list))
   behind (Err mistake) made more = refl
@@ -37,7 +39,8 @@ module _ {A : Type 0} where
   HasRead-more read words i d made more after h so_far e new =
       let others = all_read read (texts_in (drop (i + 1) words)) in
       record {
-        due = so_far.due ∙ ap (λ l. then_read (all_read read l) (λ others. Ok (made ++ others))) (next_word words i d h)
+        expected = so_far.expected
+            ∙ ap (λ l. then_read (all_read read l) (λ others. Ok (made ++ others))) (next_word words i d h)
             ∙ ap (λ d. then_read d (λ others. Ok (made ++ others)))
             (read_on (read (get_or words i d).now) (λ first. then_read others (λ rest. Ok (first ++ rest))) more e)
             ∙ behind others made more ∙ ap (λ l. then_read others (λ rest. Ok (l ++ rest))) (sym new);
@@ -53,7 +56,7 @@ module _ {A : Type 0} where
       let others = all_read read (texts_in (drop (i + 1) words)) in
       mistake_same (all_read read (texts_in words)) (then_read (all_read read (word ∷ texts_in (drop (i + 1) words)))
       (λ others. Ok (made ++ others))) fault
-      (so_far.due ∙ ap (λ l. then_read (all_read read l) (λ others. Ok (made ++ others))) (next_word words i d h))
+      (so_far.expected ∙ ap (λ l. then_read (all_read read l) (λ others. Ok (made ++ others))) (next_word words i d h))
       (mistake_first (then_read (read word) (λ first. then_read others (λ rest. Ok (first ++ rest))))
       (λ others. Ok (made ++ others)) fault
       (mistake_first (read word) (λ first. then_read others (λ rest. Ok (first ++ rest))) fault e))
@@ -62,7 +65,7 @@ module _ {A : Type 0} where
       → length words ≤ i → HasRead read words i made → all_read read (texts_in words) ≡ Ok made
   unfolding all_read
   HasRead-end read words i made h so_far =
-      so_far.due ∙ ap (λ l. then_read (all_read read (texts_in l)) (λ others. Ok (made ++ others)))
+      so_far.expected ∙ ap (λ l. then_read (all_read read (texts_in l)) (λ others. Ok (made ++ others)))
       (drop_all i words h) ∙ ap Ok (append-nil made)
 
 -- one text more

@@ -2,7 +2,8 @@
 -- (docs/REFERENCE.md, "amend").
 use Rattle.std.specs.Prelude.{ℕ, List, [], ◌∷◌, ◌++◌, Option, None, Some, Result, Ok, Err, codes, if◌then◌else◌}
 use Rattle.std.specs.List.{list_all}
-use Rattle.reuse_notice.specs.Adding.{Refusal, bad_licence, bad_text, bad_year, is_bad_text, is_bad_year, is_space, without_spaces}
+use Rattle.reuse_notice.specs.Adding.{Refusal, bad_licence, bad_text, bad_year, is_bad_text, is_bad_year, is_space}
+use Rattle.reuse_notice.specs.Adding.{without_spaces}
 use Rattle.reuse_amend.specs.AmendmentViews.{replacement}
 use Rattle.reuse_notice.specs.Tags.{year_of}
 use Rattle.reuse_amend.specs.declared.amendments.Amendments.{Amendments}
@@ -13,9 +14,9 @@ use Rattle.reuse_arguments.specs.PrefixNames.{prefix_named}
 use Rattle.reuse_arguments.specs.declared.words.amend_words.Part.{Part}
 use Rattle.reuse_arguments.specs.declared.words.amend_words.Part.TheVariants.{Licence, Holder, Contributor}
 
--- a text that is sought in files has more than spaces
-abbrev pub sought_read : List ℕ → Result (List ℕ) Mistake
-sought_read text = if list_all is_space text then Err (bad_additions (bad_text [])) else Ok text
+-- a text that is searched for in files has more than spaces
+abbrev pub searched_read : List ℕ → Result (List ℕ) Mistake
+searched_read text = if list_all is_space text then Err (bad_additions (bad_text [])) else Ok text
 
 -- why a text can't take the place of another
 abbrev pub new_refusal : Part → List ℕ → Option Refusal
@@ -38,13 +39,13 @@ with_removed Contributor text so_far = record so_far { removed_contributors = so
 -- OLD becomes NEW
 unfoldable pub replaced : Part → List ℕ → List ℕ → Amendments → Result Amendments Mistake
 replaced part old new so_far =
-    then_read (sought_read old) (λ sought.
-    unless_refused (new_refusal part (without_spaces new)) (with_replaced part (replacement sought new) so_far))
+    then_read (searched_read old) (λ searched.
+    unless_refused (new_refusal part (without_spaces new)) (with_replaced part (replacement searched new) so_far))
 
 -- a text goes
 unfoldable pub removed : Part → List ℕ → Amendments → Result Amendments Mistake
 removed part text so_far =
-    then_read (sought_read text) (λ sought. Ok (with_removed part (without_spaces sought) so_far))
+    then_read (searched_read text) (λ searched. Ok (with_removed part (without_spaces searched) so_far))
 
 -- OLD and NEW by turns, in their order
 unfoldable pub all_replaced : Part → List (List ℕ) → Amendments → Result Amendments Mistake
@@ -76,4 +77,4 @@ with_prefix (Some name) so_far = then_read (prefix_read name) (λ prefix. Ok (re
 unfoldable pub with_holder : Option (List ℕ) → Amendments → Result Amendments Mistake
 with_holder None so_far = Ok so_far
 with_holder (Some holder) so_far =
-    then_read (sought_read holder) (λ sought. Ok (record so_far { holder = Some (without_spaces sought) }))
+    then_read (searched_read holder) (λ searched. Ok (record so_far { holder = Some (without_spaces searched) }))

@@ -6,15 +6,15 @@ use Rattle.reuse_arguments.specs.declared.line.Line.{Line}
 use Rattle.reuse_arguments.specs.declared.line.OutputFormat.{OutputFormat}
 
 -- the folder of the tree, what a session on it is asked for, where the texts of a download are found, and how the
--- answer is told
-pub record Asked : Type 0 where
+-- answer is reported
+pub record Invocation : Type 0 where
   pub root : List ℕ
   pub request : Request
   pub texts : Option (List ℕ)
   pub format : OutputFormat
   pub change_status : ChangeStatus
 
-abbrev pub asked_in : Line → Asked
+abbrev pub asked_in : Line → Invocation
 asked_in line = record {
   root = string_bytes line.root;
   request = line.request;

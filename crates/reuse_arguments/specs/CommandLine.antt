@@ -1,5 +1,6 @@
 -- From what clap found on a command line to what is asked for (docs/REFERENCE.md).
-use Rattle.std.specs.Prelude.{◌≡◌, ◌⊎◌, ℕ, false, List, [], Option, None, Some, Result, Ok, Err, codes, option_map, string_bytes, if◌then◌else◌}
+use Rattle.std.specs.Prelude.{◌≡◌, ◌⊎◌, ℕ, false, List, [], Option, None, Some, Result, Ok, Err, codes, option_map}
+use Rattle.std.specs.Prelude.{string_bytes, if◌then◌else◌}
 use Rattle.std.specs.Str.{bytes_eq}
 use Rattle.clap.specs.Simple.{app_of, HasMatchesOf, subcommand_rows_of}
 use Rattle.clap.specs.Values.{kind_of}
@@ -12,17 +13,17 @@ use Rattle.reuse_command.specs.declared.request.Call.{Call}
 use Rattle.reuse_command.specs.declared.request.Call.TheVariants as calls
 use Rattle.reuse_command.specs.declared.request.Request.{Request}
 use Rattle.reuse_command.specs.declared.request.Request.TheVariants as requests
-use Rattle.reuse_arguments.specs.Asking.{Asked, asked_in}
+use Rattle.reuse_arguments.specs.Asking.{Invocation, asked_in}
 use Rattle.reuse_arguments.specs.Choices.{change_status_of, format_of, is_dry_run, settings_of, usual_settings}
 use Rattle.reuse_arguments.specs.CommandWords.{amend_read, annotate_read}
 use Rattle.reuse_shown.specs.Dates.{IsYearOf}
 use Rattle.reuse_arguments.specs.FileWords.{files_from_of, ids_of, root_of, step_read, steps_read, texts_folder_read}
 use Rattle.reuse_arguments.specs.Found.{Rows, flag, found_in}
-use Rattle.reuse_arguments.specs.LineFaults.{IsDueAs, IsToldAs, Mistake, then_read, unread}
+use Rattle.reuse_arguments.specs.LineFaults.{IsExpectedAs, IsReportedAs, Mistake, then_read, unread}
 use Rattle.reuse_arguments.specs.Requests.{made_or_seen}
 use Rattle.reuse_arguments.specs.declared.line.LineFault.{LineFault}
 use Rattle.reuse_arguments.specs.declared.line.LineFault.TheVariants as faults
-use Rattle.reuse_arguments.specs.declared.words.Said.{Said}
+use Rattle.reuse_arguments.specs.declared.words.ParsedArguments.{ParsedArguments}
 
 -- a download of these licences; the texts are found later
 abbrev pub download_of : Rows → SessionCommand
@@ -58,7 +59,7 @@ texts_read name found =
     else Ok None
 
 -- what the subcommand of this name asks for in the tree under the folder, at this moment of this year
-unfoldable pub subcommand_read : List ℕ → List ℕ → Rows → ℕ → ℕ → Result Asked Mistake
+unfoldable pub subcommand_read : List ℕ → List ℕ → Rows → ℕ → ℕ → Result Invocation Mistake
 subcommand_read root name found moment year =
     then_read (request_read name found moment year) (λ request.
     then_read (texts_read name found) (λ texts. Ok (record {
@@ -70,26 +71,27 @@ subcommand_read root name found moment year =
     })))
 
 -- what the whole line asks for: the root stands before the subcommand
-unfoldable pub line_read : Rows → Option (List ℕ × Rows) → ℕ → ℕ → Result Asked Mistake
+unfoldable pub line_read : Rows → Option (List ℕ × Rows) → ℕ → ℕ → Result Invocation Mistake
 line_read above None moment year = Err (unread (codes "no subcommand"))
 line_read above (Some sub) moment year = subcommand_read (root_of above) sub.0 sub.1 moment year
 
 -- what the words say, of which clap found this
-pub record IsSaid (above : Rows) (sub : Option (List ℕ × Rows)) (moment year : ℕ) (said : Said) : Type 0 where
+pub record IsParsed (above : Rows) (sub : Option (List ℕ × Rows)) (moment year : ℕ)
+    (said : ParsedArguments) : Type 0 where
   pub verbose : said.verbose ≡ flag above (codes "verbose")
   pub settings : said.settings ≡ settings_of above
   pub files_from : option_map string_bytes said.files_from ≡ files_from_of sub
-  pub line : IsDueAs asked_in (line_read above sub moment year) said.line
+  pub line : IsExpectedAs asked_in (line_read above sub moment year) said.line
 
 -- words that are no line; nothing else is read of them
-abbrev pub no_line : LineFault → Said
+abbrev pub no_line : LineFault → ParsedArguments
 no_line fault = record { verbose = false; settings = usual_settings; files_from = None; line = Err fault }
 
 -- what the words say in the year of the moment; an allocation failure may take its place
-abbrev pub Says : ArgMatches → ℕ → Said → Type 0
+abbrev pub Says : ArgMatches → ℕ → ParsedArguments → Type 0
 Says matches moment said =
     (said ≡ no_line faults.Memory)
-    ⊎ ((year : ℕ) × IsYearOf moment year × IsSaid (found_in matches) (subcommand_rows_of matches) moment year said)
+    ⊎ ((year : ℕ) × IsYearOf moment year × IsParsed (found_in matches) (subcommand_rows_of matches) moment year said)
 
 -- clap found this in the words, by the options of some command; of one that has groups or global options,
 -- as this program's has, clap's clause says nothing
@@ -97,11 +99,11 @@ abbrev pub IsFoundIn : List (List ℕ) → ArgMatches → Type 0
 IsFoundIn words matches = (command : Command) × HasMatchesOf (app_of command) words matches
 
 -- the words are no line: help or a mistake by the kind of clap's error; an allocation failure may take its place
-abbrev pub IsRefused : Error → Said → Type 0
+abbrev pub IsRefused : Error → ParsedArguments → Type 0
 IsRefused error said =
-    (said ≡ no_line faults.Memory) ⊎ ((fault : LineFault) × IsToldAs (kind_of error) fault × (said ≡ no_line fault))
+    (said ≡ no_line faults.Memory) ⊎ ((fault : LineFault) × IsReportedAs (kind_of error) fault × (said ≡ no_line fault))
 
 -- what the words say, to which clap answered this
-abbrev pub IsReadAs : Result ArgMatches Error → ℕ → Said → Type 0
+abbrev pub IsReadAs : Result ArgMatches Error → ℕ → ParsedArguments → Type 0
 IsReadAs (Ok matches) moment said = Says matches moment said
 IsReadAs (Err error) moment said = IsRefused error said

@@ -1,5 +1,5 @@
--- What the words of `annotate` and `amend` ask for (docs/REFERENCE.md). The first mistake is told: a word that names no
--- place comes before what is to be added or changed, and that before a glob that is none.
+-- What the words of `annotate` and `amend` ask for (docs/REFERENCE.md). The first mistake is reported: a word that
+-- names no place comes before what is to be added or changed, and that before a glob that is none.
 use Rattle.std.specs.Prelude.{ℕ, List, Option, None, Some, Result, Ok, codes, map}
 use Rattle.reuse_notice.specs.Adding.{Arguments, additions_of, refusal_of, without_spaces}
 use Rattle.reuse_notice.specs.declared.adding.Additions.{Additions}

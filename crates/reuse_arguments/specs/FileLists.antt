@@ -1,5 +1,6 @@
 -- Which paths a list of files names.
-use Rattle.std.specs.Prelude.{ℕ, ◌-◌, Bool, List, [], ◌∷◌, Option, None, Some, filter_map, length, nat_eq, ◌==◌, if◌then◌else◌, nat_le, take}
+use Rattle.std.specs.Prelude.{ℕ, ◌-◌, Bool, List, [], ◌∷◌, Option, None, Some, filter_map, length, nat_eq, ◌==◌}
+use Rattle.std.specs.Prelude.{if◌then◌else◌, nat_le, take}
 use Rattle.std.specs.List.{ends_with, list_any, slice_split}
 use Rattle.std.specs.Str.{is_utf8}
 use Rattle.reuse_notice.specs.Sets.{set_of}

@@ -6,7 +6,8 @@ use Rattle.reuse_header.specs.declared.style.Style.{Style}
 use Rattle.reuse_command.specs.declared.command.Place.{Place}
 use Rattle.reuse_arguments.specs.Found.{Rows, flag, number, number_of, value, values}
 use Rattle.reuse_arguments.specs.Globs.{globs_of_word}
-use Rattle.reuse_arguments.specs.LineFaults.{Mistake, bad_glob, bad_path, all_read, each_read, or_mistake, then_read, unread}
+use Rattle.reuse_arguments.specs.LineFaults.{Mistake, bad_glob, bad_path, all_read, each_read, or_mistake, then_read}
+use Rattle.reuse_arguments.specs.LineFaults.{unread}
 use Rattle.reuse_arguments.specs.Places.{place_of_word}
 use Rattle.reuse_command.specs.declared.request.Steps.{Steps}
 use Rattle.reuse_command.specs.declared.request.Steps.TheVariants as steps

@@ -1,5 +1,6 @@
 -- What clap found on a command line, by the names of options and arguments.
-use Rattle.std.specs.Prelude.{ℕ, Bool, false, List, [], Option, None, Some, is_some, unwrap_or, option_and_then, codes, if◌then◌else◌}
+use Rattle.std.specs.Prelude.{ℕ, Bool, false, List, [], Option, None, Some, is_some, unwrap_or, option_and_then, codes}
+use Rattle.std.specs.Prelude.{if◌then◌else◌}
 use Rattle.std.specs.Option.{option_map_or}
 use Rattle.std.specs.Str.{bytes_eq}
 use Rattle.std.specs.Str.Parse.{digits_value, without_leading_plus}

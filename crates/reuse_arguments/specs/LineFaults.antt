@@ -1,5 +1,6 @@
 -- Why words are no line, and how a reading ends with the first mistake (docs/REFERENCE.md).
-use Rattle.std.specs.Prelude.{◌≡◌, ◌≢◌, ℕ, List, [], ◌∷◌, ◌++◌, Option, None, Some, Result, Ok, Err, IfSome, codes, option_map, string_bytes}
+use Rattle.std.specs.Prelude.{◌≡◌, ◌≢◌, ℕ, List, [], ◌∷◌, ◌++◌, Option, None, Some, Result, Ok, Err, IfSome, codes}
+use Rattle.std.specs.Prelude.{option_map, string_bytes}
 use Rattle.clap.specs.declared.error.kind.ErrorKind.{ErrorKind}
 use Rattle.clap.specs.declared.error.kind.ErrorKind.TheVariants as kinds
 use Rattle.reuse_notice.specs.Adding.{Refusal}
@@ -57,18 +58,18 @@ all_read read (word ∷ words) =
 abbrev pub each_read : {A : Type 0} → (List ℕ → Result A Mistake) → List (List ℕ) → Result (List A) Mistake
 each_read read words = all_read (λ word. then_read (read word) (λ a. Ok (a ∷ []))) words
 
--- what is due was answered, as it is seen; an allocation failure may take its place
-abbrev pub IsDueAs : {A B : Type 0} → (A → B) → Result B Mistake → Result A LineFault → Type 0
-IsDueAs seen due (Ok a) = due ≡ Ok (seen a)
-IsDueAs seen due (Err fault) = IfSome (mistake_of fault) (λ mistake. due ≡ Err mistake)
+-- what is expected was answered, as it is seen; an allocation failure may take its place
+abbrev pub IsExpectedAs : {A B : Type 0} → (A → B) → Result B Mistake → Result A LineFault → Type 0
+IsExpectedAs seen expected (Ok a) = expected ≡ Ok (seen a)
+IsExpectedAs seen expected (Err fault) = IfSome (mistake_of fault) (λ mistake. expected ≡ Err mistake)
 
--- what is due was answered; an allocation failure may take its place
-abbrev pub IsDue : {A : Type 0} → Result A Mistake → Result A LineFault → Type 0
-IsDue due answer = IsDueAs (λ a. a) due answer
+-- what is expected was answered; an allocation failure may take its place
+abbrev pub IsExpected : {A : Type 0} → Result A Mistake → Result A LineFault → Type 0
+IsExpected expected answer = IsExpectedAs (λ a. a) expected answer
 
--- how clap's error is told: help and the version are no mistakes
-abbrev pub IsToldAs : ErrorKind → LineFault → Type 0
-IsToldAs kind (faults.Usage text) = (kind ≢ kinds.DisplayHelp) × (kind ≢ kinds.DisplayVersion)
-IsToldAs kind (faults.Help text) = ¬ ((kind ≢ kinds.DisplayHelp) × (kind ≢ kinds.DisplayVersion))
-IsToldAs kind faults.Memory = kind ≡ kinds.OutOfMemory
-IsToldAs kind fault = ⊥
+-- how clap's error is reported: help and the version are no mistakes
+abbrev pub IsReportedAs : ErrorKind → LineFault → Type 0
+IsReportedAs kind (faults.Usage text) = (kind ≢ kinds.DisplayHelp) × (kind ≢ kinds.DisplayVersion)
+IsReportedAs kind (faults.Help text) = ¬ ((kind ≢ kinds.DisplayHelp) × (kind ≢ kinds.DisplayVersion))
+IsReportedAs kind faults.Memory = kind ≡ kinds.OutOfMemory
+IsReportedAs kind fault = ⊥

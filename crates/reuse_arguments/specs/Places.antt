@@ -1,5 +1,6 @@
 -- Which place a word of the command line names.
-use Rattle.std.specs.Prelude.{ℕ, ◌-◌, Bool, not, List, [], ◌∷◌, Option, None, Some, filter, length, nat_eq, if◌then◌else◌, take, codes}
+use Rattle.std.specs.Prelude.{ℕ, ◌-◌, Bool, not, List, [], ◌∷◌, Option, None, Some, filter, length, nat_eq}
+use Rattle.std.specs.Prelude.{if◌then◌else◌, take, codes}
 use Rattle.std.specs.List.{ends_with, join_with_byte}
 use Rattle.std.specs.Str.{bytes_eq}
 use Rattle.reuse_change.specs.Path.{is_path}

@@ -2,7 +2,9 @@
 use Rattle.std.specs.Prelude.{ℕ, List, [], ◌∷◌, Option, find, codes}
 use Rattle.std.specs.Str.{bytes_eq}
 use Rattle.reuse_notice.specs.declared.prefixes.Prefix.{Prefix}
-use Rattle.reuse_notice.specs.declared.prefixes.Prefix.TheVariants.{Spdx, SpdxC, SpdxSymbol, SpdxString, SpdxStringC, SpdxStringSymbol, String, StringC, StringSymbol, Symbol}
+use Rattle.reuse_notice.specs.declared.prefixes.Prefix.TheVariants.{Spdx, SpdxC, SpdxSymbol, SpdxString, SpdxStringC}
+use Rattle.reuse_notice.specs.declared.prefixes.Prefix.TheVariants.{SpdxStringSymbol, String, StringC, StringSymbol}
+use Rattle.reuse_notice.specs.declared.prefixes.Prefix.TheVariants.{Symbol}
 
 -- the name of each prefix
 abbrev pub prefix_name : Prefix → List ℕ
@@ -19,7 +21,8 @@ prefix_name Symbol = codes "symbol"
 
 -- all prefixes
 unfoldable pub all_prefixes : List Prefix
-all_prefixes = Spdx ∷ SpdxC ∷ SpdxSymbol ∷ SpdxString ∷ SpdxStringC ∷ SpdxStringSymbol ∷ String ∷ StringC ∷ StringSymbol ∷ Symbol ∷ []
+all_prefixes = Spdx ∷ SpdxC ∷ SpdxSymbol ∷ SpdxString ∷ SpdxStringC ∷ SpdxStringSymbol ∷ String ∷ StringC
+    ∷ StringSymbol ∷ Symbol ∷ []
 
 -- the prefix that has the name
 abbrev pub prefix_named : List ℕ → Option Prefix

@@ -1,4 +1,4 @@
--- The texts that tell why words are no line (docs/RULES.md, "Refusals").
+-- The texts that say why words are no line (docs/RULES.md, "Refusals").
 use Rattle.std.specs.Prelude.{ℕ, List, ◌++◌, codes, string_bytes}
 use Rattle.reuse_notice.specs.RefusalTexts as notice
 use Rattle.reuse_arguments.specs.declared.line.LineFault.{LineFault}

@@ -1,6 +1,6 @@
 //! The command line that clap reads, made from the tables of options and subcommands.
 use crate::help::{ABOUT, AFTER};
-use crate::options::{Argument, BEFORE, Choice, Rule, Subcommand, Takes};
+use crate::options::{Argument, ArgumentKind, BEFORE, Choice, Constraint, Subcommand};
 use crate::prefix_name::prefix_names;
 use crate::subcommands::{HEADERS, HISTORY, STEPS};
 use clap::builder::ValueParser;
@@ -25,45 +25,45 @@ fn one_of<'a>(arg: Arg<'a>, names: &'static [&'static str]) -> Arg<'a> {
 }
 
 /// What takes this: the option of this long name, or words without an option.
-fn taking<'a>(arg: Arg<'a>, id: &'static str, takes: Takes) -> Arg<'a> {
-    match takes {
-        Takes::Nothing => arg.long(id).action(ArgAction::SetTrue),
-        Takes::Value(name) => arg.long(id).value_name(name).action(ArgAction::Set),
-        Takes::Values(name) => arg.long(id).value_name(name).action(ArgAction::Append),
-        Takes::Pairs(names) => arg
+fn taking<'a>(arg: Arg<'a>, id: &'static str, kind: ArgumentKind) -> Arg<'a> {
+    match kind {
+        ArgumentKind::Nothing => arg.long(id).action(ArgAction::SetTrue),
+        ArgumentKind::Value(name) => arg.long(id).value_name(name).action(ArgAction::Set),
+        ArgumentKind::Values(name) => arg.long(id).value_name(name).action(ArgAction::Append),
+        ArgumentKind::Pairs(names) => arg
             .long(id)
             .value_names(names)
             .num_args(2)
             .action(ArgAction::Append),
-        Takes::Style => one_of(arg.long(id), style_names()),
-        Takes::Prefix => one_of(arg.long(id), prefix_names()),
-        Takes::Words => arg.num_args(1..).action(ArgAction::Append),
-        Takes::Number => arg.value_parser(ValueParser::unsigned(0, MOST_NUMBER)),
-        Takes::Numbers => arg
+        ArgumentKind::Style => one_of(arg.long(id), style_names()),
+        ArgumentKind::Prefix => one_of(arg.long(id), prefix_names()),
+        ArgumentKind::Words => arg.num_args(1..).action(ArgAction::Append),
+        ArgumentKind::Number => arg.value_parser(ValueParser::unsigned(0, MOST_NUMBER)),
+        ArgumentKind::Numbers => arg
             .num_args(1..)
             .action(ArgAction::Append)
             .value_parser(ValueParser::unsigned(0, MOST_NUMBER)),
     }
 }
 
-fn ruled<'a>(arg: Arg<'a>, rule: Rule) -> Result<Arg<'a>, AllocError> {
-    match rule {
-        Rule::Free => Ok(arg),
-        Rule::Required => Ok(arg.required(true)),
-        Rule::RequiredUnless(other) => arg.required_unless_present(other),
-        Rule::Requires(other) => arg.requires_arg(other),
-        Rule::Excludes(other) => arg.conflicts_with(other),
-        Rule::Alias(name) => arg.visible_alias(name),
-        Rule::Global(order) => Ok(arg.global(true).display_order(order)),
+fn constrained<'a>(arg: Arg<'a>, constraint: Constraint) -> Result<Arg<'a>, AllocError> {
+    match constraint {
+        Constraint::Free => Ok(arg),
+        Constraint::Required => Ok(arg.required(true)),
+        Constraint::RequiredUnless(other) => arg.required_unless_present(other),
+        Constraint::Requires(other) => arg.requires_arg(other),
+        Constraint::Excludes(other) => arg.conflicts_with(other),
+        Constraint::Alias(name) => arg.visible_alias(name),
+        Constraint::Global(order) => Ok(arg.global(true).display_order(order)),
     }
 }
 
 fn arg_of<'a>(alloc: Global, argument: Argument) -> Result<Arg<'a>, AllocError> {
-    let Argument(id, short, takes, rule, help) = argument;
-    let arg = taking(Arg::new(alloc, id).help(help), id, takes);
+    let Argument(id, short, kind, constraint, help) = argument;
+    let arg = taking(Arg::new(alloc, id).help(help), id, kind);
     match short {
-        Some(letter) => ruled(arg.short(letter), rule),
-        None => ruled(arg, rule),
+        Some(letter) => constrained(arg.short(letter), constraint),
+        None => constrained(arg, constraint),
     }
 }
 

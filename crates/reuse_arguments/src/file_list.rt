@@ -4,7 +4,8 @@ ghost use Rattle.std.specs.Option.{option_map, option_to_list};
 ghost use Rattle.reuse_notice.specs.Sets.{set_of};
 ghost use Rattle.reuse_arguments.specs.LineFaults.{mistake_of, unreadable};
 ghost use Rattle.reuse_arguments.specs.ListedCommands.{IsWithList};
-ghost use Rattle.reuse_arguments.specs.FileLists.{has_nul, separator_of, path_of_word, path_listed, listed_paths, paths_within, without_return};
+ghost use Rattle.reuse_arguments.specs.FileLists.{has_nul, separator_of, path_of_word, path_listed, listed_paths};
+ghost use Rattle.reuse_arguments.specs.FileLists.{paths_within, without_return};
 
 use crate::line::{Line, LineFault};
 use crate::place_word::place_of_word;

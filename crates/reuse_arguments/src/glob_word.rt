@@ -12,7 +12,8 @@ use std::alloc::{AllocError, Global};
 /// end are dropped. A leading `**/` also stands for nothing, so such a word stands for two globs.
 /// There is none where the word is no path, as `/a`, `a//b`, `a/../b` and `.`, or spells no glob.
 pub fn globs_of_word(alloc: Global, word: &str) -> Result<Option<Vec<Glob>>, AllocError>
-    ensures { IfOk result (λ found. MatchOption found (globs_of_word word.now ≡ None) (λ globs. globs_of_word word.now ≡ Some globs.items)) }
+    ensures { IfOk result (λ found. MatchOption found (globs_of_word word.now ≡ None)
+        (λ globs. globs_of_word word.now ≡ Some globs.items)) }
 {
     match place_of_word(alloc, word)? {
         Some(Place::Path(path)) => read_globs(alloc, path.text()),
@@ -21,7 +22,8 @@ pub fn globs_of_word(alloc: Global, word: &str) -> Result<Option<Vec<Glob>>, All
 }
 
 fn read_globs(alloc: Global, text: &str) -> Result<Option<Vec<Glob>>, AllocError>
-    ensures { IfOk result (λ found. MatchOption found (read_globs (glob_texts text.now) ≡ None) (λ globs. read_globs (glob_texts text.now) ≡ Some globs.items)) }
+    ensures { IfOk result (λ found. MatchOption found (read_globs (glob_texts text.now) ≡ None)
+        (λ globs. read_globs (glob_texts text.now) ≡ Some globs.items)) }
 {
     let Some(glob) = Glob::read(alloc, text)? else {
         return Ok(None);

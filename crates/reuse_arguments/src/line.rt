@@ -5,7 +5,7 @@ ghost use Rattle.reuse_arguments.specs.declared.line.ChangeStatus.TheVariants as
 
 use reuse_command::request::Request;
 use reuse_notice::NoticeRefusal;
-use reuse_shown::shown_name::Names;
+use reuse_shown::shown_name::NameDisplay;
 use std::alloc::{AllocError, AllocFailed};
 use std::error::Error;
 use std::fmt;
@@ -27,7 +27,7 @@ pub struct PrintOptions {
     pub format: OutputFormat,
     /// How the names in lines are shown. JSON escapes their control bytes always, and a diff as git
     /// does.
-    pub names: Names,
+    pub names: NameDisplay,
 }
 
 /// The status of a call that changed a path, or that would change one and was only looked at.

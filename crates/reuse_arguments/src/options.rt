@@ -5,7 +5,7 @@ use crate::shared_options::{
 
 /// What a part of the command line takes.
 #[derive(Clone, Copy)]
-pub enum Takes {
+pub enum ArgumentKind {
     /// An option that takes nothing.
     Nothing,
     /// An option that takes one value, which the help calls so.
@@ -28,7 +28,7 @@ pub enum Takes {
 
 /// What else holds of a part of the command line.
 #[derive(Clone, Copy)]
-pub enum Rule {
+pub enum Constraint {
     /// Nothing.
     Free,
     /// It must be there.
@@ -51,8 +51,8 @@ pub enum Rule {
 pub struct Argument(
     pub &'static str,
     pub Option<char>,
-    pub Takes,
-    pub Rule,
+    pub ArgumentKind,
+    pub Constraint,
     pub &'static str,
 );
 
@@ -81,36 +81,36 @@ pub const BEFORE: &[Argument] = &[
     Argument(
         "root",
         None,
-        Takes::Value("DIR"),
-        Rule::Global(101),
+        ArgumentKind::Value("DIR"),
+        Constraint::Global(101),
         "Work on the source tree below DIR [default: .]",
     ),
     Argument(
         "verbose",
         Some('v'),
-        Takes::Nothing,
-        Rule::Global(102),
+        ArgumentKind::Nothing,
+        Constraint::Global(102),
         "Print notes on standard error, as on a terminal",
     ),
     Argument(
         "no-sync",
         None,
-        Takes::Nothing,
-        Rule::Global(103),
+        ArgumentKind::Nothing,
+        Constraint::Global(103),
         "Leave out all syncs: faster, but a loss of power can empty files",
     ),
     Argument(
         "allow-owner-change",
         None,
-        Takes::Nothing,
-        Rule::Global(104),
+        ArgumentKind::Nothing,
+        Constraint::Global(104),
         "Change files even if they can't keep owner and group",
     ),
     Argument(
         "trust-journal",
         None,
-        Takes::Nothing,
-        Rule::Global(105),
+        ArgumentKind::Nothing,
+        Constraint::Global(105),
         "Open the journal even if it belongs to another user",
     ),
 ];
@@ -118,8 +118,8 @@ pub const BEFORE: &[Argument] = &[
 const NUMBER: Argument = Argument(
     "NUMBER",
     None,
-    Takes::Number,
-    Rule::Required,
+    ArgumentKind::Number,
+    Constraint::Required,
     "The number of a step, as printed by log",
 );
 
@@ -127,85 +127,85 @@ pub const ANNOTATE: &[Argument] = &[
     Argument(
         "copyright",
         Some('c'),
-        Takes::Values("TEXT"),
-        Rule::Free,
+        ArgumentKind::Values("TEXT"),
+        Constraint::Free,
         "Add a copyright holder; may be repeated",
     ),
     Argument(
         "license",
         Some('l'),
-        Takes::Values("EXPR"),
-        Rule::Free,
+        ArgumentKind::Values("EXPR"),
+        Constraint::Free,
         "Add an SPDX licence expression; may be repeated",
     ),
     Argument(
         "contributor",
         None,
-        Takes::Values("TEXT"),
-        Rule::Free,
+        ArgumentKind::Values("TEXT"),
+        Constraint::Free,
         "Add a contributor; may be repeated",
     ),
     Argument(
         "year",
         Some('y'),
-        Takes::Values("YEAR"),
-        Rule::Free,
+        ArgumentKind::Values("YEAR"),
+        Constraint::Free,
         "Write YEAR; repeated, a range [default: the current year in UTC]",
     ),
     Argument(
         "exclude-year",
         None,
-        Takes::Nothing,
-        Rule::Free,
+        ArgumentKind::Nothing,
+        Constraint::Free,
         "Write no year; not with --year",
     ),
     Argument(
         "style",
         Some('s'),
-        Takes::Style,
-        Rule::Free,
+        ArgumentKind::Style,
+        Constraint::Free,
         "Write comments of this style, whatever the names of PATHs",
     ),
     Argument(
         "copyright-prefix",
         None,
-        Takes::Prefix,
-        Rule::Alias("copyright-style"),
+        ArgumentKind::Prefix,
+        Constraint::Alias("copyright-style"),
         "Begin notices this way [default: spdx]",
     ),
     Argument(
         "merge-copyrights",
         None,
-        Takes::Nothing,
-        Rule::Free,
+        ArgumentKind::Nothing,
+        Constraint::Free,
         "Write the notices of one holder as one, with a range of years",
     ),
     Argument(
         "single-line",
         None,
-        Takes::Nothing,
-        Rule::Free,
+        ArgumentKind::Nothing,
+        Constraint::Free,
         "Write single-line comments; not with --multi-line",
     ),
     Argument(
         "multi-line",
         None,
-        Takes::Nothing,
-        Rule::Free,
+        ArgumentKind::Nothing,
+        Constraint::Free,
         "Write multi-line comments; not with --single-line",
     ),
     Argument(
         "no-replace",
         None,
-        Takes::Nothing,
-        Rule::Free,
+        ArgumentKind::Nothing,
+        Constraint::Free,
         "Put a new header above the one that is there",
     ),
     Argument(
         "recursive",
         Some('r'),
-        Takes::Nothing,
-        Rule::Free,
+        ArgumentKind::Nothing,
+        Constraint::Free,
         "Annotate the files beneath folders",
     ),
     FILES_FROM,
@@ -213,29 +213,29 @@ pub const ANNOTATE: &[Argument] = &[
     Argument(
         "force-dot-license",
         None,
-        Takes::Nothing,
-        Rule::Free,
+        ArgumentKind::Nothing,
+        Constraint::Free,
         "Write PATH.license, whatever PATH is",
     ),
     Argument(
         "fallback-dot-license",
         None,
-        Takes::Nothing,
-        Rule::Free,
+        ArgumentKind::Nothing,
+        Constraint::Free,
         "Write PATH.license if PATH's style is unknown",
     ),
     Argument(
         "skip-unrecognised",
         None,
-        Takes::Nothing,
-        Rule::Free,
+        ArgumentKind::Nothing,
+        Constraint::Free,
         "Skip PATH if its style is unknown; not with --fallback-dot-license",
     ),
     Argument(
         "skip-existing",
         None,
-        Takes::Nothing,
-        Rule::Free,
+        ArgumentKind::Nothing,
+        Constraint::Free,
         "Skip PATH if the place to be written has licensing information",
     ),
     PATH,
@@ -250,15 +250,15 @@ pub const DOWNLOAD: &[Argument] = &[
     Argument(
         "texts",
         None,
-        Takes::Value("DIR"),
-        Rule::Required,
+        ArgumentKind::Value("DIR"),
+        Constraint::Required,
         "Take the text of ID from the file DIR/ID.txt",
     ),
     Argument(
         "ID",
         None,
-        Takes::Words,
-        Rule::Required,
+        ArgumentKind::Words,
+        Constraint::Required,
         "The identifier of a licence",
     ),
     DRY_RUN,
@@ -275,8 +275,8 @@ pub const REVERT: &[Argument] = &[
     Argument(
         "skip-moved",
         None,
-        Takes::Nothing,
-        Rule::Free,
+        ArgumentKind::Nothing,
+        Constraint::Free,
         "Leave a file as it is if the step can't be taken back there",
     ),
     NUMBER,
@@ -285,8 +285,8 @@ pub const REVERT: &[Argument] = &[
 pub const RECOVER: &[Argument] = &[Argument(
     "skip-moved",
     None,
-    Takes::Nothing,
-    Rule::Free,
+    ArgumentKind::Nothing,
+    Constraint::Free,
     "Leave a file as it is if it can't be rolled back",
 )];
 
@@ -294,15 +294,15 @@ pub const FORGET: &[Argument] = &[
     Argument(
         "all",
         None,
-        Takes::Nothing,
-        Rule::Excludes("NUMBER"),
+        ArgumentKind::Nothing,
+        Constraint::Excludes("NUMBER"),
         "Forget all steps; not with NUMBER",
     ),
     Argument(
         "NUMBER",
         None,
-        Takes::Numbers,
-        Rule::RequiredUnless("all"),
+        ArgumentKind::Numbers,
+        Constraint::RequiredUnless("all"),
         "The number of a step, as printed by log",
     ),
 ];
@@ -311,15 +311,15 @@ pub const SHOW: &[Argument] = &[
     Argument(
         "diff",
         None,
-        Takes::Nothing,
-        Rule::Excludes("json"),
+        ArgumentKind::Nothing,
+        Constraint::Excludes("json"),
         "Print the lines that the step took away and wrote; not with --json",
     ),
     Argument(
         "json",
         None,
-        Takes::Nothing,
-        Rule::Free,
+        ArgumentKind::Nothing,
+        Constraint::Free,
         "Print one JSON object; not with --diff",
     ),
     NUMBER,

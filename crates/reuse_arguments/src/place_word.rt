@@ -1,7 +1,8 @@
 //! The place that a word of the command line names.
 ghost use Rattle.std.specs.Prelude.{◌≡◌, ◌++◌, ◌∷◌, IfOk, OnOk, map, string_bytes, if◌then◌else◌};
 ghost use Rattle.std.specs.Option.{option_map};
-ghost use Rattle.reuse_arguments.specs.Places.{without_end_slash, parts_of, path_along, is_named, place_at, place_of_word};
+ghost use Rattle.reuse_arguments.specs.Places.{without_end_slash, parts_of, path_along, is_named, place_at};
+ghost use Rattle.reuse_arguments.specs.Places.{place_of_word};
 ghost use Rattle.reuse_system.specs.Names.{between_slashes};
 
 use reuse_change::{PathError, PathText};
@@ -69,7 +70,8 @@ fn is_named(part: &str) -> bool
 
 // Adds a part, after a slash unless it is the first.
 fn push_part(path: &mut String, is_first: bool, part: &str) -> Result<(), AllocError>
-    ensures { OnOk result (string_bytes path.new ≡ (if is_first then string_bytes path.old ++ part.now else string_bytes path.old ++ 47 ∷ part.now)) }
+    ensures { OnOk result (string_bytes path.new
+        ≡ (if is_first then string_bytes path.old ++ part.now else string_bytes path.old ++ 47 ∷ part.now)) }
 {
     if !is_first {
         path.push('/')?;

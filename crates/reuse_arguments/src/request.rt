@@ -1,6 +1,7 @@
 //! The request of a line, made whole: with the texts of a download, or a list of files.
 ghost use Rattle.std.specs.Prelude.{◌≡◌, if◌then◌else◌};
-ghost use Rattle.reuse_arguments.specs.Requests.{made_or_seen, with_texts, call_with_texts, command_with_texts, request_listed, call_listed, command_listed};
+ghost use Rattle.reuse_arguments.specs.Requests.{made_or_seen, with_texts, call_with_texts, command_with_texts};
+ghost use Rattle.reuse_arguments.specs.Requests.{request_listed, call_listed, command_listed};
 
 use reuse_change::Moment;
 use reuse_command::choice::PathList;

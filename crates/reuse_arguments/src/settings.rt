@@ -8,7 +8,7 @@ use reuse_system::syncs::Syncs;
 /// How a call works with the folder, by the options before the subcommand.
 #[derive(Clone, Copy)]
 pub struct Settings {
-    /// Whether what is written is made lasting.
+    /// Whether what is written is made durable.
     pub syncs: Syncs,
     /// Whether a file may be written anew that can't keep its owner.
     pub owner_change: OwnerChange,

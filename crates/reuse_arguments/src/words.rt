@@ -6,9 +6,10 @@ ghost use Rattle.clap.specs.declared.error.Error.{Error};
 ghost use Rattle.clap.specs.declared.parser.matches.ArgMatches.{ArgMatches};
 ghost use Rattle.std.specs.Option.{option_map};
 ghost use Rattle.reuse_arguments.specs.Asking.{asked_in};
-ghost use Rattle.reuse_arguments.specs.CommandLine.{IsReadAs, IsRefused, Says, call_read, download_of, line_read, no_line, request_read, subcommand_read, texts_read};
+ghost use Rattle.reuse_arguments.specs.CommandLine.{IsReadAs, IsRefused, Says, call_read, download_of, line_read};
+ghost use Rattle.reuse_arguments.specs.CommandLine.{no_line, request_read, subcommand_read, texts_read};
 ghost use Rattle.reuse_arguments.specs.Found.{found_in};
-ghost use Rattle.reuse_arguments.specs.LineFaults.{IsDue, IsDueAs, IsToldAs};
+ghost use Rattle.reuse_arguments.specs.LineFaults.{IsExpected, IsExpectedAs, IsReportedAs};
 
 mod amend_words;
 mod choices;
@@ -38,7 +39,7 @@ use unread_words::unread;
 
 /// What the words of a command line say.
 #[derive(Drop)]
-pub struct Said {
+pub struct ParsedArguments {
     /// Whether notes are asked for.
     pub verbose: bool,
     /// What is asked for of all calls alike.
@@ -48,12 +49,12 @@ pub struct Said {
     pub line: Result<Line, LineFault>,
 }
 
-impl Said {
+impl ParsedArguments {
     /// Words that are no line.
-    pub fn fault(fault: LineFault) -> Said
+    pub fn fault(fault: LineFault) -> ParsedArguments
         ensures { result ≡ no_line fault }
     {
-        Said {
+        ParsedArguments {
             verbose: false,
             settings: Settings::usual(),
             files_from: None,
@@ -72,8 +73,9 @@ pub fn words_to_command<F: Finder>(
     alloc: Global,
     words: &[String],
     moment: Moment,
-) -> Said
-    ensures { (found : Result ArgMatches Error) × F.answers finder.now (map string_bytes words.now) found × IsReadAs found moment result }
+) -> ParsedArguments
+    ensures { (found : Result ArgMatches Error) × F.answers finder.now (map string_bytes words.now) found
+        × IsReadAs found moment result }
 {
     match finder.find(alloc, words) {
         Ok(matches) => said_in(alloc, &matches, moment),
@@ -82,32 +84,32 @@ pub fn words_to_command<F: Finder>(
 }
 
 /// What the words say, of which clap found this.
-fn said_in(alloc: Global, matches: &ArgMatches<'_>, moment: Moment) -> Said
+fn said_in(alloc: Global, matches: &ArgMatches<'_>, moment: Moment) -> ParsedArguments
     ensures { Says matches.now moment result }
 {
     match read_files_from(alloc, matches) {
-        Ok(files_from) => Said {
+        Ok(files_from) => ParsedArguments {
             verbose: flag(matches, "verbose"),
             settings: read_settings(matches),
             files_from,
             line: read_line(alloc, matches, moment, year_of(moment)),
         },
-        Err(error) => Said::fault(LineFault::from(error)),
+        Err(error) => ParsedArguments::fault(LineFault::from(error)),
     }
 }
 
 /// Words that clap refuses with this error.
-fn refused(alloc: Global, error: &Error) -> Said
+fn refused(alloc: Global, error: &Error) -> ParsedArguments
     ensures { IsRefused error.now result }
 {
     match fault_of(alloc, error) {
-        Ok(fault) => Said::fault(fault),
-        Err(error) => Said::fault(LineFault::from(error)),
+        Ok(fault) => ParsedArguments::fault(fault),
+        Err(error) => ParsedArguments::fault(LineFault::from(error)),
     }
 }
 
 fn fault_of(alloc: Global, error: &Error) -> Result<LineFault, AllocError>
-    ensures { IfOk result (IsToldAs (kind_of error.now)) }
+    ensures { IfOk result (IsReportedAs (kind_of error.now)) }
 {
     if error.kind() == ErrorKind::OutOfMemory {
         return Ok(LineFault::Memory);
@@ -127,7 +129,7 @@ fn read_line(
     year: u16,
 ) -> Result<Line, LineFault>
     requires { year ≤ 9999 }
-    ensures { IsDueAs asked_in
+    ensures { IsExpectedAs asked_in
         (line_read (found_in matches.now) (subcommand_rows_of matches.now) moment year) result }
 {
     let root = read_root(alloc, matches)?;
@@ -147,7 +149,8 @@ fn read_subcommand(
     year: u16,
 ) -> Result<Line, LineFault>
     requires { year ≤ 9999 }
-    ensures { IsDueAs asked_in (subcommand_read (string_bytes root) name.now (found_in matches.now) moment year) result }
+    ensures { IsExpectedAs asked_in
+        (subcommand_read (string_bytes root) name.now (found_in matches.now) moment year) result }
 {
     let request = read_request(alloc, name, matches, moment, year)?;
     Ok(Line {
@@ -168,7 +171,7 @@ fn read_request(
     year: u16,
 ) -> Result<Request, LineFault>
     requires { year ≤ 9999 }
-    ensures { IsDue (request_read name.now (found_in matches.now) moment year) result }
+    ensures { IsExpected (request_read name.now (found_in matches.now) moment year) result }
 {
     match name {
         "log" => Ok(Request::Log),
@@ -191,7 +194,7 @@ fn read_call(
     year: u16,
 ) -> Result<Call, LineFault>
     requires { year ≤ 9999 }
-    ensures { IsDue (call_read name.now (found_in matches.now) year) result }
+    ensures { IsExpected (call_read name.now (found_in matches.now) year) result }
 {
     match name {
         "annotate" => Ok(Call::Run(read_annotate(alloc, matches, year)?)),
@@ -226,7 +229,7 @@ fn read_texts_folder(
     name: &str,
     matches: &ArgMatches<'_>,
 ) -> Result<Option<String>, LineFault>
-    ensures { IsDueAs (option_map string_bytes) (texts_read name.now (found_in matches.now)) result }
+    ensures { IsExpectedAs (option_map string_bytes) (texts_read name.now (found_in matches.now)) result }
 {
     match name {
         "download" => Ok(Some(read_texts(alloc, matches)?)),

@@ -28,7 +28,7 @@ use Rattle.reuse_change.specs.Entry.{touches, paths_of, IsEntry, AppliesBy, Lead
 use Rattle.reuse_change.specs.Entry.{CanBeMade, IsFirstWithout, IsFirstStuck, makes}
 use Rattle.reuse_change.proofs.Differ.{touching}
 
--- an order that answers Less tells two paths apart
+-- an order that answers Less distinguishes two paths
 less_differs : (p q : List ℕ) → slice_cmp nat_cmp p q ≡ Less → q ≡ p → ⊥
 less_differs p q less same =
     let e : Equal ≡ Less = sym (tied_itself nat_list_cmp_total p) ∙ ap (slice_cmp nat_cmp p) (sym same) ∙ less in

@@ -4,7 +4,7 @@ ghost use Rattle.reuse_text.specs.Text.{spliced};
 ghost use Rattle.sha2.specs.Sha256.{sha256};
 ghost use Rattle.reuse_change.specs.Parts.{joined};
 
-use crate::Parts;
+use crate::Pieces;
 use sha2::{Digest as _, Sha256};
 use std::marker::Model;
 
@@ -33,7 +33,7 @@ impl Digest {
     }
 
     /// The SHA-256 of these parts joined. It copies none of them.
-    pub fn of_parts(parts: Parts) -> Digest
+    pub fn of_parts(parts: Pieces) -> Digest
         ensures { result ≡ sha256 (joined parts.entry) }
     {
         let mut hasher = Sha256::new();
@@ -92,7 +92,7 @@ impl Seal {
     {
         Seal {
             before: Digest::of(file),
-            after: Digest::of_parts(Parts::spliced(file, at, old_len, new)),
+            after: Digest::of_parts(Pieces::spliced(file, at, old_len, new)),
         }
     }
 

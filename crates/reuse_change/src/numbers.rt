@@ -1,5 +1,5 @@
 //! Numbers of entries.
-use crate::items::Items;
+use crate::fixed_list::FixedList;
 
 /// Numbers of entries, in order.
-pub type EntryNumbers = Items<u32>;
+pub type EntryNumbers = FixedList<u32>;

@@ -9,7 +9,7 @@ use std::alloc::{AllocError, Global};
 
 /// A file's bytes in three parts, which follow on each other.
 #[derive(Clone, Copy)]
-pub struct Parts<'a> {
+pub struct Pieces<'a> {
     /// The bytes before the middle.
     pub front: &'a [u8],
     /// The bytes between.
@@ -18,12 +18,12 @@ pub struct Parts<'a> {
     pub back: &'a [u8],
 }
 
-impl<'a> Parts<'a> {
+impl<'a> Pieces<'a> {
     /// These bytes alone.
-    pub fn whole(bytes: &'a [u8]) -> Parts<'a>
+    pub fn whole(bytes: &'a [u8]) -> Pieces<'a>
         ensures { joined result ≡ bytes.now }
     {
-        Parts {
+        Pieces {
             front: bytes,
             middle: b"",
             back: b"",
@@ -31,10 +31,10 @@ impl<'a> Parts<'a> {
     }
 
     /// The file with new bytes in place of so many from `at` on.
-    pub fn spliced(file: &'a [u8], at: usize, old_len: usize, new: &'a [u8]) -> Parts<'a>
+    pub fn spliced(file: &'a [u8], at: usize, old_len: usize, new: &'a [u8]) -> Pieces<'a>
         ensures { joined result ≡ spliced file.now at old_len new.now }
     {
-        Parts {
+        Pieces {
             front: &file[..at.min(file.len())],
             middle: new,
             back: &file[at.saturating_add(old_len).min(file.len())..],

@@ -1,4 +1,4 @@
--- What kind of refusal an answer tells, and when each may be told.
+-- What kind of refusal an answer reports, and when each may be reported.
 use Rattle.std.specs.Prelude.{◌≡◌, ◌≢◌, ℕ, ◌<◌, Bool, false, List, [], ◌∷◌, None, Result, Ok, Err}
 use Rattle.reuse_store.specs.declared.store.Store.{Ghosts}
 use Rattle.reuse_command.specs.declared.reply.Recovered.{Recovered}
@@ -7,7 +7,8 @@ use Rattle.reuse_command.specs.declared.reply.Response.TheVariants.{Changed, Not
 use Rattle.reuse_command.specs.declared.failure.Failure.TheVariants.{Interrupted, Fault, Memory}
 use Rattle.reuse_command.specs.declared.failure.Fault.TheVariants as faults
 use Rattle.reuse_command.specs.declared.reply.Refusal.{Refusal}
-use Rattle.reuse_command.specs.declared.reply.Refusal.TheVariants.{Broken, JournalFull, NothingToUndo, NothingToRedo, NoSuchStep, Moved, BadJournal, Failed}
+use Rattle.reuse_command.specs.declared.reply.Refusal.TheVariants.{Broken, JournalFull, NothingToUndo, NothingToRedo}
+use Rattle.reuse_command.specs.declared.reply.Refusal.TheVariants.{NoSuchStep, Moved, BadJournal, Failed}
 use Rattle.reuse_store.specs.declared.cause.Cause.{Cause}
 use Rattle.reuse_store.specs.declared.cause.Cause.TheVariants as causes
 use Rattle.reuse_json.specs.declared.fault.DecodeFault.{DecodeFault}
@@ -21,9 +22,9 @@ IsFailure (Failed failure) = Unit {0}
 IsFailure refusal = ⊥
 
 -- the refusal is no failure
-abbrev pub IsTold : Refusal → Type 0
-IsTold (Failed failure) = ⊥
-IsTold refusal = Unit {0}
+abbrev pub IsNoFailure : Refusal → Type 0
+IsNoFailure (Failed failure) = ⊥
+IsNoFailure refusal = Unit {0}
 
 -- it failed before a step was pending
 abbrev pub IsEarlyFailure : Refusal → Type 0
@@ -42,9 +43,9 @@ IsEarly (Failed (Interrupted cause)) = ⊥
 IsEarly refusal = Unit {0}
 
 -- the answer is no failure
-abbrev pub TellsNoFault : {A : Type 0} → Result A Refusal → Type 0
-TellsNoFault (Err (Failed failure)) = ⊥
-TellsNoFault answer = Unit {0}
+abbrev pub DidNotFail : {A : Type 0} → Result A Refusal → Type 0
+DidNotFail (Err (Failed failure)) = ⊥
+DidNotFail answer = Unit {0}
 
 -- memory didn't run out
 abbrev pub IsNoWantOfMemory : {A : Type 0} → Result A Refusal → Type 0
@@ -52,26 +53,26 @@ IsNoWantOfMemory (Err (Failed Memory)) = ⊥
 IsNoWantOfMemory (Err (Failed (Interrupted causes.Memory))) = ⊥
 IsNoWantOfMemory answer = Unit {0}
 
--- where a device fault is told, the store's failures rose
+-- where a device fault is reported, the store's failures rose
 abbrev pub HasCause : Type 0 → Refusal → Type 0
 HasCause rose (Failed (Fault faults.Device)) = rose
 HasCause rose (Failed (Interrupted causes.Device)) = rose
 HasCause rose refusal = Unit {0}
 
--- a clash that is told is that of the path that is put: of the entry before the step is pending, and of the head from
--- then on; and no stop tells that a file has changed since it was read
+-- a clash that is reported is that of the path that is put: of the entry before the step is pending, and of the head
+-- from then on; and no stop reports that a file has changed since it was read
 abbrev pub HasClash : (entry head : Type 0) → Refusal → Type 0
 HasClash entry head (Failed (Fault faults.Clash)) = entry
 HasClash entry head (Failed (Interrupted causes.Clash)) = head
 HasClash entry head (Failed (Interrupted causes.Moved)) = ⊥
 HasClash entry head refusal = Unit {0}
 
--- no clash is told, nor that a file has changed since it was read
+-- no clash is reported, nor that a file has changed since it was read
 abbrev pub IsNoClash : Refusal → Type 0
 IsNoClash refusal = HasClash ⊥ ⊥ refusal
 
--- how what was asked of a store by readings alone fails: a device fault is told where the device failed, and an honest
--- store tells no clash
+-- how what was asked of a store by readings alone fails: a device fault is reported where the device failed, and an
+-- honest store reports no clash
 pub record RefusedAsRead {S A : Type 0} (store : Ghosts S) (old new : S) (answer : Result A Refusal) : Type 0 where
   pub device : answer ≡ Err (Failed (Fault faults.Device)) → store.failures old < store.failures new
   pub clash : store.honest new → answer ≢ Err (Failed (Fault faults.Clash))
@@ -86,7 +87,7 @@ nothing_recovered = record { number = None; changed = []; skipped = [] }
 abbrev pub IsNoStep : Result Response Refusal → Type 0
 IsNoStep (Ok NothingChanged) = Unit {0}
 IsNoStep (Ok reply) = ⊥
-IsNoStep (Err refusal) = TellsNoFault {A = Response} (Err refusal)
+IsNoStep (Err refusal) = DidNotFail {A = Response} (Err refusal)
 
 -- the refusals that planning a command can give
 abbrev pub IsOfPlan : Refusal → Type 0
@@ -130,13 +131,13 @@ abbrev pub IsRollBackRefusal : Refusal → Type 0
 IsRollBackRefusal (Moved path) = Unit {0}
 IsRollBackRefusal refusal = IsFailure refusal
 
--- what rolling back tells of a cause: once a put or a removal has started it stops, and before that the call fails
--- early; a file that has changed since it was read is told as a stop
-abbrev pub told_of : Bool → Cause → Refusal
-told_of false causes.Device = Failed (Fault faults.Device)
-told_of false causes.Clash = Failed (Fault faults.Clash)
-told_of false causes.Memory = Failed Memory
-told_of started cause = Failed (Interrupted cause)
+-- what rolling back reports of a cause: once a put or a removal has started it stops, and before that the call fails
+-- early; a file that has changed since it was read is reported as a stop
+abbrev pub reported_of : Bool → Cause → Refusal
+reported_of false causes.Device = Failed (Fault faults.Device)
+reported_of false causes.Clash = Failed (Fault faults.Clash)
+reported_of false causes.Memory = Failed Memory
+reported_of started cause = Failed (Interrupted cause)
 
 -- the refusals of opening, and of a step of an entry that is listed
 abbrev pub IsOpenRefusal : Refusal → Type 0

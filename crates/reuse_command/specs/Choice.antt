@@ -38,7 +38,7 @@ leaves_out glob path = list_any (λ place. matches_glob glob (chars place)) (pat
 abbrev pub matches_one : List (List GlobPiece) → List ℕ → Bool
 matches_one globs path = list_any (λ glob. leaves_out glob path) globs
 
--- the file is worked where it stands beneath a folder: it is covered, it is listed, where there is a list, and no glob
--- that is excluded matches it or a folder above it
+-- the file is selected where it stands beneath a folder: it is covered, it is listed, where there is a list, and no
+-- glob that is excluded matches it or a folder above it
 abbrev pub is_chosen : Scope → List ℕ → Bool
 is_chosen scope path = is_covered path && is_listed scope.listed path && not (matches_one scope.excluded path)

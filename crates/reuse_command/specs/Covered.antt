@@ -19,12 +19,14 @@ is_outside path = is_in (codes "LICENSES") path || is_in (codes ".reuse") path |
 -- a name that is the stem alone, or goes on by `.` or `-`
 abbrev pub has_stem : List ℕ → List ℕ → Bool
 has_stem stem name =
-    starts_with nat_eq name stem && (length name == length stem || slice_index name (length stem) == 46 || slice_index name (length stem) == 45)
+    starts_with nat_eq name stem
+    && (length name == length stem || slice_index name (length stem) == 46 || slice_index name (length stem) == 45)
 
 -- a name of a file that holds licensing information, or a licence
 abbrev pub is_outer_name : List ℕ → Bool
 is_outer_name name =
-    ends_with nat_eq name (codes ".license") || ends_with nat_eq name (codes ".spdx") || bytes_eq name (codes "REUSE.toml")
+    ends_with nat_eq name (codes ".license") || ends_with nat_eq name (codes ".spdx") || bytes_eq name
+    (codes "REUSE.toml")
     || has_stem (codes "LICENSE") name || has_stem (codes "LICENCE") name || has_stem (codes "COPYING") name
 
 -- neither in such a folder nor of such a name

@@ -8,7 +8,7 @@ pub use Rattle.reuse_change.specs.Files.{Files, tree_of}
 pub use Rattle.reuse_store.specs.Store.{reading_of}
 pub use Rattle.reuse_command.specs.Answer.{IsOfPlan, RefusedAsRead}
 
--- the store is read alone, and a refusal is one of these and tells of a fault as a reading does
+-- the store is read alone, and a refusal is one of these and reports a fault as a reading does
 pub record ReadsAlone {S A : Type 0} (store : Ghosts S) (MayBe : Refusal
     → Type 0) (old new : S) (answer : Result A Refusal) : Type 0 where
   pub reads : OnlyReads store old new

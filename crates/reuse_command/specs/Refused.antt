@@ -13,10 +13,10 @@ IsNoFault (Moved path) = ⊥
 IsNoFault (Failed (Fault fault)) = ⊥
 IsNoFault refusal = IsOfPlan refusal
 
--- a refusal is the one that is due, unless memory ran out
+-- a refusal is the one that is expected, unless memory ran out
 abbrev pub IsRefused : Option Refusal → Refusal → Type 0
-IsRefused due (Failed Memory) = Unit {0}
-IsRefused due refusal = due ≡ Some refusal
+IsRefused expected (Failed Memory) = Unit {0}
+IsRefused expected refusal = expected ≡ Some refusal
 
 -- a refusal of the dep5 as one of the command
 abbrev pub dep5_refusal : Dep5Refusal → Refusal

@@ -8,7 +8,7 @@ ghost use Rattle.reuse_command.specs.Choice.{leaves_out, matches_folder, matches
 ghost use Rattle.reuse_change.specs.Path.{folders_above};
 ghost use Rattle.reuse_change.specs.Listing.{is_among, is_folder_of};
 
-use reuse_change::{Items, PathText, is_among};
+use reuse_change::{FixedList, PathText, is_among};
 use reuse_toml::{Glob, glob_matches};
 use std::marker::Model;
 
@@ -79,7 +79,7 @@ pub fn has_one_under(paths: &[PathText], folder: &str) -> bool
 }
 
 /// Globs, each as in a `path` of a `REUSE.toml`.
-pub type Globs = Items<Glob>;
+pub type Globs = FixedList<Glob>;
 
 // Whether one of the globs matches the path, or that of a folder above it.
 pub fn matches_one(globs: &Globs, path: &PathText) -> bool

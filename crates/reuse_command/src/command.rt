@@ -4,7 +4,7 @@ ghost use Rattle.std.specs.Prelude.{◌≡◌, IfOk};
 use crate::choice::{Globs, PathList};
 use crate::licence::{Ids, LicenceTexts};
 use reuse_amend::Amendments;
-use reuse_change::{CommandName, Items, PathText};
+use reuse_change::{CommandName, FixedList, PathText};
 use reuse_header::{How, Style};
 use reuse_json::EntryChanges;
 use reuse_notice::Additions;
@@ -44,7 +44,7 @@ impl Place {
 }
 
 /// Places, in any order.
-pub type Places = Items<Place>;
+pub type Places = FixedList<Place>;
 
 /// What annotate does with a text file whose name has no style.
 #[derive(Clone, Copy, Debug, PartialEq, Eq)]

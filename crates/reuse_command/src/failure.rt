@@ -6,7 +6,7 @@ use reuse_store::Cause;
 use std::error::Error;
 use std::fmt;
 
-/// How the store failed. Want of memory is no fault of it.
+/// How the store failed. An allocation failure is no fault of it.
 #[derive(Clone, Copy, Debug, PartialEq, Eq)]
 pub enum Fault {
     /// The device failed.

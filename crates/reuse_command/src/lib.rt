@@ -1,5 +1,5 @@
 //! The values that go into a session and come out of it: commands, requests, replies, refusals and
-//! what is told of each path.
+//! what is reported of each path.
 //!
 //! A refusal that is a failure, since the store or memory is to blame, is one by type. Planning,
 //! the journal and sessions stand on this crate, and callers outside get its types from

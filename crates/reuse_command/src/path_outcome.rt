@@ -1,10 +1,10 @@
 //! What a call would do, path by path.
 ghost use Rattle.std.specs.Prelude.{◌≡◌, IfOk, IfErr};
 ghost use Rattle.reuse_command.specs.Answer.{IsFailure};
-ghost use Rattle.reuse_command.specs.Answer.{IsTold};
+ghost use Rattle.reuse_command.specs.Answer.{IsNoFailure};
 
 use crate::reply::Refusal;
-use reuse_change::{Items, PathText};
+use reuse_change::{FixedList, PathText};
 use reuse_json::Changes;
 
 /// What a call would do at a path.
@@ -21,7 +21,7 @@ pub enum PathOutcome {
 }
 
 /// The outcomes of the paths that a call goes through, in their order.
-pub type PathOutcomes = Items<PathOutcome>;
+pub type PathOutcomes = FixedList<PathOutcome>;
 
 /// What a call would do, and the changes that this comes of: both are of one plan.
 #[derive(Debug, Drop)]
@@ -33,8 +33,8 @@ pub struct Previewed {
 }
 
 /// The refusal, unless it is a failure.
-pub fn told(refusal: Refusal) -> Result<Refusal, Refusal>
-    ensures told { IfOk result (λ told. (told ≡ refusal) × IsTold told) }
+pub fn unless_failure(refusal: Refusal) -> Result<Refusal, Refusal>
+    ensures reported { IfOk result (λ reported. (reported ≡ refusal) × IsNoFailure reported) }
     ensures failed { IfErr result (λ failed. (failed ≡ refusal) × IsFailure failed) }
 {
     match refusal {

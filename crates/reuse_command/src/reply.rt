@@ -10,7 +10,7 @@ use crate::command::Place;
 use crate::failure::{Failure, Fault};
 use crate::header_fault::HeaderFault;
 use crate::path_outcome::PathOutcomes;
-use reuse_change::{CommandName, EntryNumbers, Items, Moment, PathText};
+use reuse_change::{CommandName, EntryNumbers, FixedList, Moment, PathText};
 use reuse_dep5::Dep5Refusal;
 use reuse_header::StylesRefusal;
 use reuse_json::EntryChanges;
@@ -21,7 +21,7 @@ use std::error::Error;
 use std::fmt;
 
 /// Paths, in byte order.
-pub type Paths = Items<PathText>;
+pub type Paths = FixedList<PathText>;
 
 /// A row of the log.
 #[derive(Clone, Copy, Debug)]
@@ -40,7 +40,7 @@ pub struct Row {
 
 /// The rows of a log: the entries done, the oldest first, then those undone, the next to be redone
 /// first.
-pub type Rows = Items<Row>;
+pub type Rows = FixedList<Row>;
 
 /// A step that the journal lists, with what it changed.
 #[derive(Debug, Drop)]

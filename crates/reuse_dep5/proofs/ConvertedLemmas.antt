@@ -88,7 +88,7 @@ text_given dep5 text is =
 
 -- ---- the refusal of a dep5
 
--- a refusal to write that isn't want of memory
+-- a refusal to write that isn't an allocation failure
 abbrev IsStatedRefusal : Dep5Value → Dep5Refusal → Type 0
 IsStatedRefusal dep5 e = IsTomlRefusal dep5 e × (e ≢ refusal.Memory)
 

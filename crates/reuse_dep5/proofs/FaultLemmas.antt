@@ -219,14 +219,14 @@ text_accepted bytes = (
           | inr none ↦ (let f = sym (dep5_not_utf8 bytes none) ∙ e in cc)
         ]
 
-fault_told : (bytes : List ℕ) (e : Dep5Refusal) → IsTextFault bytes e → dep5_of bytes ≡ Err e
-fault_told bytes NotUtf8 m = dep5_not_utf8 bytes m
-fault_told bytes (BadDep5 number cause) m =
+fault_reported : (bytes : List ℕ) (e : Dep5Refusal) → IsTextFault bytes e → dep5_of bytes ≡ Err e
+fault_reported bytes NotUtf8 m = dep5_not_utf8 bytes m
+fault_reported bytes (BadDep5 number cause) m =
     sym (read_text bytes m.0) ∙ found (paragraphs (dep5_lines bytes)) number cause m.1
-fault_told bytes _ m = absurd m
+fault_reported bytes _ m = absurd m
 
-told_fault : (bytes : List ℕ) (e : Dep5Refusal) → dep5_of bytes ≡ Err e → IsTextFault bytes e
-told_fault bytes e is =
+reported_fault : (bytes : List ℕ) (e : Dep5Refusal) → dep5_of bytes ≡ Err e → IsTextFault bytes e
+reported_fault bytes e is =
     elim (text_or_none bytes) [
       | inl utf8 ↦ (
           let r = refused (paragraphs (dep5_lines bytes)) e (read_text bytes utf8 ∙ is) in
@@ -237,18 +237,18 @@ told_fault bytes e is =
     ]
 
 pub text_refused : (bytes : List ℕ) (e : Dep5Refusal) → (dep5_of bytes ≡ Err e) ↔ IsTextFault bytes e
-text_refused bytes e = (told_fault bytes e, fault_told bytes e)
+text_refused bytes e = (reported_fault bytes e, fault_reported bytes e)
 
 pub text_answered : (bytes : List ℕ) → IsDep5Text bytes ⊎ ((e : Dep5Refusal) × IsTextFault bytes e)
 text_answered bytes =
     elim (ok_or_err (dep5_of bytes)) [
       | inl m ↦ inl ((text_accepted bytes).0 m)
-      | inr m ↦ inr (m.0, told_fault bytes m.0 m.1)
+      | inr m ↦ inr (m.0, reported_fault bytes m.0 m.1)
     ]
 
 pub text_either : (bytes : List ℕ) (e : Dep5Refusal) → IsTextFault bytes e → ¬ IsDep5Text bytes
 text_either bytes e fault good = let m = (text_accepted bytes).1 good in
-    let f = sym m.1 ∙ fault_told bytes e fault in cc
+    let f = sym m.1 ∙ fault_reported bytes e fault in cc
 
 pub text_one : (bytes : List ℕ) (e other : Dep5Refusal) → IsTextFault bytes e → IsTextFault bytes other → e ≡ other
-text_one bytes e other a b = let f = sym (fault_told bytes e a) ∙ fault_told bytes other b in cc
+text_one bytes e other a b = let f = sym (fault_reported bytes e a) ∙ fault_reported bytes other b in cc

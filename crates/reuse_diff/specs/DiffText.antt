@@ -1,5 +1,6 @@
 -- The text of the diff of a file, as git writes and reads it.
-use Rattle.std.specs.Prelude.{◌≡◌, ◌≢◌, ℕ, ◌+◌, ◌/◌, ◌%◌, Bool, true, false, not, ◌&&◌, ◌||◌, ◌==◌, nat_le, List, [], ◌∷◌, ◌++◌, Option, None, Some, is_none, if◌then◌else◌, codes, MatchBool, unwrap_or}
+use Rattle.std.specs.Prelude.{◌≡◌, ◌≢◌, ℕ, ◌+◌, ◌/◌, ◌%◌, Bool, true, false, not, ◌&&◌, ◌||◌, ◌==◌, nat_le, List, []}
+use Rattle.std.specs.Prelude.{◌∷◌, ◌++◌, Option, None, Some, is_none, if◌then◌else◌, codes, MatchBool, unwrap_or}
 use Rattle.std.specs.Fmt.{decimal}
 use Rattle.std.specs.List.{flat_map, list_any}
 use Rattle.std.specs.Str.{bytes_eq}
@@ -31,8 +32,10 @@ part_after (Splice path at old new rest seal) = Some new
 -- the letter that stands for a byte behind a backslash, if one does
 abbrev pub escape_letter : ℕ → Option ℕ
 escape_letter byte =
-    if byte == 34 then Some 34 else if byte == 92 then Some 92 else if byte == 7 then Some 97 else if byte == 8 then Some 98 else if byte == 9 then Some 116
-    else if byte == 10 then Some 110 else if byte == 11 then Some 118 else if byte == 12 then Some 102 else if byte == 13 then Some 114 else None
+    if byte == 34 then Some 34 else if byte == 92 then Some 92 else if byte == 7 then Some 97 else if byte == 8
+    then Some 98 else if byte == 9 then Some 116
+    else if byte == 10 then Some 110 else if byte == 11 then Some 118 else if byte == 12 then Some 102
+    else if byte == 13 then Some 114 else None
 
 -- from a space to a tilde
 abbrev pub is_printable : ℕ → Bool
@@ -68,7 +71,8 @@ name_text side path =
 -- the mode of a file that is made or removed
 abbrev pub mode_text : Option (List ℕ) → Option (List ℕ) → List ℕ
 mode_text before after =
-    (if is_none before then codes "new file mode 100644\n" else []) ++ (if is_none after then codes "deleted file mode 100644\n" else [])
+    (if is_none before then codes "new file mode 100644\n" else []) ++ (if is_none after
+    then codes "deleted file mode 100644\n" else [])
 
 abbrev pub both_text : List ℕ → List ℕ
 both_text path = name_text (codes "a/") path ++ codes " " ++ name_text (codes "b/") path
@@ -91,7 +95,8 @@ end_text path (Some file) =
 
 abbrev pub names_text : List ℕ → Option (List ℕ) → Option (List ℕ) → List ℕ
 names_text path before after =
-    codes "--- " ++ side_text (codes "a/") path before ++ end_text path before ++ codes "+++ " ++ side_text (codes "b/") path after ++ end_text path after
+    codes "--- " ++ side_text (codes "a/") path before ++ end_text path before ++ codes "+++ " ++ side_text
+    (codes "b/") path after ++ end_text path after
 
 abbrev pub old_binary_text : List ℕ → Option (List ℕ) → List ℕ
 old_binary_text path before = codes "Binary files " ++ side_text (codes "a/") path before

@@ -1,5 +1,6 @@
 -- The hunk of a unified diff: the lines that two files have in common, that go, and that come.
-use Rattle.std.specs.Prelude.{◌≡◌, ◌≢◌, ◌<◌, ◌≤◌, ◌++◌, ◌+◌, ◌==◌, nat_eq, if◌then◌else◌, codes, ℕ, Bool, true, false, List, [], ◌∷◌, length, drop, map, reverse, All}
+use Rattle.std.specs.Prelude.{◌≡◌, ◌≢◌, ◌<◌, ◌≤◌, ◌++◌, ◌+◌, ◌==◌, nat_eq, if◌then◌else◌, codes, ℕ, Bool, true, false}
+use Rattle.std.specs.Prelude.{List, [], ◌∷◌, length, drop, map, reverse, All}
 use Rattle.std.specs.Borrow.{Bor}
 use Rattle.std.specs.List.{prefix_len, suffix_len, common_prefix_len, flat_map, ends_with}
 use Rattle.std.specs.Str.{bytes_eq}
@@ -63,7 +64,8 @@ pub record AreCommon (old new : List (List ℕ)) (first last : ℕ) : Type 0 whe
 -- all lines that both begin with and end with are kept
 abbrev pub KeepsEnds : List Piece → Type 0
 KeepsEnds pieces =
-    AreCommon (old_lines pieces) (new_lines pieces) (prefix_len is_kept pieces) (suffix_len is_kept (drop (prefix_len is_kept pieces) pieces))
+    AreCommon (old_lines pieces) (new_lines pieces) (prefix_len is_kept pieces)
+    (suffix_len is_kept (drop (prefix_len is_kept pieces) pieces))
 
 -- three lines are shown on this side, or all that are there
 pub record IsContext (shown : ℕ) (left : List (List ℕ)) : Type 0 where
@@ -123,5 +125,6 @@ range_text above lines = decimal (first_line above (length lines)) ++ codes "," 
 
 abbrev pub hunk_text : Hunk → List ℕ
 hunk_text hunk =
-    codes "@@ -" ++ range_text hunk.lines_above (old_lines hunk.pieces.items) ++ codes " +" ++ range_text hunk.lines_above (new_lines hunk.pieces.items) ++ codes " @@\n"
+    codes "@@ -" ++ range_text hunk.lines_above (old_lines hunk.pieces.items) ++ codes " +" ++ range_text
+    hunk.lines_above (new_lines hunk.pieces.items) ++ codes " @@\n"
     ++ flat_map piece_text hunk.pieces.items

@@ -1,7 +1,9 @@
 //! Compares two files line by line.
-ghost use Rattle.std.specs.Prelude.{◌≡◌, ◌≢◌, ◌-◌, ◌+◌, ◌<◌, ◌≤◌, ◌↔◌, ◌++◌, IfOk, OnOk, IsTrue, IsNone, IfSome, length, take, drop};
+ghost use Rattle.std.specs.Prelude.{◌≡◌, ◌≢◌, ◌-◌, ◌+◌, ◌<◌, ◌≤◌, ◌↔◌, ◌++◌, IfOk, OnOk, IsTrue, IsNone, IfSome};
+ghost use Rattle.std.specs.Prelude.{length, take, drop};
 ghost use Rattle.std.specs.List.{prefix_len, suffix_len, flat_map};
-ghost use Rattle.reuse_diff.specs.Hunks.{IsHunk, IsHunkOf, KeepsEnds, is_kept, old_line, new_line, old_lines, new_lines, pieces_with, same_end, same_front};
+ghost use Rattle.reuse_diff.specs.Hunks.{IsHunk, IsHunkOf, KeepsEnds, is_kept, old_line, new_line, old_lines};
+ghost use Rattle.reuse_diff.specs.Hunks.{new_lines, pieces_with, same_end, same_front};
 ghost use Rattle.reuse_diff.specs.TextLines.{AreLinesOf, texts_of};
 
 use crate::hunk::{Hunk, Piece, Sign};
@@ -75,7 +77,8 @@ fn part<'a>(
 ) -> Result<Hunk<'a>, AllocError>
     requires { above + below ≤ length pieces.now }
     ensures number { IfOk result (λ hunk. hunk.lines_above ≡ above) }
-    ensures pieces { IfOk result (λ hunk. hunk.pieces.items ≡ take (length pieces.now - below - above) (drop above pieces.now)) }
+    ensures pieces { IfOk result
+        (λ hunk. hunk.pieces.items ≡ take (length pieces.now - below - above) (drop above pieces.now)) }
 {
     let (pieces, _) = pieces.split_at(pieces.len() - below);
     let (_, pieces) = pieces.split_at(above);
@@ -147,8 +150,10 @@ fn push_all<'a>(
     sign: Sign,
     lines: &[&'a [u8]],
 ) -> Result<(), AllocError>
-    ensures old { OnOk result (old_lines pieces.new.items ≡ old_lines pieces.old.items ++ flat_map (old_line sign) (texts_of lines.now)) }
-    ensures new { OnOk result (new_lines pieces.new.items ≡ new_lines pieces.old.items ++ flat_map (new_line sign) (texts_of lines.now)) }
+    ensures old { OnOk result
+        (old_lines pieces.new.items ≡ old_lines pieces.old.items ++ flat_map (old_line sign) (texts_of lines.now)) }
+    ensures new { OnOk result
+        (new_lines pieces.new.items ≡ new_lines pieces.old.items ++ flat_map (new_line sign) (texts_of lines.now)) }
     ensures pieces { OnOk result (pieces.new.items ≡ pieces.old.items ++ pieces_with sign lines.now) }
 {
     for line in lines {
@@ -183,7 +188,8 @@ fn common_above(old: &[&[u8]], new: &[&[u8]]) -> usize
 fn common_below(old: &[&[u8]], new: &[&[u8]]) -> usize
     ensures old { result ≤ length old.now }
     ensures new { result ≤ length new.now }
-    ensures same { drop (length old.now - result) (texts_of old.now) ≡ drop (length new.now - result) (texts_of new.now) }
+    ensures same { drop (length old.now - result) (texts_of old.now) ≡ drop (length new.now - result)
+        (texts_of new.now) }
     ensures all { result ≡ same_end (texts_of old.now) (texts_of new.now) }
 {
     let most = new.len().min(old.len());
@@ -225,8 +231,10 @@ fn push_compared<'a>(
 fn next_piece<'a>(counts: &[Vec<u32>], old: &[&'a [u8]], new: &[&'a [u8]]) -> Piece<'a>
     requires some_old { 0 < length old.now }
     requires some_new { 0 < length new.now }
-    ensures old { texts_of old.now ≡ old_line result.sign result.line.now ++ texts_of (drop (length (old_line result.sign result.line.now)) old.now) }
-    ensures new { texts_of new.now ≡ new_line result.sign result.line.now ++ texts_of (drop (length (new_line result.sign result.line.now)) new.now) }
+    ensures old { texts_of old.now ≡ old_line result.sign result.line.now ++ texts_of
+        (drop (length (old_line result.sign result.line.now)) old.now) }
+    ensures new { texts_of new.now ≡ new_line result.sign result.line.now ++ texts_of
+        (drop (length (new_line result.sign result.line.now)) new.now) }
 {
     let line = old[0];
     let other = new[0];

@@ -9,7 +9,10 @@ ghost use Rattle.std.specs.Prelude.{◌≡◌, OnOk, ◌++◌, unwrap_or, []};
 ghost use Rattle.std.specs.Option.{option_copied};
 ghost use Rattle.std.specs.Io.KnownBytes.{Appends};
 ghost use Rattle.reuse_change.specs.Change.{path_of};
-ghost use Rattle.reuse_diff.specs.DiffText.{head_text, title_text, both_text, mode_text, names_text, side_text, end_text, binary_text, old_binary_text, new_binary_text, is_binary, is_either_binary, part_before, part_after, same_side, IsDiff, IsBody, IsTextBody, IsRange, IsRangeBody, IsRangeLines, IsRecord};
+ghost use Rattle.reuse_diff.specs.DiffText.{head_text, title_text, both_text, mode_text, names_text, side_text};
+ghost use Rattle.reuse_diff.specs.DiffText.{end_text, binary_text, old_binary_text, new_binary_text, is_binary};
+ghost use Rattle.reuse_diff.specs.DiffText.{is_either_binary, part_before, part_after, same_side, IsDiff, IsBody};
+ghost use Rattle.reuse_diff.specs.DiffText.{IsTextBody, IsRange, IsRangeBody, IsRangeLines, IsRecord};
 ghost use Rattle.reuse_diff.specs.Hunks.{hunk_text};
 ghost use Rattle.reuse_shown.specs.JoinedTexts.{AppendsSome};
 
@@ -29,16 +32,16 @@ use std::io::{self, Write};
 
 /// What a path holds before a change and after it, where no bytes are no file.
 #[derive(Clone, Copy)]
-pub struct Turn<'a> {
+pub struct DiffInput<'a> {
     pub path: &'a PathText,
     pub before: Option<&'a [u8]>,
     pub after: Option<&'a [u8]>,
 }
 
-impl<'a> Turn<'a> {
+impl<'a> DiffInput<'a> {
     /// What a change records: a file that is made or removed, or of a range the bytes that give way
     /// and those in their place.
-    pub fn of(change: &'a Change) -> Turn<'a>
+    pub fn of(change: &'a Change) -> DiffInput<'a>
         ensures path { result.path.now ≡ path_of change.now }
         ensures before { option_copied result.before ≡ part_before change.now }
         ensures after { option_copied result.after ≡ part_after change.now }
@@ -48,7 +51,7 @@ impl<'a> Turn<'a> {
             Change::Drop { old, .. } => (Some(old.as_slice()), None),
             Change::Splice { old, new, .. } => (Some(old.as_slice()), Some(new.as_slice())),
         };
-        Turn {
+        DiffInput {
             path: change.path(),
             before,
             after,
@@ -56,12 +59,12 @@ impl<'a> Turn<'a> {
     }
 
     /// The turn back.
-    pub fn back(self) -> Turn<'a>
+    pub fn back(self) -> DiffInput<'a>
         ensures path { result.path.now ≡ self.entry.path.now }
         ensures before { option_copied result.before ≡ option_copied self.entry.after }
         ensures after { option_copied result.after ≡ option_copied self.entry.before }
     {
-        Turn {
+        DiffInput {
             path: self.path,
             before: self.after,
             after: self.before,
@@ -71,14 +74,15 @@ impl<'a> Turn<'a> {
 
 /// Prints how the file of a path changes: a hunk with three lines around what changes, or a line of
 /// its own for a binary. Nothing where it doesn't change.
-pub fn print_diff<W: Write>(out: &mut W, alloc: Global, turn: Turn<'_>) -> io::Result<()>
-    ensures { OnOk result (AppendsSome (W.contents out.old) (W.contents out.new) (IsDiff turn.entry.path.now (option_copied turn.entry.before) (option_copied turn.entry.after))) }
+pub fn print_diff<W: Write>(out: &mut W, alloc: Global, input: DiffInput<'_>) -> io::Result<()>
+    ensures { OnOk result (AppendsSome (W.contents out.old) (W.contents out.new)
+        (IsDiff input.entry.path.now (option_copied input.entry.before) (option_copied input.entry.after))) }
 {
-    if is_same_side(turn.before, turn.after) {
+    if is_same_side(input.before, input.after) {
         return Ok(());
     }
-    print_head(out, turn)?;
-    print_body(out, alloc, turn)?;
+    print_head(out, input)?;
+    print_body(out, alloc, input)?;
     Ok(())
 }
 
@@ -88,20 +92,26 @@ pub fn print_diff<W: Write>(out: &mut W, alloc: Global, turn: Turn<'_>) -> io::R
 pub fn print_record<W: Write>(out: &mut W, alloc: Global, change: &Change) -> io::Result<()>
     ensures { OnOk result (AppendsSome (W.contents out.old) (W.contents out.new) (IsRecord change.now)) }
 {
-    let turn = Turn::of(change);
+    let input = DiffInput::of(change);
     match change {
-        Change::Splice { at, .. } => print_range(out, alloc, turn, *at),
-        Change::Make { .. } => print_diff(out, alloc, turn),
-        Change::Drop { .. } => print_diff(out, alloc, turn),
+        Change::Splice { at, .. } => print_range(out, alloc, input, *at),
+        Change::Make { .. } => print_diff(out, alloc, input),
+        Change::Drop { .. } => print_diff(out, alloc, input),
     }
 }
 
 // What becomes of a range of a file.
-fn print_range<W: Write>(out: &mut W, alloc: Global, turn: Turn<'_>, at: usize) -> io::Result<()>
-    ensures { OnOk result (AppendsSome (W.contents out.old) (W.contents out.new) (IsRange turn.entry.path.now (option_copied turn.entry.before) (option_copied turn.entry.after) at)) }
+fn print_range<W: Write>(
+    out: &mut W,
+    alloc: Global,
+    input: DiffInput<'_>,
+    at: usize,
+) -> io::Result<()>
+    ensures { OnOk result (AppendsSome (W.contents out.old) (W.contents out.new)
+        (IsRange input.entry.path.now (option_copied input.entry.before) (option_copied input.entry.after) at)) }
 {
-    print_head(out, turn)?;
-    print_range_body(out, alloc, turn, at)?;
+    print_head(out, input)?;
+    print_range_body(out, alloc, input, at)?;
     Ok(())
 }
 
@@ -109,59 +119,66 @@ fn print_range<W: Write>(out: &mut W, alloc: Global, turn: Turn<'_>, at: usize) 
 fn print_range_body<W: Write>(
     out: &mut W,
     alloc: Global,
-    turn: Turn<'_>,
+    input: DiffInput<'_>,
     at: usize,
 ) -> io::Result<()>
-    ensures { OnOk result (AppendsSome (W.contents out.old) (W.contents out.new) (IsRangeBody turn.entry.path.now (option_copied turn.entry.before) (option_copied turn.entry.after) at)) }
+    ensures { OnOk result (AppendsSome (W.contents out.old) (W.contents out.new)
+        (IsRangeBody input.entry.path.now (option_copied input.entry.before) (option_copied input.entry.after) at)) }
 {
-    if is_either_binary(bytes_of(turn.before), bytes_of(turn.after)) {
-        return print_binary(out, turn);
+    if is_either_binary(bytes_of(input.before), bytes_of(input.after)) {
+        return print_binary(out, input);
     }
-    print_range_lines(out, alloc, turn, at)
+    print_range_lines(out, alloc, input, at)
 }
 
 // The names of two texts, and how the one range gives way to the other.
 fn print_range_lines<W: Write>(
     out: &mut W,
     alloc: Global,
-    turn: Turn<'_>,
+    input: DiffInput<'_>,
     at: usize,
 ) -> io::Result<()>
     ensures { OnOk result (AppendsSome (W.contents out.old) (W.contents out.new)
-        (IsRangeLines (names_text turn.entry.path.now (option_copied turn.entry.before) (option_copied turn.entry.after)) at (unwrap_or (option_copied turn.entry.before) []) (unwrap_or (option_copied turn.entry.after) []))) }
+        (IsRangeLines (names_text input.entry.path.now (option_copied input.entry.before)
+        (option_copied input.entry.after)) at (unwrap_or (option_copied input.entry.before) [])
+        (unwrap_or (option_copied input.entry.after) []))) }
 {
-    let pieces = pieces_of(alloc, bytes_of(turn.before), bytes_of(turn.after))?;
-    print_names(out, turn)?;
+    let pieces = pieces_of(alloc, bytes_of(input.before), bytes_of(input.after))?;
+    print_names(out, input)?;
     writeln!(out, "@@ byte {at} @@")?;
     print_pieces(out, pieces.as_slice())?;
     Ok(())
 }
 
 // What stands behind the head.
-fn print_body<W: Write>(out: &mut W, alloc: Global, turn: Turn<'_>) -> io::Result<()>
-    ensures { OnOk result (AppendsSome (W.contents out.old) (W.contents out.new) (IsBody turn.entry.path.now (option_copied turn.entry.before) (option_copied turn.entry.after))) }
+fn print_body<W: Write>(out: &mut W, alloc: Global, input: DiffInput<'_>) -> io::Result<()>
+    ensures { OnOk result (AppendsSome (W.contents out.old) (W.contents out.new)
+        (IsBody input.entry.path.now (option_copied input.entry.before) (option_copied input.entry.after))) }
 {
-    if is_either_binary(bytes_of(turn.before), bytes_of(turn.after)) {
-        return print_binary(out, turn);
+    if is_either_binary(bytes_of(input.before), bytes_of(input.after)) {
+        return print_binary(out, input);
     }
-    print_texts(out, alloc, turn)
+    print_texts(out, alloc, input)
 }
 
 // The names of two texts, and the hunk between them.
-fn print_texts<W: Write>(out: &mut W, alloc: Global, turn: Turn<'_>) -> io::Result<()>
+fn print_texts<W: Write>(out: &mut W, alloc: Global, input: DiffInput<'_>) -> io::Result<()>
     ensures { OnOk result (AppendsSome (W.contents out.old) (W.contents out.new)
-        (IsTextBody (names_text turn.entry.path.now (option_copied turn.entry.before) (option_copied turn.entry.after)) (unwrap_or (option_copied turn.entry.before) []) (unwrap_or (option_copied turn.entry.after) []))) }
+        (IsTextBody
+        (names_text input.entry.path.now (option_copied input.entry.before) (option_copied input.entry.after))
+        (unwrap_or (option_copied input.entry.before) []) (unwrap_or (option_copied input.entry.after) []))) }
 {
-    if let Some(hunk) = hunk_between(alloc, bytes_of(turn.before), bytes_of(turn.after))? {
-        print_named(out, turn, &hunk)?;
+    if let Some(hunk) = hunk_between(alloc, bytes_of(input.before), bytes_of(input.after))? {
+        print_named(out, input, &hunk)?;
     }
     Ok(())
 }
 
-fn print_named<W: Write>(out: &mut W, turn: Turn<'_>, hunk: &Hunk<'_>) -> io::Result<()>
-    ensures { OnOk result (Appends (W.contents out.old) (W.contents out.new) (names_text turn.entry.path.now (option_copied turn.entry.before) (option_copied turn.entry.after) ++ hunk_text hunk.now)) }
+fn print_named<W: Write>(out: &mut W, input: DiffInput<'_>, hunk: &Hunk<'_>) -> io::Result<()>
+    ensures { OnOk result (Appends (W.contents out.old) (W.contents out.new) (names_text input.entry.path.now
+        (option_copied input.entry.before) (option_copied input.entry.after) ++ hunk_text hunk.now)) }
 {
-    print_names(out, turn)?;
+    print_names(out, input)?;
     print_hunk(out, hunk)
 }
 
@@ -199,11 +216,12 @@ fn is_binary(file: &[u8]) -> bool
 }
 
 // The line that begins the diff of a file, and what becomes of the file.
-fn print_head<W: Write>(out: &mut W, turn: Turn<'_>) -> io::Result<()>
-    ensures { OnOk result (Appends (W.contents out.old) (W.contents out.new) (head_text turn.entry.path.now (option_copied turn.entry.before) (option_copied turn.entry.after))) }
+fn print_head<W: Write>(out: &mut W, input: DiffInput<'_>) -> io::Result<()>
+    ensures { OnOk result (Appends (W.contents out.old) (W.contents out.new)
+        (head_text input.entry.path.now (option_copied input.entry.before) (option_copied input.entry.after))) }
 {
-    print_title(out, turn.path)?;
-    print_mode(out, turn)
+    print_title(out, input.path)?;
+    print_mode(out, input)
 }
 
 fn print_title<W: Write>(out: &mut W, path: &PathText) -> io::Result<()>
@@ -224,32 +242,35 @@ fn print_both<W: Write>(out: &mut W, path: &PathText) -> io::Result<()>
     Ok(())
 }
 
-fn print_mode<W: Write>(out: &mut W, turn: Turn<'_>) -> io::Result<()>
-    ensures { OnOk result (Appends (W.contents out.old) (W.contents out.new) (mode_text (option_copied turn.entry.before) (option_copied turn.entry.after))) }
+fn print_mode<W: Write>(out: &mut W, input: DiffInput<'_>) -> io::Result<()>
+    ensures { OnOk result (Appends (W.contents out.old) (W.contents out.new)
+        (mode_text (option_copied input.entry.before) (option_copied input.entry.after))) }
 {
-    if turn.before.is_none() {
+    if input.before.is_none() {
         writeln!(out, "new file mode 100644")?;
     }
-    if turn.after.is_none() {
+    if input.after.is_none() {
         writeln!(out, "deleted file mode 100644")?;
     }
     Ok(())
 }
 
-fn print_names<W: Write>(out: &mut W, turn: Turn<'_>) -> io::Result<()>
-    ensures { OnOk result (Appends (W.contents out.old) (W.contents out.new) (names_text turn.entry.path.now (option_copied turn.entry.before) (option_copied turn.entry.after))) }
+fn print_names<W: Write>(out: &mut W, input: DiffInput<'_>) -> io::Result<()>
+    ensures { OnOk result (Appends (W.contents out.old) (W.contents out.new)
+        (names_text input.entry.path.now (option_copied input.entry.before) (option_copied input.entry.after))) }
 {
     write!(out, "--- ")?;
-    print_side(out, "a/", turn.path, turn.before)?;
-    print_end(out, turn.path, turn.before)?;
+    print_side(out, "a/", input.path, input.before)?;
+    print_end(out, input.path, input.before)?;
     write!(out, "+++ ")?;
-    print_side(out, "b/", turn.path, turn.after)?;
-    print_end(out, turn.path, turn.after)
+    print_side(out, "b/", input.path, input.after)?;
+    print_end(out, input.path, input.after)
 }
 
 // The end of the line of one side. Behind a name with a space a tab shows where it ends.
 fn print_end<W: Write>(out: &mut W, path: &PathText, file: Option<&[u8]>) -> io::Result<()>
-    ensures { OnOk result (Appends (W.contents out.old) (W.contents out.new) (end_text path.now (option_copied file.entry))) }
+    ensures { OnOk result
+        (Appends (W.contents out.old) (W.contents out.new) (end_text path.now (option_copied file.entry))) }
 {
     if file.is_some() && is_name_spaced(path) {
         return writeln!(out, "\t");
@@ -257,27 +278,30 @@ fn print_end<W: Write>(out: &mut W, path: &PathText, file: Option<&[u8]>) -> io:
     writeln!(out)
 }
 
-fn print_binary<W: Write>(out: &mut W, turn: Turn<'_>) -> io::Result<()>
-    ensures { OnOk result (Appends (W.contents out.old) (W.contents out.new) (binary_text turn.entry.path.now (option_copied turn.entry.before) (option_copied turn.entry.after))) }
+fn print_binary<W: Write>(out: &mut W, input: DiffInput<'_>) -> io::Result<()>
+    ensures { OnOk result (Appends (W.contents out.old) (W.contents out.new)
+        (binary_text input.entry.path.now (option_copied input.entry.before) (option_copied input.entry.after))) }
 {
-    print_old_binary(out, turn)?;
-    print_new_binary(out, turn)?;
+    print_old_binary(out, input)?;
+    print_new_binary(out, input)?;
     Ok(())
 }
 
-fn print_old_binary<W: Write>(out: &mut W, turn: Turn<'_>) -> io::Result<()>
-    ensures { OnOk result (Appends (W.contents out.old) (W.contents out.new) (old_binary_text turn.entry.path.now (option_copied turn.entry.before))) }
+fn print_old_binary<W: Write>(out: &mut W, input: DiffInput<'_>) -> io::Result<()>
+    ensures { OnOk result (Appends (W.contents out.old) (W.contents out.new)
+        (old_binary_text input.entry.path.now (option_copied input.entry.before))) }
 {
     write!(out, "Binary files ")?;
-    print_side(out, "a/", turn.path, turn.before)?;
+    print_side(out, "a/", input.path, input.before)?;
     Ok(())
 }
 
-fn print_new_binary<W: Write>(out: &mut W, turn: Turn<'_>) -> io::Result<()>
-    ensures { OnOk result (Appends (W.contents out.old) (W.contents out.new) (new_binary_text turn.entry.path.now (option_copied turn.entry.after))) }
+fn print_new_binary<W: Write>(out: &mut W, input: DiffInput<'_>) -> io::Result<()>
+    ensures { OnOk result (Appends (W.contents out.old) (W.contents out.new)
+        (new_binary_text input.entry.path.now (option_copied input.entry.after))) }
 {
     write!(out, " and ")?;
-    print_side(out, "b/", turn.path, turn.after)?;
+    print_side(out, "b/", input.path, input.after)?;
     writeln!(out, " differ")
 }
 
@@ -287,7 +311,8 @@ fn print_side<W: Write>(
     path: &PathText,
     file: Option<&[u8]>,
 ) -> io::Result<()>
-    ensures { OnOk result (Appends (W.contents out.old) (W.contents out.new) (side_text side.now path.now (option_copied file.entry))) }
+    ensures { OnOk result
+        (Appends (W.contents out.old) (W.contents out.new) (side_text side.now path.now (option_copied file.entry))) }
 {
     match file {
         Some(_) => print_name(out, side, path),

@@ -1,20 +1,24 @@
 -- No edit is lost where a name changes only if what was seen stands there directly before.
-use Rattle.std.proofs.Common.{◌≡◌, ◌≢◌, ◌⊎◌, inl, inr, ℕ, Bool, true, List, [], ◌∷◌, ◌++◌, Option, None, Some, Result, Ok, Err, MatchResult, refl, sym, ◌∙◌, ap, cond, append_assoc}
+use Rattle.std.proofs.Common.{◌≡◌, ◌≢◌, ◌⊎◌, inl, inr, ℕ, Bool, true, List, [], ◌∷◌, ◌++◌, Option, None, Some, Result}
+use Rattle.std.proofs.Common.{Ok, Err, MatchResult, refl, sym, ◌∙◌, ap, cond, append_assoc}
 use Rattle.std.specs.Str.{bytes_eq}
 use Rattle.std.specs.declared.io.Error.{Error}
 use Rattle.std.proofs.lemmas.Slice.Eq.{bytes_eq-Decides}
 use Rattle.reuse_system.specs.FileStates.{Place, FileState}
-use Rattle.reuse_system.specs.NameChanges.{Look, NameChange, AreEach, told_of, change_at, change_of_free, IsExpected, IsChangeOf, IsGuarded, OnlyChanges}
+use Rattle.reuse_system.specs.NameChanges.{Look, NameChange, AreEach, reported_of, change_at, change_of_free}
+use Rattle.reuse_system.specs.NameChanges.{IsExpected, IsChangeOf, IsGuarded, OnlyChanges}
 use Rattle.reuse_system.specs.SystemLaws.{IsAlikeBut, IsRenamed, MayBeRenamed, IsLinked, MayBeLinked}
 use Rattle.reuse_system.specs.declared.place.FileStatus.{FileStatus}
 use Rattle.reuse_system.specs.declared.place.Found.{Found}
 
-told_here : (place : Place) (found : Found) → told_of (Some (record { place = place; told = found })) place ≡ Some found
-told_here place found = ap (λ b. cond b (Some found) None) ((bytes_eq-Decides place place).1 refl)
+reported_here : (place : Place) (found : Found)
+    → reported_of (Some (record { place = place; reported = found })) place ≡ Some found
+reported_here place found = ap (λ b. cond b (Some found) None) ((bytes_eq-Decides place place).1 refl)
 
 -- ---- lists of changes
 
-weaker : (P Q : NameChange → Type 0) → ((change : NameChange) → P change → Q change) → (changes : List NameChange) → AreEach P changes → AreEach Q changes
+weaker : (P Q : NameChange → Type 0) → ((change : NameChange) → P change → Q change) → (changes : List NameChange)
+    → AreEach P changes → AreEach Q changes
 weaker P Q from [] all = tt
 weaker P Q from (change ∷ changes) all = (from change all.0, weaker P Q from changes all.1)
 
@@ -35,10 +39,12 @@ both P (x ∷ xs) ys front back = (front.0, both P xs ys front.1 back)
 pub only_none : (IsOne : Place → Type 0) (a b : List NameChange) → b ≡ a → OnlyChanges IsOne a b
 only_none IsOne a b e = record { changes = []; grown = e; each = tt }
 
-pub only_one : (IsOne : Place → Type 0) (a b : List NameChange) (change : NameChange) → b ≡ (change ∷ a) → IsOne change.place → OnlyChanges IsOne a b
+pub only_one : (IsOne : Place → Type 0) (a b : List NameChange) (change : NameChange) → b ≡ (change ∷ a)
+    → IsOne change.place → OnlyChanges IsOne a b
 only_one IsOne a b change e one = record { changes = change ∷ []; grown = e; each = (one, tt) }
 
-pub only_then : (IsOne : Place → Type 0) (a b c : List NameChange) → OnlyChanges IsOne a b → OnlyChanges IsOne b c → OnlyChanges IsOne a c
+pub only_then : (IsOne : Place → Type 0) (a b c : List NameChange) → OnlyChanges IsOne a b → OnlyChanges IsOne b c
+    → OnlyChanges IsOne a c
 only_then IsOne a b c one two =
     record {
       changes = two.changes ++ one.changes;
@@ -46,34 +52,54 @@ only_then IsOne a b c one two =
       each = both (λ change. IsOne change.place) two.changes one.changes two.each one.each;
     }
 
-pub only_weaker : (P Q : Place → Type 0) → ((place : Place) → P place → Q place) → (a b : List NameChange) → OnlyChanges P a b → OnlyChanges Q a b
+pub only_weaker : (P Q : Place → Type 0) → ((place : Place) → P place → Q place) → (a b : List NameChange)
+    → OnlyChanges P a b → OnlyChanges Q a b
 only_weaker P Q from a b only =
-    record { changes = only.changes; grown = only.grown; each = weaker (λ change. P change.place) (λ change. Q change.place) (λ change. from change.place) only.changes only.each }
+    record {
+      changes = only.changes;
+      grown = only.grown;
+      each = weaker (λ change. P change.place) (λ change. Q change.place)
+          (λ change. from change.place) only.changes only.each;
+    }
 
 -- ---- guarded changes
 
 -- no name changed
-pub guarded_none : (IsAside : Place → Type 0) (target : Place) (seen : Option FileStatus) (a b : List NameChange) (old new : FileState) → b ≡ a
-    → (¬ (IsAside target) → new target ≡ old target) → IsGuarded IsAside target seen a b old new
-guarded_none IsAside target seen a b old new e same = record { changes = []; grown = e; each = tt; same = λ none. same }
+pub guarded_none : (IsTempFile : Place → Type 0) (target : Place) (seen : Option FileStatus) (a b : List NameChange)
+    (old new : FileState) → b ≡ a
+    → (¬ (IsTempFile target) → new target ≡ old target) → IsGuarded IsTempFile target seen a b old new
+guarded_none IsTempFile target seen a b old new e same = record {
+  changes = [];
+  grown = e;
+  each = tt;
+  same = λ none. same;
+}
 
 -- places for new files changed
-pub guarded_only : (IsAside : Place → Type 0) (target : Place) (seen : Option FileStatus) (a b : List NameChange) (old new : FileState) → OnlyChanges IsAside a b
-    → (¬ (IsAside target) → new target ≡ old target) → IsGuarded IsAside target seen a b old new
-guarded_only IsAside target seen a b old new only same =
+pub guarded_only : (IsTempFile : Place → Type 0) (target : Place) (seen : Option FileStatus) (a b : List NameChange)
+    (old new : FileState) → OnlyChanges IsTempFile a b
+    → (¬ (IsTempFile target) → new target ≡ old target) → IsGuarded IsTempFile target seen a b old new
+guarded_only IsTempFile target seen a b old new only same =
     record {
       changes = only.changes;
       grown = only.grown;
-      each = weaker (λ change. IsAside change.place) (IsChangeOf IsAside target seen) (λ change at. inl at) only.changes only.each;
+      each = weaker (λ change. IsTempFile change.place) (IsChangeOf IsTempFile target seen)
+          (λ change at. inl at) only.changes only.each;
       same = λ none. same;
     }
 
 -- the target was looked at, and then changed
-pub guarded_look : (IsAside : Place → Type 0) (target : Place) (seen : Option FileStatus) (found : Found) (look : Option Look) (a b c : List NameChange) (old new : FileState)
-    → b ≡ a → look ≡ Some (record { place = target; told = found }) → IsExpected seen (Some found) → c ≡ (change_at look target ∷ b) → IsGuarded IsAside target seen a c old new
-guarded_look IsAside target seen found look a b c old new same told expected grown =
-    let at : change_at look target ≡ record { place = target; told = Some found } = ap (λ l. change_at l target) told ∙ ap (λ t. let one : NameChange = record { place = target; told = t } in one) (told_here target found) in
-    let one : NameChange = record { place = target; told = Some found } in
+pub guarded_look : (IsTempFile : Place → Type 0) (target : Place) (seen : Option FileStatus) (found : Found)
+    (look : Option Look) (a b c : List NameChange) (old new : FileState)
+    → b ≡ a → look ≡ Some (record { place = target; reported = found }) → IsExpected seen (Some found)
+    → c ≡ (change_at look target ∷ b) → IsGuarded IsTempFile target seen a c old new
+guarded_look IsTempFile target seen found look a b c old new same reported expected grown =
+    let at : change_at look target ≡ record {
+      place = target;
+      reported = Some found;
+    } = ap (λ l. change_at l target) reported ∙ ap
+    (λ t. let one : NameChange = record { place = target; reported = t } in one) (reported_here target found) in
+    let one : NameChange = record { place = target; reported = Some found } in
     record {
       changes = one ∷ [];
       grown = grown ∙ ap (λ x. x ∷ b) at ∙ ap (λ l. one ∷ l) same;
@@ -82,72 +108,100 @@ guarded_look IsAside target seen found look a b c old new same told expected gro
     }
 
 -- the target got its name by a link
-pub guarded_link : (IsAside : Place → Type 0) (target : Place) (a b : List NameChange) (old new : FileState) → b ≡ (change_of_free target ∷ a) → IsGuarded IsAside target None a b old new
-guarded_link IsAside target a b old new grown =
-    record { changes = change_of_free target ∷ []; grown = grown; each = (inr (refl, refl), tt); same = λ none. absurd (none.0 refl) }
+pub guarded_link : (IsTempFile : Place → Type 0) (target : Place) (a b : List NameChange) (old new : FileState)
+    → b ≡ (change_of_free target ∷ a) → IsGuarded IsTempFile target None a b old new
+guarded_link IsTempFile target a b old new grown =
+    record {
+      changes = change_of_free target ∷ [];
+      grown = grown;
+      each = (inr (refl, refl), tt);
+      same = λ none. absurd (none.0 refl);
+    }
 
 -- a place for new files changed
-pub guarded_aside : (IsAside : Place → Type 0) (target at : Place) (seen : Option FileStatus) (look : Option Look) (a b : List NameChange) (old new : FileState)
-    → IsAside at → b ≡ (change_at look at ∷ a) → (¬ (IsAside target) → new target ≡ old target) → IsGuarded IsAside target seen a b old new
-guarded_aside IsAside target at seen look a b old new is grown same =
+pub guarded_temp_file : (IsTempFile : Place → Type 0) (target at : Place) (seen : Option FileStatus)
+    (look : Option Look) (a b : List NameChange) (old new : FileState)
+    → IsTempFile at → b ≡ (change_at look at ∷ a) → (¬ (IsTempFile target) → new target ≡ old target)
+    → IsGuarded IsTempFile target seen a b old new
+guarded_temp_file IsTempFile target at seen look a b old new is grown same =
     record { changes = change_at look at ∷ []; grown = grown; each = (inl is, tt); same = λ none. same }
 
-pub guarded_then : (IsAside : Place → Type 0) (target : Place) (seen : Option FileStatus) (a b c : List NameChange) (old mid new : FileState)
-    → IsGuarded IsAside target seen a b old mid → IsGuarded IsAside target seen b c mid new → IsGuarded IsAside target seen a c old new
-guarded_then IsAside target seen a b c old mid new one two =
+pub guarded_then : (IsTempFile : Place → Type 0) (target : Place) (seen : Option FileStatus) (a b c : List NameChange)
+    (old mid new : FileState)
+    → IsGuarded IsTempFile target seen a b old mid → IsGuarded IsTempFile target seen b c mid new
+    → IsGuarded IsTempFile target seen a c old new
+guarded_then IsTempFile target seen a b c old mid new one two =
     record {
       changes = two.changes ++ one.changes;
       grown = two.grown ∙ ap (λ l. two.changes ++ l) one.grown ∙ sym (append_assoc two.changes one.changes a);
-      each = both (IsChangeOf IsAside target seen) two.changes one.changes two.each one.each;
+      each = both (IsChangeOf IsTempFile target seen) two.changes one.changes two.each one.each;
       same = λ none no.
           two.same (front_of (λ change. change.place ≢ target) two.changes one.changes none) no
           ∙ one.same (back_of (λ change. change.place ≢ target) two.changes one.changes none) no;
     }
 
-change_weaker : (P Q : Place → Type 0) (target : Place) (seen : Option FileStatus) → ((place : Place) → P place → Q place) → (change : NameChange) → IsChangeOf P target seen change → IsChangeOf Q target seen change
+change_weaker : (P Q : Place → Type 0) (target : Place) (seen : Option FileStatus)
+    → ((place : Place) → P place → Q place) → (change : NameChange) → IsChangeOf P target seen change
+    → IsChangeOf Q target seen change
 change_weaker P Q target seen from change (inl at) = inl (from change.place at)
 change_weaker P Q target seen from change (inr at) = inr at
 
-pub guarded_weaker : (P Q : Place → Type 0) (target : Place) (seen : Option FileStatus) → ((place : Place) → P place → Q place) → (a b : List NameChange) (old new : FileState)
+pub guarded_weaker : (P Q : Place → Type 0) (target : Place) (seen : Option FileStatus)
+    → ((place : Place) → P place → Q place) → (a b : List NameChange) (old new : FileState)
     → IsGuarded P target seen a b old new → IsGuarded Q target seen a b old new
 guarded_weaker P Q target seen from a b old new one =
     record {
       changes = one.changes;
       grown = one.grown;
-      each = weaker (IsChangeOf P target seen) (IsChangeOf Q target seen) (change_weaker P Q target seen from) one.changes one.each;
+      each = weaker (IsChangeOf P target seen) (IsChangeOf Q target seen)
+          (change_weaker P Q target seen from) one.changes one.each;
       same = λ none no. one.same none (λ at. no (from target at));
     }
 
 -- ---- a name that is linked, and then leaves its old place
 
-pub linked_then_discarded : (from to : Place) (a b c : FileState) → IsLinked from to a b → IsAlikeBut from b c → IsRenamed from to a c
+pub linked_then_discarded : (from to : Place) (a b c : FileState) → IsLinked from to a b → IsAlikeBut from b c
+    → IsRenamed from to a c
 linked_then_discarded from to a b c linked alike =
-    record { there = alike to linked.apart ∙ linked.there; others = λ place no other. alike place no ∙ linked.others place other }
+    record {
+      there = alike to linked.apart ∙ linked.there;
+      others = λ place no other. alike place no ∙ linked.others place other;
+    }
 
 pub linked_renamed : (from to : Place) (a b : FileState) → IsLinked from to a b → IsRenamed from to a b
-linked_renamed from to a b linked = record { there = linked.there; others = λ place no other. linked.others place other }
+linked_renamed from to a b linked = record {
+  there = linked.there;
+  others = λ place no other. linked.others place other;
+}
 
 pub may_be_renamed : (from to : Place) (a b : FileState) → MayBeLinked from to a b → MayBeRenamed from to a b
 may_be_renamed from to a b (inl alike) = inl alike
 may_be_renamed from to a b (inr linked) = inr (linked_renamed from to a b linked)
 
-renamed_after : (from to : Place) (a b c : FileState) → MayBeLinked from to a b → IsRenamed from to b c → IsRenamed from to a c
+renamed_after : (from to : Place) (a b c : FileState) → MayBeLinked from to a b → IsRenamed from to b c
+    → IsRenamed from to a c
 renamed_after from to a b c (inl alike) renamed =
-    record { there = renamed.there ∙ alike from; others = λ place no other. renamed.others place no other ∙ alike place }
+    record {
+      there = renamed.there ∙ alike from;
+      others = λ place no other. renamed.others place no other ∙ alike place;
+    }
 renamed_after from to a b c (inr linked) renamed =
     record {
       there = renamed.there ∙ linked.others from (λ e. linked.apart (sym e));
       others = λ place no other. renamed.others place no other ∙ linked.others place other;
     }
 
-may_rename_after : (from to : Place) (a b c : FileState) → MayBeLinked from to a b → MayBeRenamed from to b c → MayBeRenamed from to a c
+may_rename_after : (from to : Place) (a b c : FileState) → MayBeLinked from to a b → MayBeRenamed from to b c
+    → MayBeRenamed from to a c
 may_rename_after from to a b c (inl alike) (inl same) = inl (λ place. same place ∙ alike place)
 may_rename_after from to a b c (inr linked) (inl same) =
     inr (record { there = same to ∙ linked.there; others = λ place no other. same place ∙ linked.others place other })
 may_rename_after from to a b c linked (inr renamed) = inr (renamed_after from to a b c linked renamed)
 
 -- linked or not, and then renamed or not
-pub renamed_after_link : {E : Type 0} (from to : Place) (a b c : FileState) (answer : Result (Unit {0}) E) → MayBeLinked from to a b
-    → MatchResult answer (λ _. IsRenamed from to b c) (λ _. MayBeRenamed from to b c) → MatchResult answer (λ _. IsRenamed from to a c) (λ _. MayBeRenamed from to a c)
+pub renamed_after_link : {E : Type 0} (from to : Place) (a b c : FileState) (answer : Result (Unit {0}) E)
+    → MayBeLinked from to a b
+    → MatchResult answer (λ _. IsRenamed from to b c) (λ _. MayBeRenamed from to b c)
+    → MatchResult answer (λ _. IsRenamed from to a c) (λ _. MayBeRenamed from to a c)
 renamed_after_link from to a b c (Ok done) linked renamed = renamed_after from to a b c linked renamed
 renamed_after_link from to a b c (Err error) linked renamed = may_rename_after from to a b c linked renamed

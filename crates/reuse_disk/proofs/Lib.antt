@@ -3,6 +3,6 @@ pub mod LastNames
 pub mod Listed
 pub mod MadeFolders
 pub mod NextNames
-pub mod TrailLemmas
+pub mod OpenFoldersLemmas
 pub mod WrittenLemmas
 pub mod EditLemmas

@@ -1,17 +1,18 @@
--- Lists of paths none of which is kept out.
+-- Lists of paths none of which is ignored.
 use Rattle.std.proofs.Common.{◌≡◌, All, ℕ, Bool, true, false, if◌then◌else◌, List, [], ◌∷◌, ◌++◌}
 use Rattle.std.specs.List.Sorted.{IsPermutation}
 use Rattle.std.proofs.lemmas.List.Elements.{All-push, All-same}
 use Rattle.std.proofs.lemmas.List.Sorted.{All-permutation}
-use Rattle.reuse_system.specs.KeptOut.{is_kept_out}
+use Rattle.reuse_system.specs.Ignored.{is_ignored}
 
 abbrev pub IsInTree : List ℕ → Type 0
-IsInTree path = is_kept_out path ≡ false
+IsInTree path = is_ignored path ≡ false
 
 -- a list after a push that may have failed
 pub pushed : (done : Bool) (before after : List (List ℕ)) (path : List ℕ) →
     All IsInTree before → IsInTree path → after ≡ (if done then before ++ path ∷ [] else before) → All IsInTree after
-pushed true before after path kept new same = All-same IsInTree after (before ++ path ∷ []) same (All-push IsInTree before path kept new)
+pushed true before after path kept new same =
+    All-same IsInTree after (before ++ path ∷ []) same (All-push IsInTree before path kept new)
 pushed false before after path kept new same = All-same IsInTree after before same kept
 
 -- a list in another order

@@ -1,2 +1,2 @@
-pub mod Trails
+pub mod OpenFolders
 pub mod Written

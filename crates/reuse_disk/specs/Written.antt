@@ -5,7 +5,7 @@ use Rattle.reuse_system.specs.SystemLaws.{IsAlike, IsSynced}
 use Rattle.reuse_system.specs.declared.syncs.Syncs.{Syncs}
 use Rattle.reuse_system.specs.declared.syncs.Syncs.TheVariants.{Kept, LeftOut}
 
--- whether what is written is made lasting
+-- whether what is written is made durable
 abbrev pub is_kept : Syncs → Bool
 is_kept Kept = true
 is_kept LeftOut = false
@@ -27,7 +27,8 @@ pub record StandsAlone (place : Place) (key : FileKey) (held : FileState) : Type
 
 -- Where it is done, the target has these bytes. Done or not, the target has them or what it had, if it is none of the
 -- places where new files are written; and nothing differs but there and at the target.
-pub record IsWritten (IsAside : Place → Type 0) (target : Place) (bytes : List ℕ) (is_lasting : Bool) (old new : FileState) (is_done : Bool) : Type 0 where
-  pub done : IsTrue is_done → Holds new target bytes is_lasting
-  pub whole : ¬ (IsAside target) → (new target ≡ old target) ⊎ Holds new target bytes is_lasting
-  pub others : (place : Place) → ¬ (IsAside place) → place ≢ target → new place ≡ old place
+pub record IsWritten (IsTempFile : Place → Type 0) (target : Place) (bytes : List ℕ) (is_durable : Bool)
+    (old new : FileState) (is_done : Bool) : Type 0 where
+  pub done : IsTrue is_done → Holds new target bytes is_durable
+  pub whole : ¬ (IsTempFile target) → (new target ≡ old target) ⊎ Holds new target bytes is_durable
+  pub others : (place : Place) → ¬ (IsTempFile place) → place ≢ target → new place ≡ old place

@@ -1,10 +1,10 @@
 //! Removing folders that hold nothing but folders.
 ghost use Rattle.std.specs.Prelude.{◌≡◌, IfOk, string_bytes};
-ghost use Rattle.reuse_disk.specs.Trails.{AreOpenedIf, path_below};
+ghost use Rattle.reuse_disk.specs.OpenFolders.{AreOpenedIf, path_below};
 
 use crate::listing::{MOST_NAMES, push_text};
-use crate::trail::Trail;
-use reuse_system::fault::{FolderFault, Obstacle};
+use crate::open_folders::OpenFolders;
+use reuse_system::fault::{FolderFault, IoReason};
 use reuse_system::place::folder_and_name;
 use reuse_system::system::{HostSystem, System};
 use std::alloc::{AllocError, Global};
@@ -31,7 +31,7 @@ fn push_folder<R: Files>(
     folders: &mut Vec<String>,
 ) -> Result<(), FolderFault> {
     if !entry.file_type()?.is_dir() {
-        return Err(FolderFault::Device(Obstacle::Foreign));
+        return Err(FolderFault::Device(IoReason::Foreign));
     }
     let path = path_in(alloc, folder, entry.file_name())?;
     folders.push(path).map_err(AllocError::from)?;
@@ -42,7 +42,7 @@ fn push_folder<R: Files>(
 fn push_folders<R: Files<File = File> + AllocGlobal + Clone + Drop>(
     system: &mut HostSystem<R>,
     alloc: Global,
-    trail: &mut Trail,
+    open_folders: &mut OpenFolders,
     folder: &str,
     folders: &mut Vec<String>,
 ) -> Result<(), FolderFault>
@@ -50,11 +50,13 @@ fn push_folders<R: Files<File = File> + AllocGlobal + Clone + Drop>(
     ensures changes { ⟦<HostSystem<R> as System>⟧.changes system.new ≡ ⟦<HostSystem<R> as System>⟧.changes system.old }
     ensures still { ⟦<HostSystem<R> as System>⟧.folders system.new ≡ ⟦<HostSystem<R> as System>⟧.folders system.old }
     ensures earlier { ⟦<HostSystem<R> as System>⟧.honest system.new → ⟦<HostSystem<R> as System>⟧.honest system.old }
-    ensures opened { AreOpenedIf (⟦<HostSystem<R> as System>⟧.honest system.old) (⟦<HostSystem<R> as System>⟧.folders system.old) trail.old
-        → AreOpenedIf (⟦<HostSystem<R> as System>⟧.honest system.new) (⟦<HostSystem<R> as System>⟧.folders system.new) trail.new }
+    ensures opened { AreOpenedIf (⟦<HostSystem<R> as System>⟧.honest system.old)
+        (⟦<HostSystem<R> as System>⟧.folders system.old) open_folders.old
+        → AreOpenedIf (⟦<HostSystem<R> as System>⟧.honest system.new)
+        (⟦<HostSystem<R> as System>⟧.folders system.new) open_folders.new }
 {
-    trail.enter_seen(system, alloc, folder)?;
-    for entry in fs::read_dir(system.rt(), trail.current()?.path())? {
+    open_folders.enter_seen(system, alloc, folder)?;
+    for entry in fs::read_dir(system.rt(), open_folders.current()?.path())? {
         push_folder(alloc, folder, &entry?, folders)?;
     }
     Ok(())
@@ -64,15 +66,17 @@ fn push_folders<R: Files<File = File> + AllocGlobal + Clone + Drop>(
 fn folders_below<R: Files<File = File> + AllocGlobal + Clone + Drop>(
     system: &mut HostSystem<R>,
     alloc: Global,
-    trail: &mut Trail,
+    open_folders: &mut OpenFolders,
     folder: &str,
 ) -> Result<Vec<String>, FolderFault>
     ensures kept { ⟦<HostSystem<R> as System>⟧.holds system.new ≡ ⟦<HostSystem<R> as System>⟧.holds system.old }
     ensures changes { ⟦<HostSystem<R> as System>⟧.changes system.new ≡ ⟦<HostSystem<R> as System>⟧.changes system.old }
     ensures still { ⟦<HostSystem<R> as System>⟧.folders system.new ≡ ⟦<HostSystem<R> as System>⟧.folders system.old }
     ensures earlier { ⟦<HostSystem<R> as System>⟧.honest system.new → ⟦<HostSystem<R> as System>⟧.honest system.old }
-    ensures opened { AreOpenedIf (⟦<HostSystem<R> as System>⟧.honest system.old) (⟦<HostSystem<R> as System>⟧.folders system.old) trail.old
-        → AreOpenedIf (⟦<HostSystem<R> as System>⟧.honest system.new) (⟦<HostSystem<R> as System>⟧.folders system.new) trail.new }
+    ensures opened { AreOpenedIf (⟦<HostSystem<R> as System>⟧.honest system.old)
+        (⟦<HostSystem<R> as System>⟧.folders system.old) open_folders.old
+        → AreOpenedIf (⟦<HostSystem<R> as System>⟧.honest system.new)
+        (⟦<HostSystem<R> as System>⟧.folders system.new) open_folders.new }
 {
     let mut folders = Vec::new(alloc);
     push_text(alloc, &mut folders, folder)?;
@@ -81,9 +85,9 @@ fn folders_below<R: Files<File = File> + AllocGlobal + Clone + Drop>(
             return Ok(folders);
         };
         let folder = String::from_str(alloc, folder.as_str())?;
-        push_folders(system, alloc, trail, folder.as_str(), &mut folders)?;
+        push_folders(system, alloc, open_folders, folder.as_str(), &mut folders)?;
     }
-    Err(FolderFault::Device(Obstacle::TooManyNames))
+    Err(FolderFault::Device(IoReason::TooManyNames))
 }
 
 /// Removes the folder and those below it. Where anything but folders lies in one, nothing is
@@ -91,21 +95,23 @@ fn folders_below<R: Files<File = File> + AllocGlobal + Clone + Drop>(
 pub fn remove_folders<R: Files<File = File> + AllocGlobal + Clone + Drop>(
     system: &mut HostSystem<R>,
     alloc: Global,
-    trail: &mut Trail,
+    open_folders: &mut OpenFolders,
     folder: &str,
 ) -> Result<(), FolderFault>
     ensures kept { ⟦<HostSystem<R> as System>⟧.holds system.new ≡ ⟦<HostSystem<R> as System>⟧.holds system.old }
     ensures changes { ⟦<HostSystem<R> as System>⟧.changes system.new ≡ ⟦<HostSystem<R> as System>⟧.changes system.old }
     ensures earlier { ⟦<HostSystem<R> as System>⟧.honest system.new → ⟦<HostSystem<R> as System>⟧.honest system.old }
-    ensures opened { AreOpenedIf (⟦<HostSystem<R> as System>⟧.honest system.old) (⟦<HostSystem<R> as System>⟧.folders system.old) trail.old
-        → AreOpenedIf (⟦<HostSystem<R> as System>⟧.honest system.new) (⟦<HostSystem<R> as System>⟧.folders system.new) trail.new }
+    ensures opened { AreOpenedIf (⟦<HostSystem<R> as System>⟧.honest system.old)
+        (⟦<HostSystem<R> as System>⟧.folders system.old) open_folders.old
+        → AreOpenedIf (⟦<HostSystem<R> as System>⟧.honest system.new)
+        (⟦<HostSystem<R> as System>⟧.folders system.new) open_folders.new }
 {
-    let folders = folders_below(system, alloc, trail, folder)?;
+    let folders = folders_below(system, alloc, open_folders, folder)?;
     for folder in folders.iter().rev() {
         let (above, name) = folder_and_name(folder.as_str());
-        trail.enter_seen(system, alloc, above)?;
-        let removed = system.remove_folder(trail.current()?, name);
-        trail.close();
+        open_folders.enter_seen(system, alloc, above)?;
+        let removed = system.remove_folder(open_folders.current()?, name);
+        open_folders.close();
         removed?;
     }
     Ok(())

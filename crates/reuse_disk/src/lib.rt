@@ -1,8 +1,9 @@
 //! What a folder as a store is made of: the folders that are open below a root, listings, new files
 //! and syncs.
 //!
-//! A folder is opened through the one above it, and no link is followed. A file is written aside,
-//! synced and renamed. Tested by `closed_folders.sh`, `races.sh`, `syncs.sh`, `owners.sh` and
+//! A folder is opened through the one above it, and no link is followed. A file is written to a
+//! temporary file, synced and renamed. Tested by `closed_folders.sh`, `races.sh`, `syncs.sh`,
+//! `owners.sh` and
 //! `fail_system_calls.sh` in `tests/`.
 #![tactic(auto)]
 
@@ -10,12 +11,12 @@ mod empty_folders;
 mod listing;
 mod made_folder;
 mod new_file;
-mod origin;
+mod open_folders;
+mod start_folder;
 mod syncs;
-mod trail;
 
 pub use empty_folders::remove_folders;
 pub use listing::{Listing, list_below};
-pub use new_file::{Content, NewFile, Target, Wanted, name_aside, remove_seen};
+pub use new_file::{Content, NewFile, Target, Wanted, name_temp_file, remove_seen};
+pub use open_folders::OpenFolders;
 pub use syncs::Unsynced;
-pub use trail::Trail;

@@ -3,14 +3,14 @@ ghost use Rattle.std.specs.Prelude.{◌≡◌, All, false};
 ghost use Rattle.std.specs.List.Sorted.{IsSorted};
 ghost use Rattle.std.specs.Ordering.{nat_cmp};
 ghost use Rattle.std.specs.Cmp.Lexicographic.{slice_cmp};
-ghost use Rattle.reuse_system.specs.KeptOut.{is_kept_out};
-ghost use Rattle.reuse_disk.specs.Trails.{AreOpenedIf};
+ghost use Rattle.reuse_system.specs.Ignored.{is_ignored};
+ghost use Rattle.reuse_disk.specs.OpenFolders.{AreOpenedIf};
 
 use crate::empty_folders::path_in;
-use crate::trail::Trail;
+use crate::open_folders::OpenFolders;
 use reuse_change::{NoPruning, PathText, Pruning};
-use reuse_system::fault::{FolderFault, Obstacle};
-use reuse_system::kept_out::{is_folder_kept_out, is_kept_out};
+use reuse_system::fault::{FolderFault, IoReason};
+use reuse_system::ignored::{is_folder_ignored, is_ignored};
 use reuse_system::system::{HostSystem, System};
 use std::alloc::{AllocError, Global};
 use std::fs::{self, DirEntry, File};
@@ -34,7 +34,7 @@ pub struct Listing<'a, P: Pruning> {
     files: Vec<PathText>,
     // The folders that were found and pruned.
     passed: Vec<String>,
-    ghost in_tree: { All (λ path. is_kept_out path ≡ false) files.items },
+    ghost in_tree: { All (λ path. is_ignored path ≡ false) files.items },
 }
 
 impl<'a, P: Pruning> Listing<'a, P> {
@@ -53,7 +53,7 @@ impl<'a, P: Pruning> Listing<'a, P> {
     /// One that is no part of the tree, or is pruned, is passed over.
     pub fn take_folder(&mut self, alloc: Global, folder: &str) -> Result<(), FolderFault> {
         if !folder.is_empty() {
-            if is_folder_kept_out(folder) {
+            if is_folder_ignored(folder) {
                 return Ok(());
             }
             if self.passes_over(folder) {
@@ -67,7 +67,7 @@ impl<'a, P: Pruning> Listing<'a, P> {
 
     /// Takes in a regular file.
     pub fn take_file(&mut self, alloc: Global, text: &str) -> Result<(), FolderFault> {
-        if !is_kept_out(text) {
+        if !is_ignored(text) {
             let path = PathText::new(alloc, text)?;
             self.files.push(path).map_err(AllocError::from)?;
         }
@@ -91,7 +91,7 @@ impl<'a, P: Pruning> Listing<'a, P> {
         entry: &DirEntry<R>,
     ) -> Result<(), FolderFault> {
         if self.names >= MOST_NAMES {
-            return Err(FolderFault::Device(Obstacle::TooManyNames));
+            return Err(FolderFault::Device(IoReason::TooManyNames));
         }
         self.names += 1;
         let metadata = entry.metadata()?;
@@ -109,20 +109,25 @@ impl<'a, P: Pruning> Listing<'a, P> {
         &mut self,
         system: &mut HostSystem<R>,
         alloc: Global,
-        trail: &mut Trail,
+        open_folders: &mut OpenFolders,
         folder: &str,
     ) -> Result<(), FolderFault>
         ensures kept { ⟦<HostSystem<R> as System>⟧.holds system.new ≡ ⟦<HostSystem<R> as System>⟧.holds system.old }
-        ensures changes { ⟦<HostSystem<R> as System>⟧.changes system.new ≡ ⟦<HostSystem<R> as System>⟧.changes system.old }
-        ensures still { ⟦<HostSystem<R> as System>⟧.folders system.new ≡ ⟦<HostSystem<R> as System>⟧.folders system.old }
-        ensures earlier { ⟦<HostSystem<R> as System>⟧.honest system.new → ⟦<HostSystem<R> as System>⟧.honest system.old }
-        ensures opened { AreOpenedIf (⟦<HostSystem<R> as System>⟧.honest system.old) (⟦<HostSystem<R> as System>⟧.folders system.old) trail.old
-            → AreOpenedIf (⟦<HostSystem<R> as System>⟧.honest system.new) (⟦<HostSystem<R> as System>⟧.folders system.new) trail.new }
+        ensures changes { ⟦<HostSystem<R> as System>⟧.changes system.new
+            ≡ ⟦<HostSystem<R> as System>⟧.changes system.old }
+        ensures still { ⟦<HostSystem<R> as System>⟧.folders system.new
+            ≡ ⟦<HostSystem<R> as System>⟧.folders system.old }
+        ensures earlier { ⟦<HostSystem<R> as System>⟧.honest system.new
+            → ⟦<HostSystem<R> as System>⟧.honest system.old }
+        ensures opened { AreOpenedIf (⟦<HostSystem<R> as System>⟧.honest system.old)
+            (⟦<HostSystem<R> as System>⟧.folders system.old) open_folders.old
+            → AreOpenedIf (⟦<HostSystem<R> as System>⟧.honest system.new)
+            (⟦<HostSystem<R> as System>⟧.folders system.new) open_folders.new }
     {
-        if !trail.enter_listed(system, alloc, folder)? {
+        if !open_folders.enter_listed(system, alloc, folder)? {
             return Ok(());
         }
-        for entry in fs::read_dir(system.rt(), trail.current()?.path())? {
+        for entry in fs::read_dir(system.rt(), open_folders.current()?.path())? {
             self.take(alloc, folder, &entry?)?;
         }
         Ok(())
@@ -134,32 +139,37 @@ impl<'a, P: Pruning> Listing<'a, P> {
         &mut self,
         system: &mut HostSystem<R>,
         alloc: Global,
-        trail: &mut Trail,
+        open_folders: &mut OpenFolders,
         last: &mut String,
     ) -> Result<(), FolderFault>
         ensures kept { ⟦<HostSystem<R> as System>⟧.holds system.new ≡ ⟦<HostSystem<R> as System>⟧.holds system.old }
-        ensures changes { ⟦<HostSystem<R> as System>⟧.changes system.new ≡ ⟦<HostSystem<R> as System>⟧.changes system.old }
-        ensures still { ⟦<HostSystem<R> as System>⟧.folders system.new ≡ ⟦<HostSystem<R> as System>⟧.folders system.old }
-        ensures earlier { ⟦<HostSystem<R> as System>⟧.honest system.new → ⟦<HostSystem<R> as System>⟧.honest system.old }
-        ensures opened { AreOpenedIf (⟦<HostSystem<R> as System>⟧.honest system.old) (⟦<HostSystem<R> as System>⟧.folders system.old) trail.old
-            → AreOpenedIf (⟦<HostSystem<R> as System>⟧.honest system.new) (⟦<HostSystem<R> as System>⟧.folders system.new) trail.new }
+        ensures changes { ⟦<HostSystem<R> as System>⟧.changes system.new
+            ≡ ⟦<HostSystem<R> as System>⟧.changes system.old }
+        ensures still { ⟦<HostSystem<R> as System>⟧.folders system.new
+            ≡ ⟦<HostSystem<R> as System>⟧.folders system.old }
+        ensures earlier { ⟦<HostSystem<R> as System>⟧.honest system.new
+            → ⟦<HostSystem<R> as System>⟧.honest system.old }
+        ensures opened { AreOpenedIf (⟦<HostSystem<R> as System>⟧.honest system.old)
+            (⟦<HostSystem<R> as System>⟧.folders system.old) open_folders.old
+            → AreOpenedIf (⟦<HostSystem<R> as System>⟧.honest system.new)
+            (⟦<HostSystem<R> as System>⟧.folders system.new) open_folders.new }
     {
         for _ in 0..=MOST_NAMES {
             match self.next_folder() {
                 Some(folder) => {
                     *last = folder;
-                    self.look_into(system, alloc, trail, last.as_str())?;
+                    self.look_into(system, alloc, open_folders, last.as_str())?;
                 }
                 None => return Ok(()),
             }
         }
-        Err(FolderFault::Device(Obstacle::TooManyNames))
+        Err(FolderFault::Device(IoReason::TooManyNames))
     }
 
     /// The files that were found, in byte order, and the folders that were pruned.
     pub fn into_found(self) -> (Vec<PathText>, Vec<String>)
         ensures sorted { IsSorted (slice_cmp nat_cmp) result.0.items }
-        ensures kept_out { All (λ path. is_kept_out path ≡ false) result.0.items }
+        ensures ignored { All (λ path. is_ignored path ≡ false) result.0.items }
     {
         let mut files = self.files;
         files.sort_unstable();
@@ -172,7 +182,7 @@ impl<'a, P: Pruning> Listing<'a, P> {
 pub fn list_below<R: Files<File = File> + AllocGlobal + Clone + Drop>(
     system: &mut HostSystem<R>,
     alloc: Global,
-    trail: &mut Trail,
+    open_folders: &mut OpenFolders,
     folder: &str,
     last: &mut String,
 ) -> Result<Vec<PathText>, FolderFault>
@@ -180,12 +190,14 @@ pub fn list_below<R: Files<File = File> + AllocGlobal + Clone + Drop>(
     ensures changes { ⟦<HostSystem<R> as System>⟧.changes system.new ≡ ⟦<HostSystem<R> as System>⟧.changes system.old }
     ensures still { ⟦<HostSystem<R> as System>⟧.folders system.new ≡ ⟦<HostSystem<R> as System>⟧.folders system.old }
     ensures earlier { ⟦<HostSystem<R> as System>⟧.honest system.new → ⟦<HostSystem<R> as System>⟧.honest system.old }
-    ensures opened { AreOpenedIf (⟦<HostSystem<R> as System>⟧.honest system.old) (⟦<HostSystem<R> as System>⟧.folders system.old) trail.old
-        → AreOpenedIf (⟦<HostSystem<R> as System>⟧.honest system.new) (⟦<HostSystem<R> as System>⟧.folders system.new) trail.new }
+    ensures opened { AreOpenedIf (⟦<HostSystem<R> as System>⟧.honest system.old)
+        (⟦<HostSystem<R> as System>⟧.folders system.old) open_folders.old
+        → AreOpenedIf (⟦<HostSystem<R> as System>⟧.honest system.new)
+        (⟦<HostSystem<R> as System>⟧.folders system.new) open_folders.new }
 {
     let mut listing = Listing::new(alloc, &NoPruning);
     listing.take_folder(alloc, folder)?;
-    listing.walk(system, alloc, trail, last)?;
+    listing.walk(system, alloc, open_folders, last)?;
     let (paths, _) = listing.into_found();
     Ok(paths)
 }

@@ -22,7 +22,8 @@ pub fn open_made_by_root<R: Files<File = File> + AllocGlobal + Clone + Drop>(
     ensures still { ⟦<HostSystem<R> as System>⟧.folders system.new ≡ ⟦<HostSystem<R> as System>⟧.folders system.old }
     ensures earlier { ⟦<HostSystem<R> as System>⟧.honest system.new → ⟦<HostSystem<R> as System>⟧.honest system.old }
     ensures opened { ⟦<HostSystem<R> as System>⟧.honest system.new
-        → IsOpenedBelow (⟦<HostSystem<R> as System>⟧.folders system.new) (⟦<HostSystem<R> as System>⟧.holds system.new) above.now.identity name.now result }
+        → IsOpenedBelow (⟦<HostSystem<R> as System>⟧.folders system.new)
+        (⟦<HostSystem<R> as System>⟧.holds system.new) above.now.identity name.now result }
 {
     let below = system.open_below(alloc, above, name)?;
     if let Below::Folder(folder) = &below

@@ -1,24 +1,25 @@
-//! Writing a file as a whole or not at all: a new one is written aside, and its data is synced
-//! before it is given its name.
+//! Writing a file as a whole or not at all: a new one is written to a temporary file, and its data
+//! is synced before it is given its name.
 ghost use Rattle.std.specs.Prelude.{◌≡◌, ℕ, Bool, List, MatchResult, None, Some, false, is_ok, IfOk};
 ghost use Rattle.reuse_change.specs.Parts.{joined};
 ghost use Rattle.reuse_system.specs.NameChanges.{IsExpected, IsGuarded, OnlyChanges};
-ghost use Rattle.reuse_system.specs.SystemLaws.{IsAlikeBut, IsAlikeButFile, IsAlikeUnless, IsFilled, IsRemoved, IsRenamed, MayBeRenamed};
-ghost use Rattle.reuse_system.specs.Asides.{name_in, place_of, key_of, IsNewIn, IsNewPlace};
+ghost use Rattle.reuse_system.specs.SystemLaws.{IsAlikeBut, IsAlikeButFile, IsAlikeUnless, IsFilled, IsRemoved};
+ghost use Rattle.reuse_system.specs.SystemLaws.{IsRenamed, MayBeRenamed};
+ghost use Rattle.reuse_system.specs.TempFiles.{name_in, place_of, key_of, IsNewIn, IsNewPlace};
 ghost use Rattle.reuse_system.specs.FileStates.{file};
 ghost use Rattle.reuse_disk.specs.Written.{StandsAlone, IsWritten, is_kept, is_named};
 
 use crate::syncs::Unsynced;
-use reuse_change::Parts;
+use reuse_change::Pieces;
 use reuse_change::layout::NEW;
-use reuse_system::fault::{FolderFault, Obstacle};
+use reuse_system::fault::{FolderFault, IoReason};
 use reuse_system::handle::OpenFolder;
-use reuse_system::kept_out::is_in_journal;
+use reuse_system::ignored::is_in_journal;
 use reuse_system::new_name::{NewName, beside_name};
 use reuse_system::owner::{Owner, Process};
 use reuse_system::parts_writer::write_parts;
 use reuse_system::place::{FileStatus, Found, folder_and_name};
-use reuse_system::system::{Aside, System};
+use reuse_system::system::{System, TempFile};
 use std::alloc::Global;
 use std::io::{self, ErrorKind};
 
@@ -36,7 +37,7 @@ pub struct Wanted<'a> {
 #[derive(Clone, Copy)]
 pub struct Content<'a> {
     /// The bytes, in parts.
-    pub parts: Parts<'a>,
+    pub parts: Pieces<'a>,
     /// Whose it is to be.
     pub wanted: Wanted<'a>,
     /// The file that it replaces, if there is one.
@@ -82,13 +83,14 @@ fn make<S: System>(
     folder: &OpenFolder,
     name: &str,
     mode: Option<u32>,
-) -> io::Result<Aside>
-    ensures made { IfOk result (λ aside. (place_of aside ≡ name_in folder.now name.now)
-        × StandsAlone (place_of aside) (key_of aside) (S.holds system.new)) }
+) -> io::Result<TempFile>
+    ensures made { IfOk result (λ temp_file. (place_of temp_file ≡ name_in folder.now name.now)
+        × StandsAlone (place_of temp_file) (key_of temp_file) (S.holds system.new)) }
     ensures others { IsAlikeBut (name_in folder.now name.now) (S.holds system.old) (S.holds system.new) }
     ensures still { S.folders system.new ≡ S.folders system.old }
     ensures earlier { S.honest system.new → S.honest system.old }
-    ensures changes { OnlyChanges (λ place. place ≡ name_in folder.now name.now) (S.changes system.old) (S.changes system.new) }
+    ensures changes { OnlyChanges (λ place. place ≡ name_in folder.now name.now) (S.changes system.old)
+        (S.changes system.new) }
 {
     match system.make(folder, name, mode) {
         Err(error) if error.kind() == ErrorKind::AlreadyExists => {
@@ -111,11 +113,11 @@ fn check_found(found: Found, seen: Option<FileStatus>) -> Result<(), FolderFault
     if is_same {
         Ok(())
     } else {
-        Err(FolderFault::Device(Obstacle::Changing))
+        Err(FolderFault::Device(IoReason::Changing))
     }
 }
 
-/// Whether this tells that the file system has no links, or that this one may not be made.
+/// Whether this reports that the file system has no links, or that this one may not be made.
 fn is_without_links(error: &io::Error) -> bool {
     matches!(
         error.kind(),
@@ -123,74 +125,83 @@ fn is_without_links(error: &io::Error) -> bool {
     )
 }
 
-/// Gives the file aside the name of the target, if that stands directly before as it was seen.
+/// Gives the temporary file the name of the target, if that stands directly before as it was seen.
 fn replace<S: System>(
     system: &mut S,
-    aside: &Aside,
+    temp_file: &TempFile,
     target: Target<'_>,
     seen: Option<FileStatus>,
 ) -> Result<(), FolderFault>
     ensures renamed { MatchResult result
-        (λ _. IsRenamed (place_of aside.now) (name_in target.entry.folder.now target.entry.name.now) (S.holds system.old) (S.holds system.new))
-        (λ _. MayBeRenamed (place_of aside.now) (name_in target.entry.folder.now target.entry.name.now) (S.holds system.old) (S.holds system.new)) }
-    ensures guarded { IsGuarded (λ place. place ≡ place_of aside.now) (name_in target.entry.folder.now target.entry.name.now) seen
+        (λ _. IsRenamed (place_of temp_file.now) (name_in target.entry.folder.now target.entry.name.now)
+        (S.holds system.old) (S.holds system.new))
+        (λ _. MayBeRenamed (place_of temp_file.now) (name_in target.entry.folder.now target.entry.name.now)
+        (S.holds system.old) (S.holds system.new)) }
+    ensures guarded { IsGuarded (λ place. place ≡ place_of temp_file.now)
+        (name_in target.entry.folder.now target.entry.name.now) seen
         (S.changes system.old) (S.changes system.new) (S.holds system.old) (S.holds system.new) }
     ensures still { S.folders system.new ≡ S.folders system.old }
     ensures earlier { S.honest system.new → S.honest system.old }
 {
     let found = system.look(target.folder, target.name)?;
     check_found(found, seen)?;
-    Ok(system.rename(aside, target.folder, target.name)?)
+    Ok(system.rename(temp_file, target.folder, target.name)?)
 }
 
-/// Gives the file aside the name of the target, which nothing has: by a link, which takes no name
-/// that is there. If there are no links, the name is looked at.
+/// Gives the temporary file the name of the target, which nothing has: by a link, which takes no
+/// name that is there. If there are no links, the name is looked at.
 fn take_name<S: System>(
     system: &mut S,
-    aside: &Aside,
+    temp_file: &TempFile,
     target: Target<'_>,
 ) -> Result<(), FolderFault>
     ensures renamed { MatchResult result
-        (λ _. IsRenamed (place_of aside.now) (name_in target.entry.folder.now target.entry.name.now) (S.holds system.old) (S.holds system.new))
-        (λ _. MayBeRenamed (place_of aside.now) (name_in target.entry.folder.now target.entry.name.now) (S.holds system.old) (S.holds system.new)) }
-    ensures guarded { IsGuarded (λ place. place ≡ place_of aside.now) (name_in target.entry.folder.now target.entry.name.now) None
+        (λ _. IsRenamed (place_of temp_file.now) (name_in target.entry.folder.now target.entry.name.now)
+        (S.holds system.old) (S.holds system.new))
+        (λ _. MayBeRenamed (place_of temp_file.now) (name_in target.entry.folder.now target.entry.name.now)
+        (S.holds system.old) (S.holds system.new)) }
+    ensures guarded { IsGuarded (λ place. place ≡ place_of temp_file.now)
+        (name_in target.entry.folder.now target.entry.name.now) None
         (S.changes system.old) (S.changes system.new) (S.holds system.old) (S.holds system.new) }
     ensures still { S.folders system.new ≡ S.folders system.old }
     ensures earlier { S.honest system.new → S.honest system.old }
 {
-    match system.link(aside, target.folder, target.name) {
+    match system.link(temp_file, target.folder, target.name) {
         Ok(()) => {
-            system.discard(aside);
+            system.discard(temp_file);
             Ok(())
         }
         Err(error) if error.kind() == ErrorKind::AlreadyExists => {
-            Err(FolderFault::Device(Obstacle::Changing))
+            Err(FolderFault::Device(IoReason::Changing))
         }
-        Err(error) if is_without_links(&error) => replace(system, aside, target, None),
+        Err(error) if is_without_links(&error) => replace(system, temp_file, target, None),
         Err(error) => Err(error.into()),
     }
 }
 
-/// Gives the file aside the name of the target, if what was seen there still stands there: a file,
-/// or nothing. Nobody else makes files of the journal, so those need no link.
+/// Gives the temporary file the name of the target, if what was seen there still stands there: a
+/// file, or nothing. Nobody else makes files of the journal, so those need no link.
 fn give_name<S: System>(
     system: &mut S,
-    aside: &Aside,
+    temp_file: &TempFile,
     target: Target<'_>,
     seen: Option<FileStatus>,
 ) -> Result<(), FolderFault>
     ensures renamed { MatchResult result
-        (λ _. IsRenamed (place_of aside.now) (name_in target.entry.folder.now target.entry.name.now) (S.holds system.old) (S.holds system.new))
-        (λ _. MayBeRenamed (place_of aside.now) (name_in target.entry.folder.now target.entry.name.now) (S.holds system.old) (S.holds system.new)) }
-    ensures guarded { IsGuarded (λ place. place ≡ place_of aside.now) (name_in target.entry.folder.now target.entry.name.now) seen
+        (λ _. IsRenamed (place_of temp_file.now) (name_in target.entry.folder.now target.entry.name.now)
+        (S.holds system.old) (S.holds system.new))
+        (λ _. MayBeRenamed (place_of temp_file.now) (name_in target.entry.folder.now target.entry.name.now)
+        (S.holds system.old) (S.holds system.new)) }
+    ensures guarded { IsGuarded (λ place. place ≡ place_of temp_file.now)
+        (name_in target.entry.folder.now target.entry.name.now) seen
         (S.changes system.old) (S.changes system.new) (S.holds system.old) (S.holds system.new) }
     ensures still { S.folders system.new ≡ S.folders system.old }
     ensures earlier { S.honest system.new → S.honest system.old }
 {
     if seen.is_some() || is_in_journal(target.path) {
-        replace(system, aside, target, seen)
+        replace(system, temp_file, target, seen)
     } else {
-        take_name(system, aside, target)
+        take_name(system, temp_file, target)
     }
 }
 
@@ -201,8 +212,10 @@ pub fn remove_seen<S: System>(
     seen: FileStatus,
 ) -> Result<(), FolderFault>
     ensures removed { MatchResult result
-        (λ _. IsRemoved (name_in target.entry.folder.now target.entry.name.now) (S.holds system.old) (S.holds system.new))
-        (λ _. IsAlikeBut (name_in target.entry.folder.now target.entry.name.now) (S.holds system.old) (S.holds system.new)) }
+        (λ _. IsRemoved (name_in target.entry.folder.now target.entry.name.now) (S.holds system.old)
+        (S.holds system.new))
+        (λ _. IsAlikeBut (name_in target.entry.folder.now target.entry.name.now) (S.holds system.old)
+        (S.holds system.new)) }
     ensures guarded { IsGuarded (λ _. ⊥) (name_in target.entry.folder.now target.entry.name.now) (Some seen)
         (S.changes system.old) (S.changes system.new) (S.holds system.old) (S.holds system.new) }
     ensures still { S.folders system.new ≡ S.folders system.old }
@@ -229,17 +242,17 @@ impl NewFile {
 
     /// Gives these bits to a file that was created with them here. It lacks those that the user's
     /// mask takes away; a mode that was granted once is granted again.
-    fn set_mode(&mut self, aside: &Aside, mode: u32) -> io::Result<()>
+    fn set_mode(&mut self, temp_file: &TempFile, mode: u32) -> io::Result<()>
         ensures { self.new.folder ≡ self.old.folder }
     {
         if self.granted == Some(mode) {
             return Ok(());
         }
-        if aside.mode()? == mode {
+        if temp_file.mode()? == mode {
             self.granted = Some(mode);
             return Ok(());
         }
-        aside.set_mode(mode)
+        temp_file.set_mode(mode)
     }
 
     /// Whose the file is that was written last.
@@ -249,12 +262,12 @@ impl NewFile {
 
     /// Gives a file that was created here to the owner that it is to have, as far as may be.
     /// Nothing is written to it before, so nobody reads what he may not.
-    fn keep_owner(&mut self, aside: &Aside, wanted: Wanted<'_>) -> io::Result<()>
+    fn keep_owner(&mut self, temp_file: &TempFile, wanted: Wanted<'_>) -> io::Result<()>
         ensures { self.new.folder ≡ self.old.folder }
     {
         let made = match self.made {
             Some(made) => made,
-            None => aside.owner()?,
+            None => temp_file.owner()?,
         };
         self.made = Some(made);
         let owner = wanted.process.kept_owner(wanted.owner, made);
@@ -264,37 +277,38 @@ impl NewFile {
         }
         let user = (owner.user != made.user).then_some(owner.user);
         let group = (owner.group != made.group).then_some(owner.group);
-        aside.give_to(user, group)
+        temp_file.give_to(user, group)
     }
 
     /// Writes the content to a file that was created with its bits.
     fn fill<S: System>(
         &mut self,
         system: &mut S,
-        aside: &Aside,
+        temp_file: &TempFile,
         content: Content<'_>,
     ) -> io::Result<()>
         ensures folder { self.new.folder ≡ self.old.folder }
         ensures filled { MatchResult result
-            (λ _. IsFilled (key_of aside.now) (joined content.entry.parts) false (S.holds system.old) (S.holds system.new))
-            (λ _. IsAlikeButFile (key_of aside.now) (S.holds system.old) (S.holds system.new)) }
+            (λ _. IsFilled (key_of temp_file.now) (joined content.entry.parts) false (S.holds system.old)
+            (S.holds system.new))
+            (λ _. IsAlikeButFile (key_of temp_file.now) (S.holds system.old) (S.holds system.new)) }
         ensures still { S.folders system.new ≡ S.folders system.old }
         ensures earlier { S.honest system.new → S.honest system.old }
         ensures changes { S.changes system.new ≡ S.changes system.old }
     {
-        self.keep_owner(aside, content.wanted)?;
-        write_parts(system, aside, &mut self.joined, content.parts)?;
+        self.keep_owner(temp_file, content.wanted)?;
+        write_parts(system, temp_file, &mut self.joined, content.parts)?;
         match content.mode() {
-            Some(mode) => self.set_mode(aside, mode),
+            Some(mode) => self.set_mode(temp_file, mode),
             None => Ok(()),
         }
     }
 
-    /// Writes the content to such a file, which is to get this path, and makes its data lasting.
+    /// Writes the content to such a file, which is to get this path, and makes its data durable.
     fn complete<S: System>(
         &mut self,
         system: &mut S,
-        aside: &Aside,
+        temp_file: &TempFile,
         path: &str,
         content: Content<'_>,
         unsynced: &mut Unsynced,
@@ -302,65 +316,71 @@ impl NewFile {
         ensures folder { self.new.folder ≡ self.old.folder }
         ensures syncs { unsynced.new.syncs ≡ unsynced.old.syncs }
         ensures filled { MatchResult result
-            (λ _. IsFilled (key_of aside.now) (joined content.entry.parts) (is_kept unsynced.old.syncs) (S.holds system.old) (S.holds system.new))
-            (λ _. IsAlikeButFile (key_of aside.now) (S.holds system.old) (S.holds system.new)) }
+            (λ _. IsFilled (key_of temp_file.now) (joined content.entry.parts) (is_kept unsynced.old.syncs)
+            (S.holds system.old) (S.holds system.new))
+            (λ _. IsAlikeButFile (key_of temp_file.now) (S.holds system.old) (S.holds system.new)) }
         ensures still { S.folders system.new ≡ S.folders system.old }
         ensures earlier { S.honest system.new → S.honest system.old }
         ensures changes { S.changes system.new ≡ S.changes system.old }
     {
-        self.fill(system, aside, content)?;
-        unsynced.sync_data(system, aside, path)
+        self.fill(system, temp_file, content)?;
+        unsynced.sync_data(system, temp_file, path)
     }
 
-    /// Writes the content to a file that stands aside, makes its data lasting, and gives it the
+    /// Writes the content to a temporary file, makes its data durable, and gives it the
     /// name of the target.
     fn put_in_place<S: System>(
         &mut self,
         system: &mut S,
-        aside: &Aside,
+        temp_file: &TempFile,
         target: Target<'_>,
         content: Content<'_>,
         unsynced: &mut Unsynced,
     ) -> Result<(), FolderFault>
         ensures folder { self.new.folder ≡ self.old.folder }
         ensures syncs { unsynced.new.syncs ≡ unsynced.old.syncs }
-        ensures written { StandsAlone (place_of aside.now) (key_of aside.now) (S.holds system.old)
-            → IsWritten (λ place. place ≡ place_of aside.now) (name_in target.entry.folder.now target.entry.name.now) (joined content.entry.parts)
+        ensures written { StandsAlone (place_of temp_file.now) (key_of temp_file.now) (S.holds system.old)
+            → IsWritten (λ place. place ≡ place_of temp_file.now)
+            (name_in target.entry.folder.now target.entry.name.now) (joined content.entry.parts)
             (is_kept unsynced.old.syncs) (S.holds system.old) (S.holds system.new) (is_ok result) }
         ensures still { S.folders system.new ≡ S.folders system.old }
         ensures earlier { S.honest system.new → S.honest system.old }
-        ensures guarded { StandsAlone (place_of aside.now) (key_of aside.now) (S.holds system.old)
-            → IsGuarded (λ place. place ≡ place_of aside.now) (name_in target.entry.folder.now target.entry.name.now) content.entry.found
+        ensures guarded { StandsAlone (place_of temp_file.now) (key_of temp_file.now) (S.holds system.old)
+            → IsGuarded (λ place. place ≡ place_of temp_file.now)
+            (name_in target.entry.folder.now target.entry.name.now) content.entry.found
             (S.changes system.old) (S.changes system.new) (S.holds system.old) (S.holds system.new) }
     {
-        self.complete(system, aside, target.path, content, unsynced)?;
-        give_name(system, aside, target, content.found)
+        self.complete(system, temp_file, target.path, content, unsynced)?;
+        give_name(system, temp_file, target, content.found)
     }
 
-    /// Does so, or removes the file aside.
+    /// Does so, or removes the temporary file.
     fn put_or_discard<S: System>(
         &mut self,
         system: &mut S,
-        aside: &Aside,
+        temp_file: &TempFile,
         target: Target<'_>,
         content: Content<'_>,
         unsynced: &mut Unsynced,
     ) -> Result<(), FolderFault>
         ensures folder { self.new.folder ≡ self.old.folder }
         ensures syncs { unsynced.new.syncs ≡ unsynced.old.syncs }
-        ensures written { StandsAlone (place_of aside.now) (key_of aside.now) (S.holds system.old)
-            → IsWritten (λ place. place ≡ place_of aside.now) (name_in target.entry.folder.now target.entry.name.now) (joined content.entry.parts)
+        ensures written { StandsAlone (place_of temp_file.now) (key_of temp_file.now) (S.holds system.old)
+            → IsWritten (λ place. place ≡ place_of temp_file.now)
+            (name_in target.entry.folder.now target.entry.name.now) (joined content.entry.parts)
             (is_kept unsynced.old.syncs) (S.holds system.old) (S.holds system.new) (is_ok result) }
         ensures still { S.folders system.new ≡ S.folders system.old }
         ensures earlier { S.honest system.new → S.honest system.old }
-        ensures guarded { StandsAlone (place_of aside.now) (key_of aside.now) (S.holds system.old)
-            → IsGuarded (λ place. place ≡ place_of aside.now) (name_in target.entry.folder.now target.entry.name.now) content.entry.found
+        ensures guarded { StandsAlone (place_of temp_file.now) (key_of temp_file.now) (S.holds system.old)
+            → IsGuarded (λ place. place ≡ place_of temp_file.now)
+            (name_in target.entry.folder.now target.entry.name.now) content.entry.found
             (S.changes system.old) (S.changes system.new) (S.holds system.old) (S.holds system.new) }
     {
-        let written = self.put_in_place(system, aside, target, content, unsynced);
+        let written = self.put_in_place(system, temp_file, target, content, unsynced);
         if written.is_err() {
-            // What is left of the new file is of no use, and a fault of its removal tells no more.
-            system.discard(aside);
+            // What is left of the new file is of no use, and a fault of its removal reports no
+            // more.
+            system.discard(temp_file);
         }
         written
     }
@@ -383,15 +403,17 @@ impl NewFile {
     ) -> Result<(), FolderFault>
         ensures folder { self.new.folder ≡ self.old.folder }
         ensures syncs { unsynced.new.syncs ≡ unsynced.old.syncs }
-        ensures written { IsWritten (IsNewPlace self.old.folder.identity target.entry.folder.now.identity) (name_in target.entry.folder.now target.entry.name.now) (joined content.entry.parts)
+        ensures written { IsWritten (IsNewPlace self.old.folder.identity target.entry.folder.now.identity)
+            (name_in target.entry.folder.now target.entry.name.now) (joined content.entry.parts)
             (is_kept unsynced.old.syncs) (S.holds system.old) (S.holds system.new) (is_ok result) }
         ensures still { S.folders system.new ≡ S.folders system.old }
         ensures earlier { S.honest system.new → S.honest system.old }
-        ensures guarded { IsGuarded (IsNewPlace self.old.folder.identity target.entry.folder.now.identity) (name_in target.entry.folder.now target.entry.name.now) content.entry.found
+        ensures guarded { IsGuarded (IsNewPlace self.old.folder.identity target.entry.folder.now.identity)
+            (name_in target.entry.folder.now target.entry.name.now) content.entry.found
             (S.changes system.old) (S.changes system.new) (S.holds system.old) (S.holds system.new) }
     {
-        let aside = make(system, &self.folder, NEW, content.mode())?;
-        self.put_or_discard(system, &aside, target, content, unsynced)
+        let temp_file = make(system, &self.folder, NEW, content.mode())?;
+        self.put_or_discard(system, &temp_file, target, content, unsynced)
     }
 
     /// Writes the content beside the file that it is to be, and gives it the name of that.
@@ -405,17 +427,19 @@ impl NewFile {
     ) -> Result<(), FolderFault>
         ensures folder { self.new.folder ≡ self.old.folder }
         ensures syncs { unsynced.new.syncs ≡ unsynced.old.syncs }
-        ensures written { IsWritten (IsNewPlace self.old.folder.identity target.entry.folder.now.identity) (name_in target.entry.folder.now target.entry.name.now) (joined content.entry.parts)
+        ensures written { IsWritten (IsNewPlace self.old.folder.identity target.entry.folder.now.identity)
+            (name_in target.entry.folder.now target.entry.name.now) (joined content.entry.parts)
             (is_kept unsynced.old.syncs) (S.holds system.old) (S.holds system.new) (is_ok result) }
         ensures still { S.folders system.new ≡ S.folders system.old }
         ensures earlier { S.honest system.new → S.honest system.old }
-        ensures guarded { IsGuarded (IsNewPlace self.old.folder.identity target.entry.folder.now.identity) (name_in target.entry.folder.now target.entry.name.now) content.entry.found
+        ensures guarded { IsGuarded (IsNewPlace self.old.folder.identity target.entry.folder.now.identity)
+            (name_in target.entry.folder.now target.entry.name.now) content.entry.found
             (S.changes system.old) (S.changes system.new) (S.holds system.old) (S.holds system.new) }
     {
         let name = beside_name(alloc, &self.folder)?;
-        let aside = make(system, target.folder, name.as_str(), content.mode())?;
+        let temp_file = make(system, target.folder, name.as_str(), content.mode())?;
         self.forget_granted();
-        let written = self.put_or_discard(system, &aside, target, content, unsynced);
+        let written = self.put_or_discard(system, &temp_file, target, content, unsynced);
         self.forget_granted();
         written
     }
@@ -433,15 +457,17 @@ impl NewFile {
     ) -> Result<(), FolderFault>
         ensures folder { self.new.folder ≡ self.old.folder }
         ensures syncs { unsynced.new.syncs ≡ unsynced.old.syncs }
-        ensures written { IsWritten (IsNewPlace self.old.folder.identity target.entry.folder.now.identity) (name_in target.entry.folder.now target.entry.name.now) (joined content.entry.parts)
+        ensures written { IsWritten (IsNewPlace self.old.folder.identity target.entry.folder.now.identity)
+            (name_in target.entry.folder.now target.entry.name.now) (joined content.entry.parts)
             (is_kept unsynced.old.syncs) (S.holds system.old) (S.holds system.new) (is_ok result) }
         ensures still { S.folders system.new ≡ S.folders system.old }
         ensures earlier { S.honest system.new → S.honest system.old }
-        ensures guarded { IsGuarded (IsNewPlace self.old.folder.identity target.entry.folder.now.identity) (name_in target.entry.folder.now target.entry.name.now) content.entry.found
+        ensures guarded { IsGuarded (IsNewPlace self.old.folder.identity target.entry.folder.now.identity)
+            (name_in target.entry.folder.now target.entry.name.now) content.entry.found
             (S.changes system.old) (S.changes system.new) (S.holds system.old) (S.holds system.new) }
     {
         match self.write_here(system, target, content, unsynced) {
-            Err(FolderFault::Device(Obstacle::System(error)))
+            Err(FolderFault::Device(IoReason::System(error)))
                 if error.kind() == ErrorKind::CrossesDevices => {
                 self.write_beside(system, alloc, target, content, unsynced)
             }
@@ -449,29 +475,29 @@ impl NewFile {
         }
     }
 
-    /// Writes the content aside, as the file of this number.
-    pub fn write_one_aside<S: System>(
+    /// Writes the content to the temporary file of this number.
+    pub fn write_one_temp_file<S: System>(
         &mut self,
         system: &mut S,
         alloc: Global,
         number: usize,
         content: Content<'_>,
-    ) -> Result<Aside, FolderFault>
+    ) -> Result<TempFile, FolderFault>
         ensures folder { self.new.folder ≡ self.old.folder }
-        ensures filled { IfOk result (λ aside. IsNewIn self.old.folder.identity (place_of aside)
-            × (S.holds system.new (place_of aside) ≡ file (key_of aside) (joined content.entry.parts) false)) }
+        ensures filled { IfOk result (λ temp_file. IsNewIn self.old.folder.identity (place_of temp_file)
+            × (S.holds system.new (place_of temp_file) ≡ file (key_of temp_file) (joined content.entry.parts) false)) }
         ensures others { IsAlikeUnless (IsNewIn self.old.folder.identity) (S.holds system.old) (S.holds system.new) }
         ensures still { S.folders system.new ≡ S.folders system.old }
         ensures earlier { S.honest system.new → S.honest system.old }
         ensures changes { OnlyChanges (IsNewIn self.old.folder.identity) (S.changes system.old) (S.changes system.new) }
     {
         let name = NewName::of_number(alloc, number)?;
-        let aside = make(system, &self.folder, name.as_str(), content.mode())?;
-        if let Err(error) = self.fill(system, &aside, content) {
-            system.discard(&aside);
+        let temp_file = make(system, &self.folder, name.as_str(), content.mode())?;
+        if let Err(error) = self.fill(system, &temp_file, content) {
+            system.discard(&temp_file);
             return Err(error.into());
         }
-        Ok(aside)
+        Ok(temp_file)
     }
 
     /// Removes what a stopped run has left of new files here, which have these names.
@@ -490,23 +516,25 @@ impl NewFile {
 
 /// Gives the new file the name of the target, if that stands as it was seen directly before and it
 /// lies on the same device: says whether it does.
-pub fn name_aside<S: System>(
+pub fn name_temp_file<S: System>(
     system: &mut S,
-    aside: &Aside,
+    temp_file: &TempFile,
     target: Target<'_>,
     seen: Option<FileStatus>,
 ) -> Result<bool, FolderFault>
-    ensures named { (bytes : List ℕ) → (is_lasting : Bool)
-        → S.holds system.old (place_of aside.now) ≡ file (key_of aside.now) bytes is_lasting
-        → IsWritten (λ place. place ≡ place_of aside.now) (name_in target.entry.folder.now target.entry.name.now) bytes is_lasting
+    ensures named { (bytes : List ℕ) → (is_durable : Bool)
+        → S.holds system.old (place_of temp_file.now) ≡ file (key_of temp_file.now) bytes is_durable
+        → IsWritten (λ place. place ≡ place_of temp_file.now)
+        (name_in target.entry.folder.now target.entry.name.now) bytes is_durable
         (S.holds system.old) (S.holds system.new) (is_named result) }
-    ensures guarded { IsGuarded (λ place. place ≡ place_of aside.now) (name_in target.entry.folder.now target.entry.name.now) seen
+    ensures guarded { IsGuarded (λ place. place ≡ place_of temp_file.now)
+        (name_in target.entry.folder.now target.entry.name.now) seen
         (S.changes system.old) (S.changes system.new) (S.holds system.old) (S.holds system.new) }
     ensures still { S.folders system.new ≡ S.folders system.old }
     ensures earlier { S.honest system.new → S.honest system.old }
 {
-    match give_name(system, aside, target, seen) {
-        Err(FolderFault::Device(Obstacle::System(error)))
+    match give_name(system, temp_file, target, seen) {
+        Err(FolderFault::Device(IoReason::System(error)))
             if error.kind() == ErrorKind::CrossesDevices => { Ok(false) }
         named => {
             named?;

@@ -1,4 +1,4 @@
-//! Making lasting what was written, so that it outlives a loss of power. The data of a new file is
+//! Making durable what was written, so that it outlives a loss of power. The data of a new file is
 //! synced before the file is given its name. Which folders got or lost a name is noted, and a
 //! barrier syncs each of them once. The system reports a fault of a sync once, and may then drop
 //! what it could not write: so a store whose sync has failed believes no later one.
@@ -6,36 +6,36 @@ ghost use Rattle.std.specs.Prelude.{◌≡◌, IfErr, IfSome, IsOk, MatchResult,
 ghost use Rattle.std.specs.BTreeSet.{IsEmpty};
 ghost use Rattle.std.specs.Option.{unwrap_or};
 ghost use Rattle.reuse_system.specs.SystemLaws.{IsAlikeButFile};
-ghost use Rattle.reuse_system.specs.Asides.{key_of};
-ghost use Rattle.reuse_disk.specs.Trails.{AreOpenedIf};
+ghost use Rattle.reuse_system.specs.TempFiles.{key_of};
+ghost use Rattle.reuse_disk.specs.OpenFolders.{AreOpenedIf};
 ghost use Rattle.reuse_disk.specs.Written.{IsSyncedIf, is_kept};
 ghost use Rattle.reuse_system.specs.declared.fault.FolderFault.TheVariants.{Device};
-ghost use Rattle.reuse_system.specs.declared.fault.Obstacle.{Obstacle};
-ghost use Rattle.reuse_system.specs.declared.fault.Obstacle.TheVariants.{System};
+ghost use Rattle.reuse_system.specs.declared.fault.IoReason.{IoReason};
+ghost use Rattle.reuse_system.specs.declared.fault.IoReason.TheVariants.{System};
 
-use crate::trail::Trail;
+use crate::open_folders::OpenFolders;
 use reuse_change::Change;
 use reuse_change::layout::JOURNAL;
-use reuse_system::fault::{FolderFault, Obstacle};
+use reuse_system::fault::{FolderFault, IoReason};
 use reuse_system::place::folder_and_name;
 use reuse_system::syncs::Syncs;
-use reuse_system::system::{Aside, System};
+use reuse_system::system::{System, TempFile};
 use std::alloc::{AllocError, Global};
 use std::collections::BTreeSet;
 use std::io;
 
-/// What the next barrier has to make lasting.
+/// What the next barrier has to make durable.
 #[derive(Drop)]
 pub struct Unsynced {
     syncs: Syncs,
     /// The folders that got or lost a name since the last barrier; the root is empty.
     folders: BTreeSet<String>,
-    /// Whether a barrier has made the journal's names lasting. Those that came or went since then
+    /// Whether a barrier has made the journal's names durable. Those that came or went since then
     /// are in a folder that is noted. Names of new files there, which are renamed away, are of no
     /// account.
-    is_journal_lasting: bool,
+    is_journal_durable: bool,
     /// Why the first sync that failed did so.
-    failed: Option<Obstacle>,
+    failed: Option<IoReason>,
     /// The folder that was synced last, or the file whose sync failed.
     last: String,
 }
@@ -50,7 +50,7 @@ impl Unsynced {
         Unsynced {
             syncs,
             folders: BTreeSet::new(alloc),
-            is_journal_lasting: false,
+            is_journal_durable: false,
             failed: None,
             last: String::new(alloc),
         }
@@ -73,7 +73,7 @@ impl Unsynced {
     }
 
     /// A sync failed for this. The first one stays known.
-    fn fail(&mut self, obstacle: Obstacle)
+    fn fail(&mut self, obstacle: IoReason)
         ensures syncs { self.new.syncs ≡ self.old.syncs }
         ensures failed { self.new.failed ≡ Some (unwrap_or self.old.failed obstacle) }
     {
@@ -82,19 +82,19 @@ impl Unsynced {
         }
     }
 
-    /// Makes the data of a file lasting that is to get this path.
+    /// Makes the data of a file durable that is to get this path.
     pub fn sync_data<S: System>(
         &mut self,
         system: &mut S,
-        aside: &Aside,
+        temp_file: &TempFile,
         path: &str,
     ) -> io::Result<()>
         ensures syncs { self.new.syncs ≡ self.old.syncs }
         ensures ok { OnOk result (self.new.failed ≡ self.old.failed) }
         ensures failed { IfErr result (λ error. self.new.failed ≡ Some (unwrap_or self.old.failed (System error))) }
         ensures synced { MatchResult result
-            (λ _. IsSyncedIf (is_kept self.old.syncs) (key_of aside.now) (S.holds system.old) (S.holds system.new))
-            (λ _. IsAlikeButFile (key_of aside.now) (S.holds system.old) (S.holds system.new)) }
+            (λ _. IsSyncedIf (is_kept self.old.syncs) (key_of temp_file.now) (S.holds system.old) (S.holds system.new))
+            (λ _. IsAlikeButFile (key_of temp_file.now) (S.holds system.old) (S.holds system.new)) }
         ensures still { S.folders system.new ≡ S.folders system.old }
         ensures earlier { S.honest system.new → S.honest system.old }
         ensures changes { S.changes system.new ≡ S.changes system.old }
@@ -102,11 +102,11 @@ impl Unsynced {
         if self.syncs == Syncs::LeftOut {
             return Ok(());
         }
-        match system.sync_data(aside) {
+        match system.sync_data(temp_file) {
             Ok(()) => Ok(()),
             Err(error) => {
                 self.set_last(path);
-                self.fail(Obstacle::System(error));
+                self.fail(IoReason::System(error));
                 Err(error)
             }
         }
@@ -121,27 +121,27 @@ impl Unsynced {
         let _ = self.last.push_str(path);
     }
 
-    /// A barrier: makes lasting the names in the journal's folder, in the folders above the paths
+    /// A barrier: makes durable the names in the journal's folder, in the folders above the paths
     /// of the changes, and in all folders that are noted.
     pub fn sync<S: System>(
         &mut self,
         system: &mut S,
         alloc: Global,
-        trail: &mut Trail,
+        open_folders: &mut OpenFolders,
         changes: &[Change],
     ) -> Result<(), FolderFault>
         ensures left_out { self.old.syncs ≡ Syncs.LeftOut → IsOk result }
-        ensures lasting { self.old.syncs ≡ Syncs.Kept → OnOk result (IsEmpty self.new.folders) }
+        ensures durable { self.old.syncs ≡ Syncs.Kept → OnOk result (IsEmpty self.new.folders) }
         // Once one has failed, no later one is believed.
         ensures failed { self.old.syncs ≡ Syncs.Kept
             → IfSome self.old.failed (λ obstacle. result ≡ Err (Device obstacle)) }
-        ensures fails { (obstacle : Obstacle) → result ≡ Err (Device obstacle) → self.new.failed ≡ Some obstacle }
+        ensures fails { (obstacle : IoReason) → result ≡ Err (Device obstacle) → self.new.failed ≡ Some obstacle }
         ensures kept { S.holds system.new ≡ S.holds system.old }
         ensures changes { S.changes system.new ≡ S.changes system.old }
         ensures still { S.folders system.new ≡ S.folders system.old }
         ensures earlier { S.honest system.new → S.honest system.old }
-        ensures opened { AreOpenedIf (S.honest system.old) (S.folders system.old) trail.old
-            → AreOpenedIf (S.honest system.new) (S.folders system.new) trail.new }
+        ensures opened { AreOpenedIf (S.honest system.old) (S.folders system.old) open_folders.old
+            → AreOpenedIf (S.honest system.new) (S.folders system.new) open_folders.new }
     {
         if self.syncs == Syncs::LeftOut {
             return Ok(());
@@ -149,11 +149,11 @@ impl Unsynced {
         if let Some(obstacle) = self.failed {
             return Err(FolderFault::Device(obstacle));
         }
-        let synced = self.sync_all(system, alloc, trail, changes);
+        let synced = self.sync_all(system, alloc, open_folders, changes);
         match synced {
             Ok(()) => {
                 self.folders.clear();
-                self.is_journal_lasting = true;
+                self.is_journal_durable = true;
             }
             Err(FolderFault::Device(obstacle)) => self.fail(obstacle),
             Err(FolderFault::Clash | FolderFault::Memory) => {}
@@ -165,7 +165,7 @@ impl Unsynced {
         &mut self,
         system: &mut S,
         alloc: Global,
-        trail: &mut Trail,
+        open_folders: &mut OpenFolders,
         changes: &[Change],
     ) -> Result<(), FolderFault>
         ensures failed { self.new.failed ≡ self.old.failed }
@@ -173,25 +173,25 @@ impl Unsynced {
         ensures changes { S.changes system.new ≡ S.changes system.old }
         ensures still { S.folders system.new ≡ S.folders system.old }
         ensures earlier { S.honest system.new → S.honest system.old }
-        ensures opened { AreOpenedIf (S.honest system.old) (S.folders system.old) trail.old
-            → AreOpenedIf (S.honest system.new) (S.folders system.new) trail.new }
+        ensures opened { AreOpenedIf (S.honest system.old) (S.folders system.old) open_folders.old
+            → AreOpenedIf (S.honest system.new) (S.folders system.new) open_folders.new }
     {
         self.note_changes(alloc, changes)?;
-        let there = self.folders_there(system, alloc, trail)?;
+        let there = self.folders_there(system, alloc, open_folders)?;
         for folder in &there {
             self.set_last(folder.as_str());
-            trail.enter_seen(system, alloc, folder.as_str())?;
-            trail.current()?.sync()?;
+            open_folders.enter_seen(system, alloc, folder.as_str())?;
+            open_folders.current()?.sync()?;
         }
         Ok(())
     }
 
-    /// Notes the journal's folder, if it isn't known to be lasting, and the folders above the paths
+    /// Notes the journal's folder, if it isn't known to be durable, and the folders above the paths
     /// of the changes.
     fn note_changes(&mut self, alloc: Global, changes: &[Change]) -> Result<(), AllocError>
         ensures failed { self.new.failed ≡ self.old.failed }
     {
-        if !self.is_journal_lasting {
+        if !self.is_journal_durable {
             self.note(alloc, JOURNAL)?;
         }
         for change in changes {
@@ -206,19 +206,19 @@ impl Unsynced {
         &self,
         system: &mut S,
         alloc: Global,
-        trail: &mut Trail,
+        open_folders: &mut OpenFolders,
     ) -> Result<BTreeSet<String>, FolderFault>
         ensures kept { S.holds system.new ≡ S.holds system.old }
         ensures changes { S.changes system.new ≡ S.changes system.old }
         ensures still { S.folders system.new ≡ S.folders system.old }
         ensures earlier { S.honest system.new → S.honest system.old }
-        ensures opened { AreOpenedIf (S.honest system.old) (S.folders system.old) trail.old
-            → AreOpenedIf (S.honest system.new) (S.folders system.new) trail.new }
+        ensures opened { AreOpenedIf (S.honest system.old) (S.folders system.old) open_folders.old
+            → AreOpenedIf (S.honest system.new) (S.folders system.new) open_folders.new }
     {
         let mut there = BTreeSet::new(alloc);
         for folder in &self.folders {
-            trail.enter(system, alloc, folder.as_str())?;
-            let nearest = String::from_str(alloc, trail.path())?;
+            open_folders.enter(system, alloc, folder.as_str())?;
+            let nearest = String::from_str(alloc, open_folders.path())?;
             there.insert(nearest).map_err(AllocError::from)?;
         }
         Ok(there)

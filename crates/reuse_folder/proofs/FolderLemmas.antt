@@ -1,9 +1,11 @@
 -- A path that is put or removed in a folder.
-use Rattle.std.proofs.Common.{◌≡◌, ◌≢◌, ◌⊎◌, ◌<◌, inl, inr, ℕ, zero, suc, Bool, true, false, List, [], ◌∷◌, ◌++◌, length, get_or, refl, sym, ◌∙◌, ap, ap₂, ◌==◌, arith, true≢false, Result, Ok, Err, IsErr, MatchResult}
+use Rattle.std.proofs.Common.{◌≡◌, ◌≢◌, ◌⊎◌, ◌<◌, inl, inr, ℕ, zero, suc, Bool, true, false, List, [], ◌∷◌, ◌++◌}
+use Rattle.std.proofs.Common.{length, get_or, refl, sym, ◌∙◌, ap, ap₂, ◌==◌, arith, true≢false, Result, Ok, Err, IsErr}
+use Rattle.std.proofs.Common.{MatchResult}
 use Rattle.std.specs.Bool.{Decides}
 use Rattle.std.proofs.lemmas.Bool.Decides.{Decides-eqb}
 use Rattle.std.specs.declared.io.Error.{Error}
-use Rattle.reuse_system.specs.Asides.{IsNewIn, IsNewPlace}
+use Rattle.reuse_system.specs.TempFiles.{IsNewIn, IsNewPlace}
 use Rattle.reuse_folder.specs.FolderWrites.{IsCleared, IsPutAt, IsRemovedAt}
 use Rattle.reuse_system.specs.FileStates.{FileState, place_in}
 use Rattle.reuse_system.specs.NameChanges.{NameChange, OnlyChanges}
@@ -16,8 +18,10 @@ use Rattle.reuse_disk.proofs.EditLemmas.{only_none}
 use Rattle.reuse_disk.proofs.WrittenLemmas.{then_alike}
 
 -- written, after something differed at places for new files
-pub written_after_clearing : (new_files folder : Identity) (name bytes : List ℕ) (is : Bool) (a b c : FileState) (is_done : Bool) → IsAlikeUnless (IsNewIn new_files) a b
-    → IsWritten (IsNewPlace new_files folder) (place_in folder name) bytes is b c is_done → IsWritten (IsNewPlace new_files folder) (place_in folder name) bytes is a c is_done
+pub written_after_clearing : (new_files folder : Identity) (name bytes : List ℕ) (is : Bool) (a b c : FileState)
+    (is_done : Bool) → IsAlikeUnless (IsNewIn new_files) a b
+    → IsWritten (IsNewPlace new_files folder) (place_in folder name) bytes is b c is_done
+    → IsWritten (IsNewPlace new_files folder) (place_in folder name) bytes is a c is_done
 written_after_clearing new_files folder name bytes is a b c is_done alike written =
     record {
       done = written.done;
@@ -26,7 +30,8 @@ written_after_clearing new_files folder name bytes is a b c is_done alike writte
     }
 
 -- not written, after something differed at places for new files
-pub cleared_alone : (path name : List ℕ) (new_files : Identity) (bytes : List ℕ) (is : Bool) (a b : FileState) → IsNameOf path name → IsAlikeUnless (IsNewIn new_files) a b → IsPutAt path bytes is a b false
+pub cleared_alone : (path name : List ℕ) (new_files : Identity) (bytes : List ℕ) (is : Bool) (a b : FileState)
+    → IsNameOf path name → IsAlikeUnless (IsNewIn new_files) a b → IsPutAt path bytes is a b false
 cleared_alone path name new_files bytes is a b named alike =
     record {
       new_files = new_files;
@@ -40,30 +45,51 @@ cleared_alone path name new_files bytes is a b named alike =
       };
     }
 
-pub cleared_at_error : {E : Type 0} (folder : Identity) (before after : List NameChange) (a b : FileState) (answer : Result NewFile E) → IsErr answer → OnlyChanges (IsNewIn folder) before after
+pub cleared_at_error : {E : Type 0} (folder : Identity) (before after : List NameChange) (a b : FileState)
+    (answer : Result NewFile E) → IsErr answer → OnlyChanges (IsNewIn folder) before after
     → IsAlikeUnless (IsNewIn folder) a b → IsCleared before after a b answer
 cleared_at_error folder before after a b (Ok new_file) bad changed alike = absurd (true≢false (sym bad))
-cleared_at_error folder before after a b (Err error) bad changed alike = record { folder = folder; others = alike; is_folder = tt; changed = changed }
+cleared_at_error folder before after a b (Err error) bad changed alike = record {
+  folder = folder;
+  others = alike;
+  is_folder = tt;
+  changed = changed;
+}
 
-pub nothing_cleared : {E : Type 0} (before after : List NameChange) (held : FileState) (answer : Result NewFile E) → IsErr answer → after ≡ before → IsCleared before after held held answer
+pub nothing_cleared : {E : Type 0} (before after : List NameChange) (held : FileState) (answer : Result NewFile E)
+    → IsErr answer → after ≡ before → IsCleared before after held held answer
 nothing_cleared before after held answer bad same =
-    let any : Identity = record { device = 0; number = 0 } in cleared_at_error any before after held held answer bad (only_none (IsNewIn any) before after same) (λ place apart. refl)
+    let any : Identity = record {
+      device = 0;
+      number = 0;
+    } in cleared_at_error any before after held held answer bad (only_none (IsNewIn any) before after same)
+    (λ place apart. refl)
 
 -- ---- each path has a name
 
-longer : (byte : ℕ) (path name : List ℕ) → IsNameOf path name → ((folder : List ℕ) × (path ≡ folder ++ 47 ∷ name)) → IsNameOf (byte ∷ path) name
+longer : (byte : ℕ) (path name : List ℕ) → IsNameOf path name → ((folder : List ℕ) × (path ≡ folder ++ 47 ∷ name))
+    → IsNameOf (byte ∷ path) name
 longer byte path name named at = record { behind = inr (byte ∷ at.0, ap (λ l. byte ∷ l) at.1); last = named.last }
 
-no_slash : (byte : ℕ) (name : List ℕ) → byte ≢ 47 → ((i : ℕ) → i < length name → get_or name i 0 ≢ 47) → (i : ℕ) → i < length (byte ∷ name) → get_or (byte ∷ name) i 0 ≢ 47
+no_slash : (byte : ℕ) (name : List ℕ) → byte ≢ 47 → ((i : ℕ) → i < length name → get_or name i 0 ≢ 47) → (i : ℕ)
+    → i < length (byte ∷ name) → get_or (byte ∷ name) i 0 ≢ 47
 no_slash byte name other last zero short = other
 no_slash byte name other last (suc i) short = last i (omega (arith, short))
 
-whole : (byte : ℕ) (path name : List ℕ) → IsNameOf path name → name ≡ path → (is_slash : Bool) → Decides is_slash (byte ≡ 47) → (one : List ℕ) × IsNameOf (byte ∷ path) one
-whole byte path name named e true decides = (name, record { behind = inr ([], ap₂ (λ b l. b ∷ l) (decides.0 refl) (sym e)); last = named.last })
-whole byte path name named e false decides =
-    (byte ∷ name, record { behind = inl (ap (λ l. byte ∷ l) e); last = no_slash byte name (λ slash. true≢false (sym (decides.1 slash))) named.last })
+whole : (byte : ℕ) (path name : List ℕ) → IsNameOf path name → name ≡ path → (is_slash : Bool)
+    → Decides is_slash (byte ≡ 47) → (one : List ℕ) × IsNameOf (byte ∷ path) one
+whole byte path name named e true decides =
+    (name, record { behind = inr ([], ap₂ (λ b l. b ∷ l) (decides.0 refl) (sym e)); last = named.last })
+whole byte path name named e false decides = (
+  byte ∷ name,
+  record {
+    behind = inl (ap (λ l. byte ∷ l) e);
+    last = no_slash byte name (λ slash. true≢false (sym (decides.1 slash))) named.last;
+  },
+)
 
-more : (byte : ℕ) (path name : List ℕ) → IsNameOf path name → (name ≡ path) ⊎ ((folder : List ℕ) × (path ≡ folder ++ 47 ∷ name)) → (one : List ℕ) × IsNameOf (byte ∷ path) one
+more : (byte : ℕ) (path name : List ℕ) → IsNameOf path name
+    → (name ≡ path) ⊎ ((folder : List ℕ) × (path ≡ folder ++ 47 ∷ name)) → (one : List ℕ) × IsNameOf (byte ∷ path) one
 more byte path name named (inl e) = whole byte path name named e (byte == 47) (Decides-eqb byte 47)
 more byte path name named (inr at) = (name, longer byte path name named at)
 
@@ -75,11 +101,16 @@ some_name (byte ∷ path) = let one = some_name path in more byte path one.0 one
 pub nothing_put : (path bytes : List ℕ) (is : Bool) (held : FileState) → IsPutAt path bytes is held held false
 nothing_put path bytes is held =
     let one = some_name path in
-    let any : Identity = record { device = 0; number = 0 } in cleared_alone path one.0 any bytes is held held one.1 (λ place apart. refl)
+    let any : Identity = record {
+      device = 0;
+      number = 0;
+    } in cleared_alone path one.0 any bytes is held held one.1 (λ place apart. refl)
 
 -- put, after new files were cleared
-pub put_at : (path name : List ℕ) (new_files folder : Identity) (bytes : List ℕ) (is : Bool) (a b c : FileState) (is_done : Bool) → IsNameOf path name → IsAlikeUnless (IsNewIn new_files) a b
-    → IsWritten (IsNewPlace new_files folder) (place_in folder name) bytes is b c is_done → IsPutAt path bytes is a c is_done
+pub put_at : (path name : List ℕ) (new_files folder : Identity) (bytes : List ℕ) (is : Bool) (a b c : FileState)
+    (is_done : Bool) → IsNameOf path name → IsAlikeUnless (IsNewIn new_files) a b
+    → IsWritten (IsNewPlace new_files folder) (place_in folder name) bytes is b c is_done
+    → IsPutAt path bytes is a c is_done
 put_at path name new_files folder bytes is a b c is_done named alike written =
     record {
       new_files = new_files;
@@ -91,10 +122,27 @@ put_at path name new_files folder bytes is a b c is_done named alike written =
 
 pub nothing_removed : (path : List ℕ) (held : FileState) → IsRemovedAt path held held
 nothing_removed path held =
-    let one = some_name path in record { folder = record { device = 0; number = 0 }; name = one.0; is_named = one.1; others = λ place apart. refl }
+    let one = some_name path in record {
+      folder = record { device = 0; number = 0 };
+      name = one.0;
+      is_named = one.1;
+      others = λ place apart. refl;
+    }
 
 -- the name was to be removed, and was or wasn't
-pub removed_at : {E : Type 0} (path name : List ℕ) (folder : Identity) (a b : FileState) (answer : Result (Unit {0}) E) → IsNameOf path name
-    → MatchResult answer (λ _. IsRemoved (place_in folder name) a b) (λ _. IsAlikeBut (place_in folder name) a b) → IsRemovedAt path a b
-removed_at path name folder a b (Ok done) named removed = record { folder = folder; name = name; is_named = named; others = removed.others }
-removed_at path name folder a b (Err error) named alike = record { folder = folder; name = name; is_named = named; others = alike }
+pub removed_at : {E : Type 0} (path name : List ℕ) (folder : Identity) (a b : FileState) (answer : Result (Unit {0}) E)
+    → IsNameOf path name
+    → MatchResult answer (λ _. IsRemoved (place_in folder name) a b) (λ _. IsAlikeBut (place_in folder name) a b)
+    → IsRemovedAt path a b
+removed_at path name folder a b (Ok done) named removed = record {
+  folder = folder;
+  name = name;
+  is_named = named;
+  others = removed.others;
+}
+removed_at path name folder a b (Err error) named alike = record {
+  folder = folder;
+  name = name;
+  is_named = named;
+  others = alike;
+}

@@ -5,16 +5,17 @@ use Rattle.reuse_store.specs.Asked.{IsWrite, AreWrites}
 use Rattle.reuse_store.specs.Calls.{failures_of, written_of, mutations_of}
 use Rattle.reuse_store.specs.declared.fault.StoreFault.{StoreFault}
 use Rattle.reuse_store.specs.declared.file_write.FileWrite.{FileWrite}
-use Rattle.reuse_change.specs.declared.parts.Parts.{Parts}
+use Rattle.reuse_change.specs.declared.parts.Pieces.{Pieces}
 use Rattle.reuse_store.specs.declared.record.CallRecord.{CallRecord}
 use Rattle.reuse_store.specs.declared.store.Store.{Ghosts}
-use Rattle.reuse_folder.specs.Honesty.{files_of, IsHonest, MayBeLeft}
+use Rattle.reuse_folder.specs.Honesty.{files_of, IsHonest, IsCrashState}
 
 -- the members of such a store
 abbrev pub noted : {S : Type 0} → (S → CallRecord) → Ghosts S
 noted calls_of = record {
   files = λ store. files_of (calls_of store).start (calls_of store).calls;
-  may_be = λ store. MayBeLeft (calls_of store).start (calls_of store).doubts (calls_of store).calls;
+  crash_states =
+      λ store. IsCrashState (calls_of store).start (calls_of store).initial_crash_states (calls_of store).calls;
   failures = λ store. failures_of (calls_of store).calls;
   written = λ store. written_of (calls_of store).calls;
   mutations = λ store. mutations_of (calls_of store).calls;
@@ -22,46 +23,94 @@ noted calls_of = record {
 }
 
 module _ {S : Type 0} (calls_of : S → CallRecord) where
-  record_of : (path : List ℕ) (file : Option Parts) (old new : S) (answer : Result (Unit {0}) StoreFault) → IsWrite (noted calls_of) path file old new answer → IsWrite (noted (λ calls. calls)) path file (calls_of old) (calls_of new) answer
+  record_of : (path : List ℕ) (file : Option Pieces) (old new : S) (answer : Result (Unit {0}) StoreFault)
+      → IsWrite (noted calls_of) path file old new answer
+      → IsWrite (noted (λ calls. calls)) path file (calls_of old) (calls_of new) answer
   record_of path None old new answer write =
       let r = write.0 in
       let l = write.1 in (
-        record { kept = r.kept; ok = r.ok; err = r.err; may = λ left is. r.may left is; device = r.device; written = r.written; mutations = r.mutations },
+        record {
+          kept = r.kept;
+          ok = r.ok;
+          err = r.err;
+          may = λ left is. r.may left is;
+          device = r.device;
+          written = r.written;
+          mutations = r.mutations;
+        },
         record { was_honest = l.was_honest; failures = l.failures; written = l.written; mutations = l.mutations },
       )
   record_of path (Some parts) old new answer write =
       let p = write.0 in
       let l = write.1 in (
-        record { kept = p.kept; ok = p.ok; err = p.err; may = λ left is. p.may left is; device = p.device; written = p.written; mutations = p.mutations },
+        record {
+          kept = p.kept;
+          ok = p.ok;
+          err = p.err;
+          may = λ left is. p.may left is;
+          device = p.device;
+          written = p.written;
+          mutations = p.mutations;
+        },
         record { was_honest = l.was_honest; failures = l.failures; written = l.written; mutations = l.mutations },
       )
 
-  of_record : (path : List ℕ) (file : Option Parts) (old new : S) (answer : Result (Unit {0}) StoreFault) → IsWrite (noted (λ calls. calls)) path file (calls_of old) (calls_of new) answer → IsWrite (noted calls_of) path file old new answer
+  of_record : (path : List ℕ) (file : Option Pieces) (old new : S) (answer : Result (Unit {0}) StoreFault)
+      → IsWrite (noted (λ calls. calls)) path file (calls_of old) (calls_of new) answer
+      → IsWrite (noted calls_of) path file old new answer
   of_record path None old new answer write =
       let r = write.0 in
       let l = write.1 in (
-        record { kept = r.kept; ok = r.ok; err = r.err; may = λ left is. r.may left is; device = r.device; written = r.written; mutations = r.mutations },
+        record {
+          kept = r.kept;
+          ok = r.ok;
+          err = r.err;
+          may = λ left is. r.may left is;
+          device = r.device;
+          written = r.written;
+          mutations = r.mutations;
+        },
         record { was_honest = l.was_honest; failures = l.failures; written = l.written; mutations = l.mutations },
       )
   of_record path (Some parts) old new answer write =
       let p = write.0 in
       let l = write.1 in (
-        record { kept = p.kept; ok = p.ok; err = p.err; may = λ left is. p.may left is; device = p.device; written = p.written; mutations = p.mutations },
+        record {
+          kept = p.kept;
+          ok = p.ok;
+          err = p.err;
+          may = λ left is. p.may left is;
+          device = p.device;
+          written = p.written;
+          mutations = p.mutations;
+        },
         record { was_honest = l.was_honest; failures = l.failures; written = l.written; mutations = l.mutations },
       )
 
   -- writes that begin at a store with one record begin at each store that has it
-  pub begin_at : (write : FileWrite) (writes : List FileWrite) (old other new : S) (answer : Result (Unit {0}) StoreFault) → calls_of other ≡ calls_of old
-      → AreWrites (noted calls_of) (write ∷ writes) other new answer → AreWrites (noted calls_of) (write ∷ writes) old new answer
+  pub begin_at : (write : FileWrite) (writes : List FileWrite) (old other new : S)
+      (answer : Result (Unit {0}) StoreFault) → calls_of other ≡ calls_of old
+      → AreWrites (noted calls_of) (write ∷ writes) other new answer
+      → AreWrites (noted calls_of) (write ∷ writes) old new answer
   begin_at write writes old other new answer same (inl failed) = inl (at_old new answer failed.0, failed.1, failed.2)
     where
-      at_old : (next : S) (r : Result (Unit {0}) StoreFault) → IsWrite (noted calls_of) write.path.now write.file other next r → IsWrite (noted calls_of) write.path.now write.file old next r
-      at_old next r w = of_record write.path.now write.file old next r (subst (λ calls. IsWrite (noted (λ calls. calls)) write.path.now write.file calls (calls_of next) r) same (record_of write.path.now write.file other next r w))
+      at_old : (next : S) (r : Result (Unit {0}) StoreFault)
+          → IsWrite (noted calls_of) write.path.now write.file other next r
+          → IsWrite (noted calls_of) write.path.now write.file old next r
+      at_old next r w = of_record write.path.now write.file old next r
+          (subst (λ calls. IsWrite (noted (λ calls. calls)) write.path.now write.file calls (calls_of next) r) same
+          (record_of write.path.now write.file other next r w))
   begin_at write writes old other new answer same (inr made) = inr (made.0, at_old made.0 (Ok tt) made.1, made.2)
     where
-      at_old : (next : S) (r : Result (Unit {0}) StoreFault) → IsWrite (noted calls_of) write.path.now write.file other next r → IsWrite (noted calls_of) write.path.now write.file old next r
-      at_old next r w = of_record write.path.now write.file old next r (subst (λ calls. IsWrite (noted (λ calls. calls)) write.path.now write.file calls (calls_of next) r) same (record_of write.path.now write.file other next r w))
+      at_old : (next : S) (r : Result (Unit {0}) StoreFault)
+          → IsWrite (noted calls_of) write.path.now write.file other next r
+          → IsWrite (noted calls_of) write.path.now write.file old next r
+      at_old next r w = of_record write.path.now write.file old next r
+          (subst (λ calls. IsWrite (noted (λ calls. calls)) write.path.now write.file calls (calls_of next) r) same
+          (record_of write.path.now write.file other next r w))
 
-  pub begin_any : (writes : List FileWrite) (old other new : S) (answer : Result (Unit {0}) StoreFault) → (length writes == 0) ≡ false → calls_of other ≡ calls_of old → AreWrites (noted calls_of) writes other new answer → AreWrites (noted calls_of) writes old new answer
+  pub begin_any : (writes : List FileWrite) (old other new : S) (answer : Result (Unit {0}) StoreFault)
+      → (length writes == 0) ≡ false → calls_of other ≡ calls_of old
+      → AreWrites (noted calls_of) writes other new answer → AreWrites (noted calls_of) writes old new answer
   begin_any [] old other new answer some same done = absurd (cc)
   begin_any (write ∷ writes) old other new answer some same done = begin_at write writes old other new answer same done

@@ -1,8 +1,10 @@
--- What reads tell of paths, and what follows for writes.
-use Rattle.std.proofs.Common.{◌≡◌, ◌≢◌, ◌⊎◌, ◌<◌, inl, inr, ℕ, zero, suc, List, [], ◌∷◌, ◌++◌, length, get_or, take, drop, length-drop, ◌+◌, ◌-◌, Option, None, Some, refl, sym, ◌∙◌, ap, subst, append_assoc, take-append-drop, arith}
+-- What reads report of paths, and what follows for writes.
+use Rattle.std.proofs.Common.{◌≡◌, ◌≢◌, ◌⊎◌, ◌<◌, inl, inr, ℕ, zero, suc, List, [], ◌∷◌, ◌++◌, length, get_or, take}
+use Rattle.std.proofs.Common.{drop, length-drop, ◌+◌, ◌-◌, Option, None, Some, refl, sym, ◌∙◌, ap, subst, append_assoc}
+use Rattle.std.proofs.Common.{take-append-drop, arith}
 use Rattle.std.specs.List.{All}
 use Rattle.std.proofs.lemmas.List.{get_or-drop, take_rest}
-use Rattle.reuse_system.specs.Asides.{IsNewIn, IsNewPlace, place_of}
+use Rattle.reuse_system.specs.TempFiles.{IsNewIn, IsNewPlace, place_of}
 use Rattle.reuse_system.specs.FileStates.{Place, FileState, place_in}
 use Rattle.reuse_system.specs.NameChanges.{NameChange, AreEach, IsChangeOf, IsGuarded, OnlyChanges}
 use Rattle.reuse_system.specs.Names.{IsNameOf}
@@ -10,7 +12,9 @@ use Rattle.reuse_system.specs.SystemLaws.{IsAlikeUnless}
 use Rattle.reuse_system.specs.declared.place.FileStatus.{FileStatus}
 use Rattle.reuse_system.specs.declared.place.Identity.{Identity}
 use Rattle.reuse_store.specs.declared.file_write.FileWrite.{FileWrite}
-use Rattle.reuse_folder.specs.Seen.{expected_of, IsUnread, IsToldBy, IsSeenBefore, IsSeenAs, IsKnown, IsKnownAside, AreKnown, IsNewFile, IsChangeOfSome, LosesNoEdit, LosesNoEditAfter, LoseNoEdits}
+use Rattle.reuse_folder.specs.Seen.{expected_of, IsUnread, IsReportedBy, IsSeenBefore, IsSeenAs, IsKnown}
+use Rattle.reuse_folder.specs.Seen.{IsKnownTempFile, AreKnown, IsNewFile, IsChangeOfSome, LosesNoEdit, LosesNoEditAfter}
+use Rattle.reuse_folder.specs.Seen.{LoseNoEdits}
 use Rattle.reuse_folder.specs.declared.folder.batch.NewContent.{NewContent}
 use Rattle.reuse_folder.specs.declared.folder.seen.Expected.{Expected}
 use Rattle.reuse_folder.specs.declared.folder.seen.Expected.TheVariants as expected
@@ -20,41 +24,53 @@ use Rattle.reuse_folder.proofs.FolderLemmas.{some_name}
 
 -- ---- reads
 
-unread_more : (reads : List ReadPath) (read : ReadPath) (path : List ℕ) → IsUnread reads path → read.path ≢ path → IsUnread (reads ++ (read ∷ [])) path
+unread_more : (reads : List ReadPath) (read : ReadPath) (path : List ℕ) → IsUnread reads path → read.path ≢ path
+    → IsUnread (reads ++ (read ∷ [])) path
 unread_more [] read path unread other = (other, tt)
 unread_more (one ∷ reads) read path unread other = (unread.0, unread_more reads read path unread.1 other)
 
-told_more : (reads : List ReadPath) (read : ReadPath) (path : List ℕ) (one : Expected) → IsToldBy reads path one → IsToldBy (reads ++ (read ∷ [])) path one
-told_more [] read path one told = elim told [ ]
-told_more (first ∷ reads) read path one (inl here) = inl here
-told_more (first ∷ reads) read path one (inr told) = inr (told_more reads read path one told)
+reported_more : (reads : List ReadPath) (read : ReadPath) (path : List ℕ) (one : Expected) → IsReportedBy reads path one
+    → IsReportedBy (reads ++ (read ∷ [])) path one
+reported_more [] read path one reported = elim reported [ ]
+reported_more (first ∷ reads) read path one (inl here) = inl here
+reported_more (first ∷ reads) read path one (inr reported) = inr (reported_more reads read path one reported)
 
-told_last : (reads : List ReadPath) (read : ReadPath) (path : List ℕ) → read.path ≡ path → IsToldBy (reads ++ (read ∷ [])) path (expected_of read.seen)
-told_last [] read path same = inl (same, refl)
-told_last (first ∷ reads) read path same = inr (told_last reads read path same)
+reported_last : (reads : List ReadPath) (read : ReadPath) (path : List ℕ) → read.path ≡ path
+    → IsReportedBy (reads ++ (read ∷ [])) path (expected_of read.seen)
+reported_last [] read path same = inl (same, refl)
+reported_last (first ∷ reads) read path same = inr (reported_last reads read path same)
 
-seen_if_told : (reads : List ReadPath) (path : List ℕ) (seen : Option FileStatus) → IsToldBy reads path (expected_of seen) → IsSeenBefore reads path (expected_of seen)
-seen_if_told reads path None told = told
-seen_if_told reads path (Some status) told = told
+seen_if_reported : (reads : List ReadPath) (path : List ℕ) (seen : Option FileStatus)
+    → IsReportedBy reads path (expected_of seen) → IsSeenBefore reads path (expected_of seen)
+seen_if_reported reads path None reported = reported
+seen_if_reported reads path (Some status) reported = reported
 
--- a read of another path tells nothing of this one
-pub seen_more : (reads : List ReadPath) (read : ReadPath) (path : List ℕ) (one : Expected) → IsSeenBefore reads path one → read.path ≢ path → IsSeenBefore (reads ++ (read ∷ [])) path one
+-- a read of another path reports nothing of this one
+pub seen_more : (reads : List ReadPath) (read : ReadPath) (path : List ℕ) (one : Expected) → IsSeenBefore reads path one
+    → read.path ≢ path → IsSeenBefore (reads ++ (read ∷ [])) path one
 seen_more reads read path expected.Found unread other = unread_more reads read path unread other
-seen_more reads read path expected.Nothing told other = told_more reads read path expected.Nothing told
-seen_more reads read path (expected.File status) told other = told_more reads read path (expected.File status) told
+seen_more reads read path expected.Nothing reported other = reported_more reads read path expected.Nothing reported
+seen_more reads read path (expected.File status) reported other =
+    reported_more reads read path (expected.File status) reported
 
--- the last read of the path tells what is expected there
-pub seen_last : (reads : List ReadPath) (read : ReadPath) (path : List ℕ) → read.path ≡ path → IsSeenBefore (reads ++ (read ∷ [])) path (expected_of read.seen)
-seen_last reads read path same = seen_if_told (reads ++ (read ∷ [])) path read.seen (told_last reads read path same)
+-- the last read of the path reports what is expected there
+pub seen_last : (reads : List ReadPath) (read : ReadPath) (path : List ℕ) → read.path ≡ path
+    → IsSeenBefore (reads ++ (read ∷ [])) path (expected_of read.seen)
+seen_last reads read path same =
+    seen_if_reported (reads ++ (read ∷ [])) path read.seen (reported_last reads read path same)
 
-told_at : (reads : List ReadPath) (k : ℕ) (other : ReadPath) (path : List ℕ) → k < length reads → (get_or reads k other).path ≡ path → IsToldBy reads path (expected_of (get_or reads k other).seen)
-told_at [] k other path short same = absurd (omega (arith, short))
-told_at (read ∷ reads) zero other path short same = inl (same, refl)
-told_at (read ∷ reads) (suc k) other path short same = inr (told_at reads k other path (omega (arith, short)) same)
+reported_at : (reads : List ReadPath) (k : ℕ) (other : ReadPath) (path : List ℕ) → k < length reads
+    → (get_or reads k other).path ≡ path → IsReportedBy reads path (expected_of (get_or reads k other).seen)
+reported_at [] k other path short same = absurd (omega (arith, short))
+reported_at (read ∷ reads) zero other path short same = inl (same, refl)
+reported_at (read ∷ reads) (suc k) other path short same =
+    inr (reported_at reads k other path (omega (arith, short)) same)
 
 -- so does any read of it
-pub seen_at : (reads : List ReadPath) (k : ℕ) (other : ReadPath) (path : List ℕ) → k < length reads → (get_or reads k other).path ≡ path → IsSeenBefore reads path (expected_of (get_or reads k other).seen)
-seen_at reads k other path short same = seen_if_told reads path (get_or reads k other).seen (told_at reads k other path short same)
+pub seen_at : (reads : List ReadPath) (k : ℕ) (other : ReadPath) (path : List ℕ) → k < length reads
+    → (get_or reads k other).path ≡ path → IsSeenBefore reads path (expected_of (get_or reads k other).seen)
+seen_at reads k other path short same =
+    seen_if_reported reads path (get_or reads k other).seen (reported_at reads k other path short same)
 
 -- ---- one write
 
@@ -64,7 +80,8 @@ some_seen expected.Nothing = (None, refl)
 some_seen (expected.File status) = (Some status, refl)
 
 -- only new files in a folder changed
-pub loses_only : (path : List ℕ) (one : Expected) (new_files : Identity) (before after : List NameChange) (old new : FileState) → OnlyChanges (IsNewIn new_files) before after → IsAlikeUnless (IsNewIn new_files) old new
+pub loses_only : (path : List ℕ) (one : Expected) (new_files : Identity) (before after : List NameChange)
+    (old new : FileState) → OnlyChanges (IsNewIn new_files) before after → IsAlikeUnless (IsNewIn new_files) old new
     → LosesNoEdit path one before after old new
 loses_only path one new_files before after old new only alike =
     let name = some_name path in
@@ -77,17 +94,22 @@ loses_only path one new_files before after old new only alike =
       seen = seen.0;
       is_seen = seen.1;
       guarded = guarded_only (IsNewPlace new_files new_files) (place_in new_files name.0) seen.0 before after old new
-          (only_weaker (IsNewIn new_files) (IsNewPlace new_files new_files) (λ place at. inl at) before after only) (λ no. alike (place_in new_files name.0) (λ at. no (inl at)));
+          (only_weaker (IsNewIn new_files) (IsNewPlace new_files new_files) (λ place at. inl at) before after only)
+          (λ no. alike (place_in new_files name.0) (λ at. no (inl at)));
     }
 
 -- nothing changed
-pub loses_none : (path : List ℕ) (one : Expected) (before after : List NameChange) (old new : FileState) → after ≡ before → new ≡ old → LosesNoEdit path one before after old new
+pub loses_none : (path : List ℕ) (one : Expected) (before after : List NameChange) (old new : FileState)
+    → after ≡ before → new ≡ old → LosesNoEdit path one before after old new
 loses_none path one before after old new same kept =
-    loses_only path one (record { device = 0; number = 0 }) before after old new (record { changes = []; grown = same; each = tt }) (λ place apart. ap (λ held. held place) kept)
+    loses_only path one (record { device = 0; number = 0 }) before after old new
+    (record { changes = []; grown = same; each = tt }) (λ place apart. ap (λ held. held place) kept)
 
 -- the path's own name changed, after new files were cleared
-pub loses_put : (path name : List ℕ) (one : Expected) (seen : Option FileStatus) (new_files folder : Identity) (a b c : List NameChange) (old mid new : FileState) → IsNameOf path name → IsSeenAs one seen
-    → OnlyChanges (IsNewIn new_files) a b → IsAlikeUnless (IsNewIn new_files) old mid → IsGuarded (IsNewPlace new_files folder) (place_in folder name) seen b c mid new → LosesNoEdit path one a c old new
+pub loses_put : (path name : List ℕ) (one : Expected) (seen : Option FileStatus) (new_files folder : Identity)
+    (a b c : List NameChange) (old mid new : FileState) → IsNameOf path name → IsSeenAs one seen
+    → OnlyChanges (IsNewIn new_files) a b → IsAlikeUnless (IsNewIn new_files) old mid
+    → IsGuarded (IsNewPlace new_files folder) (place_in folder name) seen b c mid new → LosesNoEdit path one a c old new
 loses_put path name one seen new_files folder a b c old mid new named is_seen only alike guarded =
     record {
       new_files = new_files;
@@ -97,12 +119,14 @@ loses_put path name one seen new_files folder a b c old mid new named is_seen on
       seen = seen;
       is_seen = is_seen;
       guarded = guarded_then (IsNewPlace new_files folder) (place_in folder name) seen a b c old mid new
-          (guarded_only (IsNewPlace new_files folder) (place_in folder name) seen a b old mid (only_weaker (IsNewIn new_files) (IsNewPlace new_files folder) (λ place at. inl at) a b only)
+          (guarded_only (IsNewPlace new_files folder) (place_in folder name) seen a b old mid
+          (only_weaker (IsNewIn new_files) (IsNewPlace new_files folder) (λ place at. inl at) a b only)
           (λ no. alike (place_in folder name) (λ at. no (inl at)))) guarded;
     }
 
 -- the path's own name was removed
-pub loses_removed : (path name : List ℕ) (one : Expected) (seen : Option FileStatus) (folder : Identity) (a c : List NameChange) (old new : FileState) → IsNameOf path name → IsSeenAs one seen
+pub loses_removed : (path name : List ℕ) (one : Expected) (seen : Option FileStatus) (folder : Identity)
+    (a c : List NameChange) (old new : FileState) → IsNameOf path name → IsSeenAs one seen
     → IsGuarded (λ _. ⊥) (place_in folder name) seen a c old new → LosesNoEdit path one a c old new
 loses_removed path name one seen folder a c old new named is_seen guarded =
     record {
@@ -112,16 +136,19 @@ loses_removed path name one seen folder a c old new named is_seen guarded =
       is_named = named;
       seen = seen;
       is_seen = is_seen;
-      guarded = guarded_weaker (λ _. ⊥) (IsNewPlace folder folder) (place_in folder name) seen (λ place bad. absurd bad) a c old new guarded;
+      guarded = guarded_weaker (λ _. ⊥) (IsNewPlace folder folder) (place_in folder name) seen
+          (λ place bad. absurd bad) a c old new guarded;
     }
 
 -- ---- several writes
 
-pub loses_of : (reads : List ReadPath) (path : List ℕ) (one : Expected) (before after : List NameChange) (old new : FileState) → IsSeenBefore reads path one → LosesNoEdit path one before after old new
+pub loses_of : (reads : List ReadPath) (path : List ℕ) (one : Expected) (before after : List NameChange)
+    (old new : FileState) → IsSeenBefore reads path one → LosesNoEdit path one before after old new
     → LosesNoEditAfter reads path before after old new
 loses_of reads path one before after old new seen loses = (one, seen, loses)
 
-each_weaker : (P Q : NameChange → Type 0) → ((change : NameChange) → P change → Q change) → (changes : List NameChange) → AreEach P changes → AreEach Q changes
+each_weaker : (P Q : NameChange → Type 0) → ((change : NameChange) → P change → Q change) → (changes : List NameChange)
+    → AreEach P changes → AreEach Q changes
 each_weaker P Q from [] all = tt
 each_weaker P Q from (change ∷ changes) all = (from change all.0, each_weaker P Q from changes all.1)
 
@@ -130,46 +157,67 @@ each_both P [] ys front back = back
 each_both P (x ∷ xs) ys front back = (front.0, each_both P xs ys front.1 back)
 
 -- only new files changed
-pub lose_only : (reads : List ReadPath) (writes : List FileWrite) (before after : List NameChange) → OnlyChanges IsNewFile before after → LoseNoEdits reads writes before after
+pub lose_only : (reads : List ReadPath) (writes : List FileWrite) (before after : List NameChange)
+    → OnlyChanges IsNewFile before after → LoseNoEdits reads writes before after
 lose_only reads writes before after only =
     record {
       changes = only.changes;
       grown = only.grown;
-      each = each_weaker (λ change. IsNewFile change.place) (λ change. IsNewFile change.place ⊎ IsChangeOfSome reads writes change) (λ change at. inl at) only.changes only.each;
+      each = each_weaker (λ change. IsNewFile change.place) (λ change. IsNewFile change.place
+          ⊎ IsChangeOfSome reads writes change) (λ change at. inl at) only.changes only.each;
     }
 
-pub lose_then : (reads : List ReadPath) (writes : List FileWrite) (a b c : List NameChange) → LoseNoEdits reads writes a b → LoseNoEdits reads writes b c → LoseNoEdits reads writes a c
+pub lose_then : (reads : List ReadPath) (writes : List FileWrite) (a b c : List NameChange)
+    → LoseNoEdits reads writes a b → LoseNoEdits reads writes b c → LoseNoEdits reads writes a c
 lose_then reads writes a b c one two =
     record {
       changes = two.changes ++ one.changes;
       grown = two.grown ∙ ap (λ l. two.changes ++ l) one.grown ∙ sym (append_assoc two.changes one.changes a);
-      each = each_both (λ change. IsNewFile change.place ⊎ IsChangeOfSome reads writes change) two.changes one.changes two.each one.each;
+      each = each_both (λ change. IsNewFile change.place ⊎ IsChangeOfSome reads writes change) two.changes one.changes
+          two.each one.each;
     }
 
 -- what is said of one path holds of the write of that path
-change_of_path : (reads : List ReadPath) (path : List ℕ) (write : FileWrite) (new_files folder : Identity) (name : List ℕ) (seen : Option FileStatus) → write.path.now ≡ path → IsNameOf path name → IsKnown reads path seen
-    → (change : NameChange) → IsChangeOf (IsNewPlace new_files folder) (place_in folder name) seen change → IsNewFile change.place ⊎ IsChangeOfSome reads (write ∷ []) change
-change_of_path reads path write new_files folder name seen same named known change (inl at) = inl (new_files, folder, at)
+change_of_path : (reads : List ReadPath) (path : List ℕ) (write : FileWrite) (new_files folder : Identity)
+    (name : List ℕ) (seen : Option FileStatus) → write.path.now ≡ path → IsNameOf path name → IsKnown reads path seen
+    → (change : NameChange) → IsChangeOf (IsNewPlace new_files folder) (place_in folder name) seen change
+    → IsNewFile change.place ⊎ IsChangeOfSome reads (write ∷ []) change
+change_of_path reads path write new_files folder name seen same named known change (inl at) =
+    inl (new_files, folder, at)
 change_of_path reads path write new_files folder name seen same named known change (inr at) =
-    inr (inl (record { folder = folder; name = name; is_named = rw same named; at = at.0; seen = seen; is_known = rw same known; is_expected = at.1 }))
+    inr (inl (record {
+      folder = folder;
+      name = name;
+      is_named = rw same named;
+      at = at.0;
+      seen = seen;
+      is_known = rw same known;
+      is_expected = at.1;
+    }))
 
-pub lose_one : (reads : List ReadPath) (write : FileWrite) (path : List ℕ) (one : Expected) (before after : List NameChange) (old new : FileState) → write.path.now ≡ path → IsSeenBefore reads path one
+pub lose_one : (reads : List ReadPath) (write : FileWrite) (path : List ℕ) (one : Expected)
+    (before after : List NameChange) (old new : FileState) → write.path.now ≡ path → IsSeenBefore reads path one
     → LosesNoEdit path one before after old new → LoseNoEdits reads (write ∷ []) before after
 lose_one reads write path one before after old new same seen loses =
     record {
       changes = loses.guarded.changes;
       grown = loses.guarded.grown;
-      each = each_weaker (IsChangeOf (IsNewPlace loses.new_files loses.folder) (place_in loses.folder loses.name) loses.seen) (λ change. IsNewFile change.place ⊎ IsChangeOfSome reads (write ∷ []) change)
-          (change_of_path reads path write loses.new_files loses.folder loses.name loses.seen same loses.is_named (one, seen, loses.is_seen)) loses.guarded.changes loses.guarded.each;
+      each = each_weaker
+          (IsChangeOf (IsNewPlace loses.new_files loses.folder) (place_in loses.folder loses.name) loses.seen)
+          (λ change. IsNewFile change.place ⊎ IsChangeOfSome reads (write ∷ []) change)
+          (change_of_path reads path write loses.new_files loses.folder loses.name loses.seen same loses.is_named
+          (one, seen, loses.is_seen)) loses.guarded.changes loses.guarded.each;
     }
 
 -- what holds of some of the writes holds of all
-some_front : (reads : List ReadPath) (xs ys : List FileWrite) (change : NameChange) → IsChangeOfSome reads xs change → IsChangeOfSome reads (xs ++ ys) change
+some_front : (reads : List ReadPath) (xs ys : List FileWrite) (change : NameChange) → IsChangeOfSome reads xs change
+    → IsChangeOfSome reads (xs ++ ys) change
 some_front reads [] ys change bad = elim bad [ ]
 some_front reads (x ∷ xs) ys change (inl here) = inl here
 some_front reads (x ∷ xs) ys change (inr there) = inr (some_front reads xs ys change there)
 
-some_back : (reads : List ReadPath) (xs ys : List FileWrite) (change : NameChange) → IsChangeOfSome reads ys change → IsChangeOfSome reads (xs ++ ys) change
+some_back : (reads : List ReadPath) (xs ys : List FileWrite) (change : NameChange) → IsChangeOfSome reads ys change
+    → IsChangeOfSome reads (xs ++ ys) change
 some_back reads [] ys change some = some
 some_back reads (x ∷ xs) ys change some = inr (some_back reads xs ys change some)
 
@@ -177,63 +225,92 @@ either_way : (P Q R : Type 0) → (Q → R) → P ⊎ Q → P ⊎ R
 either_way P Q R from (inl p) = inl p
 either_way P Q R from (inr q) = inr (from q)
 
-lose_from : (reads : List ReadPath) (xs ys : List FileWrite) (before after : List NameChange) → ((change : NameChange) → IsChangeOfSome reads xs change → IsChangeOfSome reads ys change) → LoseNoEdits reads xs before after → LoseNoEdits reads ys before after
+lose_from : (reads : List ReadPath) (xs ys : List FileWrite) (before after : List NameChange)
+    → ((change : NameChange) → IsChangeOfSome reads xs change → IsChangeOfSome reads ys change)
+    → LoseNoEdits reads xs before after → LoseNoEdits reads ys before after
 lose_from reads xs ys before after from loses =
     record {
       changes = loses.changes;
       grown = loses.grown;
-      each = each_weaker (λ change. IsNewFile change.place ⊎ IsChangeOfSome reads xs change) (λ change. IsNewFile change.place ⊎ IsChangeOfSome reads ys change)
-          (λ change one. either_way (IsNewFile change.place) (IsChangeOfSome reads xs change) (IsChangeOfSome reads ys change) (from change) one) loses.changes loses.each;
+      each = each_weaker (λ change. IsNewFile change.place ⊎ IsChangeOfSome reads xs change)
+          (λ change. IsNewFile change.place ⊎ IsChangeOfSome reads ys change)
+          (λ change one. either_way (IsNewFile change.place) (IsChangeOfSome reads xs change)
+          (IsChangeOfSome reads ys change) (from change) one) loses.changes loses.each;
     }
 
 -- of the writes from the kth on, so of all
-pub lose_behind : (reads : List ReadPath) (writes : List FileWrite) (k : ℕ) (before after : List NameChange) → LoseNoEdits reads (drop k writes) before after → LoseNoEdits reads writes before after
+pub lose_behind : (reads : List ReadPath) (writes : List FileWrite) (k : ℕ) (before after : List NameChange)
+    → LoseNoEdits reads (drop k writes) before after → LoseNoEdits reads writes before after
 lose_behind reads writes k before after loses =
-    lose_from reads (drop k writes) writes before after (λ change some. subst (λ l. IsChangeOfSome reads l change) (take-append-drop k writes) (some_back reads (take k writes) (drop k writes) change some)) loses
+    lose_from reads (drop k writes) writes before after (λ change some. subst (λ l. IsChangeOfSome reads l change)
+    (take-append-drop k writes) (some_back reads (take k writes) (drop k writes) change some)) loses
 
-some_at : (reads : List ReadPath) (writes : List FileWrite) (k : ℕ) (other : FileWrite) (change : NameChange) → k < length writes → IsChangeOfSome reads (get_or writes k other ∷ []) change → IsChangeOfSome reads writes change
+some_at : (reads : List ReadPath) (writes : List FileWrite) (k : ℕ) (other : FileWrite) (change : NameChange)
+    → k < length writes → IsChangeOfSome reads (get_or writes k other ∷ []) change → IsChangeOfSome reads writes change
 some_at reads [] k other change short some = absurd (omega (arith, short))
 some_at reads (write ∷ writes) zero other change short (inl here) = inl here
 some_at reads (write ∷ writes) zero other change short (inr bad) = elim bad [ ]
-some_at reads (write ∷ writes) (suc k) other change short some = inr (some_at reads writes k other change (omega (arith, short)) some)
+some_at reads (write ∷ writes) (suc k) other change short some =
+    inr (some_at reads writes k other change (omega (arith, short)) some)
 
 -- of the kth write, so of all
-pub lose_at : (reads : List ReadPath) (writes : List FileWrite) (k : ℕ) (other : FileWrite) (before after : List NameChange) → k < length writes → LoseNoEdits reads (get_or writes k other ∷ []) before after
+pub lose_at : (reads : List ReadPath) (writes : List FileWrite) (k : ℕ) (other : FileWrite)
+    (before after : List NameChange) → k < length writes → LoseNoEdits reads (get_or writes k other ∷ []) before after
     → LoseNoEdits reads writes before after
-lose_at reads writes k other before after short loses = lose_from reads (get_or writes k other ∷ []) writes before after (λ change some. some_at reads writes k other change short some) loses
+lose_at reads writes k other before after short loses = lose_from reads (get_or writes k other ∷ []) writes before after
+    (λ change some. some_at reads writes k other change short some) loses
 
-pub lose_none : (reads : List ReadPath) (writes : List FileWrite) (before after : List NameChange) → after ≡ before → LoseNoEdits reads writes before after
+pub lose_none : (reads : List ReadPath) (writes : List FileWrite) (before after : List NameChange) → after ≡ before
+    → LoseNoEdits reads writes before after
 lose_none reads writes before after same = record { changes = []; grown = same; each = tt }
 
--- each file aside that is known has a name of new files
-pub known_at : (reads : List ReadPath) (writes : List FileWrite) (asides : List NewContent) (k : ℕ) (write : FileWrite) (one : NewContent) → AreKnown reads writes asides → k < length asides
-    → IsKnownAside reads (get_or writes k write).path.now (get_or asides k one)
+-- each temporary file that is known has a name of new files
+pub known_at : (reads : List ReadPath) (writes : List FileWrite) (temp_files : List NewContent) (k : ℕ)
+    (write : FileWrite) (one : NewContent) → AreKnown reads writes temp_files → k < length temp_files
+    → IsKnownTempFile reads (get_or writes k write).path.now (get_or temp_files k one)
 known_at reads writes [] k write one known short = absurd (omega (arith, short))
-known_at reads [] (first ∷ asides) k write one known short = absurd known
-known_at reads (first ∷ writes) (other ∷ asides) zero write one known short = known.0
-known_at reads (first ∷ writes) (other ∷ asides) (suc k) write one known short = known_at reads writes asides k write one known.1 (omega (arith, short))
+known_at reads [] (first ∷ temp_files) k write one known short = absurd known
+known_at reads (first ∷ writes) (other ∷ temp_files) zero write one known short = known.0
+known_at reads (first ∷ writes) (other ∷ temp_files) (suc k) write one known short =
+    known_at reads writes temp_files k write one known.1 (omega (arith, short))
 
 -- one more is known
-pub known_more : (reads : List ReadPath) (writes : List FileWrite) (asides : List NewContent) (one : NewContent) (write : FileWrite) → AreKnown reads writes asides → length asides < length writes
-    → IsKnownAside reads (get_or writes (length asides) write).path.now one → AreKnown reads writes (asides ++ (one ∷ []))
-known_more reads [] asides one write known short here = absurd (omega (arith, short))
+pub known_more : (reads : List ReadPath) (writes : List FileWrite) (temp_files : List NewContent) (one : NewContent)
+    (write : FileWrite) → AreKnown reads writes temp_files → length temp_files < length writes
+    → IsKnownTempFile reads (get_or writes (length temp_files) write).path.now one
+    → AreKnown reads writes (temp_files ++ (one ∷ []))
+known_more reads [] temp_files one write known short here = absurd (omega (arith, short))
 known_more reads (first ∷ writes) [] one write known short here = (here, tt)
-known_more reads (first ∷ writes) (other ∷ asides) one write known short here = (known.0, known_more reads writes asides one write known.1 (omega (arith, short)) here)
+known_more reads (first ∷ writes) (other ∷ temp_files) one write known short here =
+    (known.0, known_more reads writes temp_files one write known.1 (omega (arith, short)) here)
 
-named_change : (reads : List ReadPath) (write : FileWrite) (name : List ℕ) (folder : Identity) (from : Place) (seen : Option FileStatus) → IsNameOf write.path.now name → IsKnown reads write.path.now seen → IsNewFile from
-    → (change : NameChange) → IsChangeOf (λ place. place ≡ from) (place_in folder name) seen change → IsNewFile change.place ⊎ IsChangeOfSome reads (write ∷ []) change
+named_change : (reads : List ReadPath) (write : FileWrite) (name : List ℕ) (folder : Identity) (from : Place)
+    (seen : Option FileStatus) → IsNameOf write.path.now name → IsKnown reads write.path.now seen → IsNewFile from
+    → (change : NameChange) → IsChangeOf (λ place. place ≡ from) (place_in folder name) seen change
+    → IsNewFile change.place ⊎ IsChangeOfSome reads (write ∷ []) change
 named_change reads write name folder from seen named known new change (inl at) = inl (subst IsNewFile (sym at) new)
 named_change reads write name folder from seen named known new change (inr at) =
-    inr (inl (record { folder = folder; name = name; is_named = named; at = at.0; seen = seen; is_known = known; is_expected = at.1 }))
+    inr (inl (record {
+      folder = folder;
+      name = name;
+      is_named = named;
+      at = at.0;
+      seen = seen;
+      is_known = known;
+      is_expected = at.1;
+    }))
 
--- a file aside was given its name, or wasn't
-pub lose_named : (reads : List ReadPath) (write : FileWrite) (name : List ℕ) (folder : Identity) (from : Place) (seen : Option FileStatus) (before after : List NameChange) (old new : FileState) → IsNameOf write.path.now name
-    → IsKnown reads write.path.now seen → IsNewFile from → IsGuarded (λ place. place ≡ from) (place_in folder name) seen before after old new → LoseNoEdits reads (write ∷ []) before after
+-- a temporary file was given its name, or wasn't
+pub lose_named : (reads : List ReadPath) (write : FileWrite) (name : List ℕ) (folder : Identity) (from : Place)
+    (seen : Option FileStatus) (before after : List NameChange) (old new : FileState) → IsNameOf write.path.now name
+    → IsKnown reads write.path.now seen → IsNewFile from → IsGuarded (λ place. place ≡ from)
+    (place_in folder name) seen before after old new → LoseNoEdits reads (write ∷ []) before after
 lose_named reads write name folder from seen before after old new named known is_new guarded =
     record {
       changes = guarded.changes;
       grown = guarded.grown;
-      each = each_weaker (IsChangeOf (λ place. place ≡ from) (place_in folder name) seen) (λ change. IsNewFile change.place ⊎ IsChangeOfSome reads (write ∷ []) change)
+      each = each_weaker (IsChangeOf (λ place. place ≡ from) (place_in folder name) seen)
+          (λ change. IsNewFile change.place ⊎ IsChangeOfSome reads (write ∷ []) change)
           (named_change reads write name folder from seen named known is_new) guarded.changes guarded.each;
     }
 
@@ -243,61 +320,92 @@ same_seen None (Some status) same = absurd (cc)
 same_seen (Some one) None same = absurd (cc)
 same_seen (Some one) (Some status) same = cc
 
-again_change : (reads : List ReadPath) (write : FileWrite) (new_files folder : Identity) (name : List ℕ) (seen : Option FileStatus) → IsNameOf write.path.now name → IsKnown reads write.path.now seen
-    → (change : NameChange) → IsChangeOf (IsNewPlace new_files folder) (place_in folder name) seen change → IsNewFile change.place ⊎ IsChangeOfSome reads (write ∷ []) change
+again_change : (reads : List ReadPath) (write : FileWrite) (new_files folder : Identity) (name : List ℕ)
+    (seen : Option FileStatus) → IsNameOf write.path.now name → IsKnown reads write.path.now seen
+    → (change : NameChange) → IsChangeOf (IsNewPlace new_files folder) (place_in folder name) seen change
+    → IsNewFile change.place ⊎ IsChangeOfSome reads (write ∷ []) change
 again_change reads write new_files folder name seen named known change (inl at) = inl (new_files, folder, at)
 again_change reads write new_files folder name seen named known change (inr at) =
-    inr (inl (record { folder = folder; name = name; is_named = named; at = at.0; seen = seen; is_known = known; is_expected = at.1 }))
+    inr (inl (record {
+      folder = folder;
+      name = name;
+      is_named = named;
+      at = at.0;
+      seen = seen;
+      is_known = known;
+      is_expected = at.1;
+    }))
 
 -- the path was put once more, where it was seen so
-pub lose_again : (reads : List ReadPath) (write : FileWrite) (seen : Option FileStatus) (before after : List NameChange) (old new : FileState) → IsKnown reads write.path.now seen
+pub lose_again : (reads : List ReadPath) (write : FileWrite) (seen : Option FileStatus) (before after : List NameChange)
+    (old new : FileState) → IsKnown reads write.path.now seen
     → LosesNoEdit write.path.now (expected_of seen) before after old new → LoseNoEdits reads (write ∷ []) before after
 lose_again reads write seen before after old new known loses =
     let same = same_seen seen loses.seen loses.is_seen in
     record {
       changes = loses.guarded.changes;
       grown = loses.guarded.grown;
-      each = each_weaker (IsChangeOf (IsNewPlace loses.new_files loses.folder) (place_in loses.folder loses.name) loses.seen) (λ change. IsNewFile change.place ⊎ IsChangeOfSome reads (write ∷ []) change)
-          (again_change reads write loses.new_files loses.folder loses.name loses.seen loses.is_named (subst (λ s. IsKnown reads write.path.now s) (sym same) known)) loses.guarded.changes loses.guarded.each;
+      each = each_weaker
+          (IsChangeOf (IsNewPlace loses.new_files loses.folder) (place_in loses.folder loses.name) loses.seen)
+          (λ change. IsNewFile change.place ⊎ IsChangeOfSome reads (write ∷ []) change)
+          (again_change reads write loses.new_files loses.folder loses.name loses.seen loses.is_named
+          (subst (λ s. IsKnown reads write.path.now s) (sym same) known)) loses.guarded.changes loses.guarded.each;
     }
 
 -- names of new files in a folder are names of new files
-pub only_new : (folder : Identity) (before after : List NameChange) → OnlyChanges (IsNewIn folder) before after → OnlyChanges IsNewFile before after
-only_new folder before after only = only_weaker (IsNewIn folder) IsNewFile (λ place at. (folder, folder, inl at)) before after only
+pub only_new : (folder : Identity) (before after : List NameChange) → OnlyChanges (IsNewIn folder) before after
+    → OnlyChanges IsNewFile before after
+only_new folder before after only =
+    only_weaker (IsNewIn folder) IsNewFile (λ place at. (folder, folder, inl at)) before after only
 
--- each file aside that is known has a name of new files
-pub new_at : (reads : List ReadPath) (writes : List FileWrite) (asides : List NewContent) (k : ℕ) (one : NewContent) → AreKnown reads writes asides → k < length asides → IsNewFile (place_of (get_or asides k one).aside)
+-- each temporary file that is known has a name of new files
+pub new_at : (reads : List ReadPath) (writes : List FileWrite) (temp_files : List NewContent) (k : ℕ) (one : NewContent)
+    → AreKnown reads writes temp_files → k < length temp_files
+    → IsNewFile (place_of (get_or temp_files k one).temp_file)
 new_at reads writes [] k one known short = absurd (omega (arith, short))
-new_at reads [] (first ∷ asides) k one known short = absurd known
-new_at reads (first ∷ writes) (other ∷ asides) zero one known short = known.0.0
-new_at reads (first ∷ writes) (other ∷ asides) (suc k) one known short = new_at reads writes asides k one known.1 (omega (arith, short))
+new_at reads [] (first ∷ temp_files) k one known short = absurd known
+new_at reads (first ∷ writes) (other ∷ temp_files) zero one known short = known.0.0
+new_at reads (first ∷ writes) (other ∷ temp_files) (suc k) one known short =
+    new_at reads writes temp_files k one known.1 (omega (arith, short))
 
 -- so do those behind the first so many
-new_after : (reads : List ReadPath) (writes : List FileWrite) (asides : List NewContent) (n : ℕ) → AreKnown reads writes asides → All (λ one. IsNewFile (place_of one.aside)) (drop n asides)
-new_after reads writes asides n known k one short =
-    subst (λ (other : NewContent). IsNewFile (place_of other.aside)) (sym (get_or-drop n asides k one)) (new_at reads writes asides (n + k) one known (omega (arith, length-drop n asides, short)))
+new_after : (reads : List ReadPath) (writes : List FileWrite) (temp_files : List NewContent) (n : ℕ)
+    → AreKnown reads writes temp_files → All (λ one. IsNewFile (place_of one.temp_file)) (drop n temp_files)
+new_after reads writes temp_files n known k one short =
+    subst (λ (other : NewContent). IsNewFile (place_of other.temp_file)) (sym (get_or-drop n temp_files k one))
+    (new_at reads writes temp_files (n + k) one known (omega (arith, length-drop n temp_files, short)))
 
 -- of which a slice is made
-pub new_behind : (reads : List ReadPath) (writes : List FileWrite) (asides : List NewContent) (n : ℕ) → AreKnown reads writes asides
-    → All (λ one. IsNewFile (place_of one.aside)) (take (length asides - n) (drop n asides))
-new_behind reads writes asides n known =
-    subst (λ (some : List NewContent). All (λ one. IsNewFile (place_of one.aside)) some) (sym (take_rest asides n)) (new_after reads writes asides n known)
+pub new_behind : (reads : List ReadPath) (writes : List FileWrite) (temp_files : List NewContent) (n : ℕ)
+    → AreKnown reads writes temp_files
+    → All (λ one. IsNewFile (place_of one.temp_file)) (take (length temp_files - n) (drop n temp_files))
+new_behind reads writes temp_files n known =
+    subst (λ (some : List NewContent). All (λ one. IsNewFile (place_of one.temp_file)) some)
+    (sym (take_rest temp_files n)) (new_after reads writes temp_files n known)
 
-pub known_here : (reads : List ReadPath) (writes : List FileWrite) (asides : List NewContent) (k : ℕ) (write : FileWrite) (one : NewContent) → AreKnown reads writes asides → k < length asides → write ≡ get_or writes k write
-    → one ≡ get_or asides k one → IsKnownAside reads write.path.now one
-known_here reads writes asides k write one known short is at =
-    subst (λ (w : FileWrite). IsKnownAside reads w.path.now one) (sym is)
-    (subst (λ (a : NewContent). IsKnownAside reads (get_or writes k write).path.now a) (sym at) (known_at reads writes asides k write one known short))
+pub known_here : (reads : List ReadPath) (writes : List FileWrite) (temp_files : List NewContent) (k : ℕ)
+    (write : FileWrite) (one : NewContent) → AreKnown reads writes temp_files → k < length temp_files
+    → write ≡ get_or writes k write
+    → one ≡ get_or temp_files k one → IsKnownTempFile reads write.path.now one
+known_here reads writes temp_files k write one known short is at =
+    subst (λ (w : FileWrite). IsKnownTempFile reads w.path.now one) (sym is)
+    (subst (λ (a : NewContent). IsKnownTempFile reads (get_or writes k write).path.now a) (sym at)
+    (known_at reads writes temp_files k write one known short))
 
--- the file aside of the next write is known, too
-pub aside_more : (reads : List ReadPath) (writes : List FileWrite) (asides : List NewContent) (one : NewContent) (k : ℕ) (write : FileWrite) → AreKnown reads writes asides → length asides ≡ k → k < length writes → write ≡ get_or writes k write
-    → IsKnownAside reads write.path.now one → AreKnown reads writes (asides ++ (one ∷ []))
-aside_more reads writes asides one k write known same short is here =
-    known_more reads writes asides one write known (subst (λ n. n < length writes) (sym same) short)
-    (subst (λ (w : FileWrite). IsKnownAside reads w.path.now one) (is ∙ ap (λ n. get_or writes n write) (sym same)) here)
+-- the temporary file of the next write is known, too
+pub temp_file_more : (reads : List ReadPath) (writes : List FileWrite) (temp_files : List NewContent) (one : NewContent)
+    (k : ℕ) (write : FileWrite) → AreKnown reads writes temp_files → length temp_files ≡ k → k < length writes
+    → write ≡ get_or writes k write
+    → IsKnownTempFile reads write.path.now one → AreKnown reads writes (temp_files ++ (one ∷ []))
+temp_file_more reads writes temp_files one k write known same short is here =
+    known_more reads writes temp_files one write known (subst (λ n. n < length writes) (sym same) short)
+    (subst (λ (w : FileWrite). IsKnownTempFile reads w.path.now one)
+    (is ∙ ap (λ n. get_or writes n write) (sym same)) here)
 
 -- of some writes in a row, so of all
-pub lose_part : (reads : List ReadPath) (writes : List FileWrite) (k n : ℕ) (before after : List NameChange) → LoseNoEdits reads (take n (drop k writes)) before after → LoseNoEdits reads writes before after
+pub lose_part : (reads : List ReadPath) (writes : List FileWrite) (k n : ℕ) (before after : List NameChange)
+    → LoseNoEdits reads (take n (drop k writes)) before after → LoseNoEdits reads writes before after
 lose_part reads writes k n before after loses =
     lose_behind reads writes k before after (lose_from reads (take n (drop k writes)) (drop k writes) before after
-    (λ change some. subst (λ l. IsChangeOfSome reads l change) (take-append-drop n (drop k writes)) (some_front reads (take n (drop k writes)) (drop n (drop k writes)) change some)) loses)
+    (λ change some. subst (λ l. IsChangeOfSome reads l change) (take-append-drop n (drop k writes))
+    (some_front reads (take n (drop k writes)) (drop n (drop k writes)) change some)) loses)

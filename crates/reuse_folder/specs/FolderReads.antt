@@ -1,4 +1,4 @@
--- What a folder tells of a path.
+-- What a folder reports of a path.
 use Rattle.std.specs.Prelude.{◌≡◌, ◌⊎◌, ℕ, List, length, Option, None, Some, IsTrue}
 use Rattle.std.specs.Option.{option_map}
 use Rattle.reuse_store.specs.Store.{reading_of}
@@ -6,7 +6,7 @@ use Rattle.reuse_store.specs.declared.store.Reading.{Reading}
 use Rattle.reuse_store.specs.declared.store.Reading.TheVariants as reading
 use Rattle.reuse_system.specs.FileStates.{StateFile, FileState, place_in}
 use Rattle.reuse_system.specs.Folders.{Folders, folder_above, file_at, IsBarred}
-use Rattle.reuse_system.specs.KeptOut.{is_kept_out}
+use Rattle.reuse_system.specs.Ignored.{is_ignored}
 use Rattle.reuse_system.specs.Names.{IsNameOf}
 use Rattle.reuse_system.specs.declared.place.Identity.{Identity}
 use Rattle.reuse_system.specs.declared.place.Place.{Place}
@@ -22,16 +22,17 @@ pub record StandsIn (folder : Option Identity) (path : List ℕ) (held : FileSta
   pub is_named : IsNameOf path name
   pub stands : held (place_in in_folder name) ≡ Some one
 
--- no file of the tree is at the path: the name is kept out, or a folder on the way is a bare repository
+-- no file of the tree is at the path: the name is ignored, or a folder on the way is a bare repository
 abbrev pub IsHidden : Folders → FileState → List ℕ → Type 0
-IsHidden folders held path = IsTrue (is_kept_out path) ⊎ IsBarred folders held path
+IsHidden folders held path = IsTrue (is_ignored path) ⊎ IsBarred folders held path
 
--- where the path is told to be a regular file, it lies in this folder
+-- where the path is reported to be a regular file, it lies in this folder
 abbrev pub LiesIn : Folders → List ℕ → Option Identity → Place → Type 0
 LiesIn folders path folder (place.File status) = folder_above folders path ≡ folder
 LiesIn folders path folder place = Unit {0}
 
--- where the path is told to be a regular file, one stands in this folder that is so long; else no file is at the path
+-- where the path is reported to be a regular file, one stands in this folder that is so long; else no file is at the
+-- path
 abbrev pub IsPlaceAt : Folders → FileState → List ℕ → Option Identity → Place → Type 0
 IsPlaceAt folders held path folder (place.File status) =
     (one : StateFile) × StandsIn folder path held one × (length one.bytes ≡ status.len)
@@ -49,7 +50,7 @@ IsReadAt folders held path limit answer =
     (answer ≡ reading_of (option_map (λ one. one.bytes) (file_at folders held path)) limit)
     ⊎ (IsHidden folders held path × (answer ≡ reading.Absent))
 
--- so it is; but what stands there and is neither a file nor a folder may be told as a file that is too long
+-- so it is; but what stands there and is neither a file nor a folder may be reported as a file that is too long
 abbrev pub IsReadWith : Foreign → Folders → FileState → List ℕ → ℕ → Reading → Type 0
 IsReadWith foreign.Absent folders held path limit answer = IsReadAt folders held path limit answer
 IsReadWith foreign.TooLong folders held path limit answer =

@@ -1,12 +1,13 @@
 -- When a folder is honest: its answers are those of a folder that nobody else writes and that gives back what was
 -- written.
-use Rattle.std.specs.Prelude.{◌≡◌, ◌≢◌, ◌⊎◌, ℕ, Bool, true, false, IsTrue, List, [], ◌∷◌, Result, Ok, Err, MatchResult, if◌then◌else◌, cond, refl}
+use Rattle.std.specs.Prelude.{◌≡◌, ◌≢◌, ◌⊎◌, ℕ, Bool, true, false, IsTrue, List, [], ◌∷◌, Result, Ok, Err, MatchResult}
+use Rattle.std.specs.Prelude.{if◌then◌else◌, cond, refl}
 use Rattle.std.specs.List.{Contains}
 use Rattle.std.specs.FinMap.{get, insert, remove}
 use Rattle.reuse_store.specs.Calls.{Call}
 use Rattle.reuse_store.specs.Calls.Call.{ListCall, ReadCall, PutCall, RemoveCall, SyncCall}
 use Rattle.reuse_change.specs.Files.{Files, Clashes, AreFiles}
-use Rattle.reuse_store.specs.Lasting.{IsCertain}
+use Rattle.reuse_store.specs.Durable.{DurableAfterBarrier}
 use Rattle.reuse_change.specs.Listing.{is_among, listed_paths}
 use Rattle.reuse_change.specs.Path.{is_path}
 use Rattle.std.proofs.Common.{inl, inr}
@@ -65,39 +66,56 @@ IsHonest start (call ∷ calls) = MayAnswer (files_of start calls) call × IsHon
 -- What a loss of power may leave after these calls, the newest first: at the start the files, or one of what else might
 -- be left then. Behind a put or a removal it is what might be left before, with it or without, whatever was answered;
 -- behind a barrier that succeeded it is one of what might be left before, and certain where that says so.
-abbrev pub MayBeLeft : Files → List Files → List Call → Files → Type 0
-MayBeLeft start doubts [] left = (left ≡ start) ⊎ Contains doubts left
-MayBeLeft start doubts (ListCall folders pruned answer ∷ calls) left = MayBeLeft start doubts calls left
-MayBeLeft start doubts (ReadCall path limit answer ∷ calls) left = MayBeLeft start doubts calls left
-MayBeLeft start doubts (PutCall path bytes answer took ∷ calls) left =
-    MayBeLeft start doubts calls left
-    ⊎ ((kept : Files) × MayBeLeft start doubts calls kept × (left ≡ insert kept path bytes))
-MayBeLeft start doubts (RemoveCall path answer took ∷ calls) left =
-    MayBeLeft start doubts calls left ⊎ ((kept : Files) × MayBeLeft start doubts calls kept × (left ≡ remove kept path))
-MayBeLeft start doubts (SyncCall changes (Ok done) ∷ calls) left =
-    MayBeLeft start doubts calls left × IsCertain changes (files_of start calls) left left
-MayBeLeft start doubts (SyncCall changes (Err fault) ∷ calls) left = MayBeLeft start doubts calls left
+abbrev pub IsCrashState : Files → List Files → List Call → Files → Type 0
+IsCrashState start initial_crash_states [] left = (left ≡ start) ⊎ Contains initial_crash_states left
+IsCrashState start initial_crash_states (ListCall folders pruned answer ∷ calls) left =
+    IsCrashState start initial_crash_states calls left
+IsCrashState start initial_crash_states (ReadCall path limit answer ∷ calls) left =
+    IsCrashState start initial_crash_states calls left
+IsCrashState start initial_crash_states (PutCall path bytes answer took ∷ calls) left =
+    IsCrashState start initial_crash_states calls left
+    ⊎ ((kept : Files) × IsCrashState start initial_crash_states calls kept × (left ≡ insert kept path bytes))
+IsCrashState start initial_crash_states (RemoveCall path answer took ∷ calls) left =
+    IsCrashState start initial_crash_states calls left
+    ⊎ ((kept : Files) × IsCrashState start initial_crash_states calls kept × (left ≡ remove kept path))
+IsCrashState start initial_crash_states (SyncCall changes (Ok done) ∷ calls) left =
+    IsCrashState start initial_crash_states calls left × DurableAfterBarrier changes (files_of start calls) left left
+IsCrashState start initial_crash_states (SyncCall changes (Err fault) ∷ calls) left =
+    IsCrashState start initial_crash_states calls left
 
 -- what is there may be left
-put_may : (start : Files) (doubts : List Files) (calls : List Call) (path bytes : List ℕ) (answer : Result (Unit {0}) StoreFault) (took effect : Bool) → MayBeLeft start doubts calls (files_of start calls)
-    → MayBeLeft start doubts (PutCall path bytes answer took ∷ calls) (cond effect (insert (files_of start calls) path bytes) (files_of start calls))
-put_may start doubts calls path bytes answer took true may = inr (files_of start calls, may, refl)
-put_may start doubts calls path bytes answer took false may = inl may
+put_may : (start : Files) (initial_crash_states : List Files) (calls : List Call) (path bytes : List ℕ)
+    (answer : Result (Unit {0}) StoreFault) (took effect : Bool)
+    → IsCrashState start initial_crash_states calls (files_of start calls)
+    → IsCrashState start initial_crash_states (PutCall path bytes answer took ∷ calls)
+    (cond effect (insert (files_of start calls) path bytes) (files_of start calls))
+put_may start initial_crash_states calls path bytes answer took true may = inr (files_of start calls, may, refl)
+put_may start initial_crash_states calls path bytes answer took false may = inl may
 
-removal_may : (start : Files) (doubts : List Files) (calls : List Call) (path : List ℕ) (answer : Result (Unit {0}) StoreFault) (took effect : Bool) → MayBeLeft start doubts calls (files_of start calls)
-    → MayBeLeft start doubts (RemoveCall path answer took ∷ calls) (cond effect (remove (files_of start calls) path) (files_of start calls))
-removal_may start doubts calls path answer took true may = inr (files_of start calls, may, refl)
-removal_may start doubts calls path answer took false may = inl may
+removal_may : (start : Files) (initial_crash_states : List Files) (calls : List Call) (path : List ℕ)
+    (answer : Result (Unit {0}) StoreFault) (took effect : Bool)
+    → IsCrashState start initial_crash_states calls (files_of start calls)
+    → IsCrashState start initial_crash_states (RemoveCall path answer took ∷ calls)
+    (cond effect (remove (files_of start calls) path) (files_of start calls))
+removal_may start initial_crash_states calls path answer took true may = inr (files_of start calls, may, refl)
+removal_may start initial_crash_states calls path answer took false may = inl may
 
-pub files_may_be_left : (start : Files) (doubts : List Files) (calls : List Call)
-    → MayBeLeft start doubts calls (files_of start calls)
-files_may_be_left start doubts [] = inl refl
-files_may_be_left start doubts (ListCall folders pruned answer ∷ calls) = files_may_be_left start doubts calls
-files_may_be_left start doubts (ReadCall path limit answer ∷ calls) = files_may_be_left start doubts calls
-files_may_be_left start doubts (PutCall path bytes answer took ∷ calls) =
-    put_may start doubts calls path bytes answer took (has_effect answer took) (files_may_be_left start doubts calls)
-files_may_be_left start doubts (RemoveCall path answer took ∷ calls) =
-    removal_may start doubts calls path answer took (has_effect answer took) (files_may_be_left start doubts calls)
-files_may_be_left start doubts (SyncCall changes (Ok done) ∷ calls) =
-    (files_may_be_left start doubts calls, record { folder = refl; here = λ path touched. refl; others = λ path none. inl refl })
-files_may_be_left start doubts (SyncCall changes (Err fault) ∷ calls) = files_may_be_left start doubts calls
+pub files_are_a_crash_state : (start : Files) (initial_crash_states : List Files) (calls : List Call)
+    → IsCrashState start initial_crash_states calls (files_of start calls)
+files_are_a_crash_state start initial_crash_states [] = inl refl
+files_are_a_crash_state start initial_crash_states (ListCall folders pruned answer ∷ calls) =
+    files_are_a_crash_state start initial_crash_states calls
+files_are_a_crash_state start initial_crash_states (ReadCall path limit answer ∷ calls) =
+    files_are_a_crash_state start initial_crash_states calls
+files_are_a_crash_state start initial_crash_states (PutCall path bytes answer took ∷ calls) =
+    put_may start initial_crash_states calls path bytes answer took (has_effect answer took)
+    (files_are_a_crash_state start initial_crash_states calls)
+files_are_a_crash_state start initial_crash_states (RemoveCall path answer took ∷ calls) =
+    removal_may start initial_crash_states calls path answer took (has_effect answer took)
+    (files_are_a_crash_state start initial_crash_states calls)
+files_are_a_crash_state start initial_crash_states (SyncCall changes (Ok done) ∷ calls) = (
+  files_are_a_crash_state start initial_crash_states calls,
+  record { folder = refl; here = λ path touched. refl; others = λ path none. inl refl },
+)
+files_are_a_crash_state start initial_crash_states (SyncCall changes (Err fault) ∷ calls) =
+    files_are_a_crash_state start initial_crash_states calls

@@ -8,12 +8,13 @@ use Rattle.reuse_folder.specs.declared.rolled_back.RolledBack.{RolledBack}
 abbrev pub after_write : Bool → RolledBack → RolledBack
 after_write in_journal rolled_back =
     if rolled_back.is_over then rolled_back
-    else (if in_journal then record rolled_back { is_over = true } else record rolled_back { files = min (rolled_back.files + 1) (2 ^ 64 - 1) })
+    else (if in_journal then record rolled_back { is_over = true }
+    else record rolled_back { files = min (rolled_back.files + 1) (2 ^ 64 - 1) })
 
 -- those before the journal was first written
 abbrev pub rolled_back_by : RolledBack → Option ℕ
 rolled_back_by rolled_back = if rolled_back.is_over then Some rolled_back.files else None
 
--- what reading a path tells at which something stands that is neither a file nor a folder
+-- what reading a path reports at which something stands that is neither a file nor a folder
 abbrev pub foreign_of : RolledBack → Foreign
 foreign_of rolled_back = if rolled_back.is_pending && not rolled_back.is_over then TooLong else Absent

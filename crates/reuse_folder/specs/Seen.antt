@@ -1,8 +1,8 @@
 -- What was read of paths, and what their writes expect there.
 use Rattle.std.specs.Prelude.{◌≡◌, ◌≢◌, ◌⊎◌, ℕ, List, [], ◌∷◌, ◌++◌, Option, None, Some}
-use Rattle.reuse_system.specs.Asides.{IsNewPlace, place_of}
+use Rattle.reuse_system.specs.TempFiles.{IsNewPlace, place_of}
 use Rattle.reuse_system.specs.FileStates.{FileState, Place, place_in}
-use Rattle.reuse_system.specs.KeptOut.{is_new_name}
+use Rattle.reuse_system.specs.Ignored.{is_new_name}
 use Rattle.reuse_system.specs.NameChanges.{NameChange, AreEach, IsExpected, IsGuarded}
 use Rattle.reuse_system.specs.Names.{IsNameOf}
 use Rattle.reuse_system.specs.declared.place.FileStatus.{FileStatus}
@@ -23,15 +23,16 @@ abbrev pub IsUnread : List ReadPath → List ℕ → Type 0
 IsUnread [] path = Unit {0}
 IsUnread (read ∷ reads) path = (read.path ≢ path) × IsUnread reads path
 
--- one of these reads told this of the path
-abbrev pub IsToldBy : List ReadPath → List ℕ → Expected → Type 0
-IsToldBy [] path one = ⊥
-IsToldBy (read ∷ reads) path one = ((read.path ≡ path) × (one ≡ expected_of read.seen)) ⊎ IsToldBy reads path one
+-- one of these reads reported this of the path
+abbrev pub IsReportedBy : List ReadPath → List ℕ → Expected → Type 0
+IsReportedBy [] path one = ⊥
+IsReportedBy (read ∷ reads) path one =
+    ((read.path ≡ path) × (one ≡ expected_of read.seen)) ⊎ IsReportedBy reads path one
 
 -- so it was; or none was of the path, and nothing is expected of what is found there
 abbrev pub IsSeenBefore : List ReadPath → List ℕ → Expected → Type 0
 IsSeenBefore reads path expected.Found = IsUnread reads path
-IsSeenBefore reads path one = IsToldBy reads path one
+IsSeenBefore reads path one = IsReportedBy reads path one
 
 -- a read of the path is among these
 abbrev pub IsNoted : List ReadPath → List ℕ → Type 0
@@ -45,7 +46,8 @@ IsSeenAs one seen = one ≡ expected_of seen
 -- No edit is lost at the path: the names that changed are those of new files, in some folder or beside the path's own,
 -- and the path's own name in some folder, if what was expected stood there directly before. Else the file of that name
 -- is the same before and after.
-pub record LosesNoEdit (path : List ℕ) (one : Expected) (before after : List NameChange) (old new : FileState) : Type 0 where
+pub record LosesNoEdit (path : List ℕ) (one : Expected) (before after : List NameChange)
+    (old new : FileState) : Type 0 where
   pub new_files : Identity
   pub folder : Identity
   pub name : List ℕ
@@ -55,7 +57,8 @@ pub record LosesNoEdit (path : List ℕ) (one : Expected) (before after : List N
   pub guarded : IsGuarded (IsNewPlace new_files folder) (place_in folder name) seen before after old new
 
 -- so it is for some expectation after these reads
-abbrev pub LosesNoEditAfter : List ReadPath → (path : List ℕ) → (before after : List NameChange) → (old new : FileState) → Type 0
+abbrev pub LosesNoEditAfter : List ReadPath → (path : List ℕ) → (before after : List NameChange)
+    → (old new : FileState) → Type 0
 LosesNoEditAfter reads path before after old new =
     (one : Expected) × IsSeenBefore reads path one × LosesNoEdit path one before after old new
 
@@ -65,19 +68,20 @@ LosesNoEditAfter reads path before after old new =
 abbrev pub IsNewFile : Place → Type 0
 IsNewFile place = (new_files folder : Identity) × IsNewPlace new_files folder place
 
--- the file was seen so, as the reads before tell what is expected at the path
+-- the file was seen so, as the reads before report what is expected at the path
 abbrev pub IsKnown : List ReadPath → List ℕ → Option FileStatus → Type 0
 IsKnown reads path seen = (one : Expected) × IsSeenBefore reads path one × IsSeenAs one seen
 
--- the file aside has a name of new files, and what was seen is known of the path
-abbrev pub IsKnownAside : List ReadPath → List ℕ → NewContent → Type 0
-IsKnownAside reads path one = IsNewFile (place_of one.aside) × IsKnown reads path one.seen
+-- the temporary file has a name of new files, and what was seen is known of the path
+abbrev pub IsKnownTempFile : List ReadPath → List ℕ → NewContent → Type 0
+IsKnownTempFile reads path one = IsNewFile (place_of one.temp_file) × IsKnown reads path one.seen
 
 -- so are these, of as many of the writes
 abbrev pub AreKnown : List ReadPath → List FileWrite → List NewContent → Type 0
 AreKnown reads writes [] = Unit {0}
-AreKnown reads [] (one ∷ asides) = ⊥
-AreKnown reads (write ∷ writes) (one ∷ asides) = IsKnownAside reads write.path.now one × AreKnown reads writes asides
+AreKnown reads [] (one ∷ temp_files) = ⊥
+AreKnown reads (write ∷ writes) (one ∷ temp_files) =
+    IsKnownTempFile reads write.path.now one × AreKnown reads writes temp_files
 
 -- the path's own name in some folder changed, at which stood directly before what was seen
 pub record IsChangeAt (reads : List ReadPath) (path : List ℕ) (change : NameChange) : Type 0 where
@@ -87,12 +91,13 @@ pub record IsChangeAt (reads : List ReadPath) (path : List ℕ) (change : NameCh
   pub at : change.place ≡ place_in folder name
   pub seen : Option FileStatus
   pub is_known : IsKnown reads path seen
-  pub is_expected : IsExpected seen change.told
+  pub is_expected : IsExpected seen change.reported
 
 -- so did that of one of the writes
 abbrev pub IsChangeOfSome : List ReadPath → List FileWrite → NameChange → Type 0
 IsChangeOfSome reads [] change = ⊥
-IsChangeOfSome reads (write ∷ writes) change = IsChangeAt reads write.path.now change ⊎ IsChangeOfSome reads writes change
+IsChangeOfSome reads (write ∷ writes) change =
+    IsChangeAt reads write.path.now change ⊎ IsChangeOfSome reads writes change
 
 -- No edit is lost at the paths of the writes: the names that changed are those of new files, and those of the paths at
 -- which stood directly before what was expected.

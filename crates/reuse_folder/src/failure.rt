@@ -1,13 +1,13 @@
 //! What the last call of a store that failed was.
-use reuse_store::Asked;
-use reuse_system::fault::{FolderFault, Obstacle};
+use reuse_store::StoreRequest;
+use reuse_system::fault::{FolderFault, IoReason};
 use std::alloc::Global;
 use std::fmt;
 
 /// A call that failed: what it asked for, at which path, and why it failed.
 #[derive(Drop)]
 pub struct Failure {
-    asked: Asked,
+    asked: StoreRequest,
     /// Empty for the root.
     path: String,
     fault: FolderFault,
@@ -16,23 +16,23 @@ pub struct Failure {
 impl Failure {
     /// Whether it failed since another program had changed what stands there.
     pub fn is_change(&self) -> bool {
-        matches!(self.fault, FolderFault::Device(Obstacle::Changing))
+        matches!(self.fault, FolderFault::Device(IoReason::Changing))
     }
 
     /// Whether it failed since something stands there that is neither a file nor a folder.
     pub fn is_foreign(&self) -> bool {
-        matches!(self.fault, FolderFault::Device(Obstacle::Foreign))
+        matches!(self.fault, FolderFault::Device(IoReason::Foreign))
     }
 }
 
 impl fmt::Display for Failure {
     fn fmt<W: fmt::Write>(&self, f: &mut fmt::Formatter<W>) -> fmt::Result {
         let asked = match self.asked {
-            Asked::List => "list",
-            Asked::Read => "read",
-            Asked::Write => "write",
-            Asked::Remove => "remove",
-            Asked::Sync => "sync",
+            StoreRequest::List => "list",
+            StoreRequest::Read => "read",
+            StoreRequest::Write => "write",
+            StoreRequest::Remove => "remove",
+            StoreRequest::Sync => "sync",
         };
         let path = self.path.as_str();
         let place = if path.is_empty() { "." } else { path };
@@ -56,7 +56,7 @@ impl LastFailure {
     pub fn note<T>(
         &mut self,
         alloc: Global,
-        asked: Asked,
+        asked: StoreRequest,
         path: &str,
         answer: &Result<T, FolderFault>,
     ) {

@@ -4,7 +4,7 @@ ghost use Rattle.std.specs.List.Sorted.{IsSorted};
 ghost use Rattle.std.specs.Ordering.{nat_cmp};
 ghost use Rattle.std.specs.Cmp.Lexicographic.{slice_cmp};
 ghost use Rattle.std.proofs.Props.{props};
-ghost use Rattle.reuse_system.specs.KeptOut.{is_kept_out};
+ghost use Rattle.reuse_system.specs.Ignored.{is_ignored};
 ghost use Rattle.reuse_system.specs.SystemCalls.{SystemStart};
 ghost use Rattle.reuse_folder.specs.RootFolders.{AreOpenedNow};
 
@@ -14,13 +14,13 @@ mod seen;
 mod writing;
 
 use crate::journal_owner::{JournalOwners, journal_owners};
-use crate::keeping::Keeping;
+use crate::ownership::OwnershipPolicy;
 use crate::remembered::Remembered;
 pub use batch::Stop;
 use reuse_change::{Change, PathText, Pruning};
-use reuse_disk::{Listing, NewFile, Trail, Unsynced};
+use reuse_disk::{Listing, NewFile, OpenFolders, Unsynced};
 use reuse_system::fault::FolderFault;
-use reuse_system::kept_out::is_kept_out;
+use reuse_system::ignored::is_ignored;
 use reuse_system::place::{FileStatus, Found, Place, folder_and_name};
 use reuse_system::syncs::Syncs;
 use reuse_system::system::{HostSystem, System};
@@ -37,7 +37,7 @@ pub struct RootFolder<R: Files<File = File> + AllocGlobal + Clone + Drop> {
     /// All calls that change regular files go through it.
     system: HostSystem<R>,
     /// The folders that are open.
-    trail: Trail,
+    open_folders: OpenFolders,
     /// The paths that were read since the last write, in order and up to a bound: a write expects
     /// there what was read.
     reads: Vec<ReadPath>,
@@ -50,20 +50,20 @@ pub struct RootFolder<R: Files<File = File> + AllocGlobal + Clone + Drop> {
     /// The folders that listings found and passed over.
     passed_over: Vec<String>,
     unsynced: Unsynced,
-    keeping: Keeping,
-    ghost opened: { AreOpenedNow system.noted trail } by { Prim.hlevel props },
+    ownership: OwnershipPolicy,
+    ghost opened: { AreOpenedNow system.noted open_folders } by { Prim.hlevel props },
 }
 
 impl<R: Files<File = File> + AllocGlobal + Clone + Drop> RootFolder<R> {
     ghost use Rattle.reuse_folder.specs.FolderReads.{IsPlaceAt, LiesIn};
-    ghost use Rattle.reuse_disk.specs.Trails.{current_of};
+    ghost use Rattle.reuse_disk.specs.OpenFolders.{current_of};
     ghost use Rattle.reuse_system.specs.FolderPlaces.{IsNoFile};
-    /// The folder at this path, in which what is written is made lasting or not.
-    pub fn new(rt: R, root: String, syncs: Syncs, keeping: Keeping) -> RootFolder<R>
+    /// The folder at this path, in which what is written is made durable or not.
+    pub fn new(rt: R, root: String, syncs: Syncs, ownership: OwnershipPolicy) -> RootFolder<R>
         ghost start: { SystemStart }
         ensures { result.unsynced.syncs ≡ syncs }
     {
-        let trail = Trail::new(rt.alloc(), root, keeping.process());
+        let open_folders = OpenFolders::new(rt.alloc(), root, ownership.process());
         let listed = String::new(rt.alloc());
         let unsynced = Unsynced::new(rt.alloc(), syncs);
         let reads = Vec::new(rt.alloc());
@@ -71,20 +71,20 @@ impl<R: Files<File = File> + AllocGlobal + Clone + Drop> RootFolder<R> {
         let passed_over = Vec::new(rt.alloc());
         RootFolder {
             system: HostSystem::new(rt),
-            trail,
+            open_folders,
             reads,
             remembered,
             new_file: None,
             listed,
             passed_over,
             unsynced,
-            keeping,
+            ownership,
         }
     }
 
     /// How files keep their owners here.
-    pub fn keeping(&mut self) -> &mut Keeping {
-        &mut self.keeping
+    pub fn ownership(&mut self) -> &mut OwnershipPolicy {
+        &mut self.ownership
     }
 
     /// Short files that are read from now on are remembered, for a call that began at this time
@@ -97,13 +97,14 @@ impl<R: Files<File = File> + AllocGlobal + Clone + Drop> RootFolder<R> {
     /// `come_back`.
     pub fn go_to_handles(&mut self, env: &impl Env, alloc: Global) {
         self.new_file = None;
-        self.trail.go_to_handles(&mut self.system, env, alloc);
+        self.open_folders
+            .go_to_handles(&mut self.system, env, alloc);
     }
 
     /// Comes back to the folder that the process was called in.
     pub fn come_back(&mut self, env: &impl Env, alloc: Global) {
         self.new_file = None;
-        self.trail.come_back(env, alloc);
+        self.open_folders.come_back(env, alloc);
     }
 
     /// The folder that the last listing looked at last, which is empty for the root: where one that
@@ -123,32 +124,37 @@ impl<R: Files<File = File> + AllocGlobal + Clone + Drop> RootFolder<R> {
         self.unsynced.last()
     }
 
-    /// Whether folders are sought by their paths, since the system doesn't show open ones.
+    /// Whether folders are searched for by their paths, since the system doesn't show open ones.
     pub fn is_by_path(&self) -> bool {
-        self.trail.is_by_path()
+        self.open_folders.is_by_path()
     }
 
     /// Nothing, or a fault where the root isn't there any more.
     fn nothing(&self, alloc: Global) -> Result<Place, FolderFault>
         ensures { IfOk result (λ place. place ≡ Place.Nothing) }
     {
-        self.trail.check_root(self.system.rt(), alloc)?;
+        self.open_folders.check_root(self.system.rt(), alloc)?;
         Ok(Place::Nothing)
     }
 
     /// What stands at the path. The folder that it lies in is entered, if it is there.
     fn look(&mut self, alloc: Global, path: &PathText) -> Result<Place, FolderFault>
-        ensures kept { ⟦<HostSystem<R> as System>⟧.holds self.new.system ≡ ⟦<HostSystem<R> as System>⟧.holds self.old.system }
-        ensures changes { ⟦<HostSystem<R> as System>⟧.changes self.new.system ≡ ⟦<HostSystem<R> as System>⟧.changes self.old.system }
-        ensures still { ⟦<HostSystem<R> as System>⟧.folders self.new.system ≡ ⟦<HostSystem<R> as System>⟧.folders self.old.system }
+        ensures kept { ⟦<HostSystem<R> as System>⟧.holds self.new.system
+            ≡ ⟦<HostSystem<R> as System>⟧.holds self.old.system }
+        ensures changes { ⟦<HostSystem<R> as System>⟧.changes self.new.system
+            ≡ ⟦<HostSystem<R> as System>⟧.changes self.old.system }
+        ensures still { ⟦<HostSystem<R> as System>⟧.folders self.new.system
+            ≡ ⟦<HostSystem<R> as System>⟧.folders self.old.system }
         ensures earlier { ⟦<HostSystem<R> as System>⟧.honest self.new.system
             → ⟦<HostSystem<R> as System>⟧.honest self.old.system }
         ensures remembered { self.new.remembered ≡ self.old.remembered }
         ensures lies { ⟦<HostSystem<R> as System>⟧.honest self.new.system
-            → IfOk result (LiesIn (⟦<HostSystem<R> as System>⟧.folders self.new.system) path.now (current_of self.new.trail)) }
+            → IfOk result
+            (LiesIn (⟦<HostSystem<R> as System>⟧.folders self.new.system) path.now (current_of self.new.open_folders)) }
         ensures seen { ⟦<HostSystem<R> as System>⟧.honest self.new.system
-            → IfOk result (IsPlaceAt (⟦<HostSystem<R> as System>⟧.folders self.new.system) (⟦<HostSystem<R> as System>⟧.holds self.new.system) path.now (current_of self.new.trail)) }
-        ensures kept_out { IsTrue (is_kept_out path.now) → result ≡ Ok Place.Other }
+            → IfOk result (IsPlaceAt (⟦<HostSystem<R> as System>⟧.folders self.new.system)
+            (⟦<HostSystem<R> as System>⟧.holds self.new.system) path.now (current_of self.new.open_folders)) }
+        ensures ignored { IsTrue (is_ignored path.now) → result ≡ Ok Place.Other }
     {
         self.look_unless_seen(alloc, path, None)
     }
@@ -160,27 +166,33 @@ impl<R: Files<File = File> + AllocGlobal + Clone + Drop> RootFolder<R> {
         path: &PathText,
         seen: Option<FileStatus>,
     ) -> Result<Place, FolderFault>
-        ensures kept { ⟦<HostSystem<R> as System>⟧.holds self.new.system ≡ ⟦<HostSystem<R> as System>⟧.holds self.old.system }
-        ensures changes { ⟦<HostSystem<R> as System>⟧.changes self.new.system ≡ ⟦<HostSystem<R> as System>⟧.changes self.old.system }
-        ensures still { ⟦<HostSystem<R> as System>⟧.folders self.new.system ≡ ⟦<HostSystem<R> as System>⟧.folders self.old.system }
+        ensures kept { ⟦<HostSystem<R> as System>⟧.holds self.new.system
+            ≡ ⟦<HostSystem<R> as System>⟧.holds self.old.system }
+        ensures changes { ⟦<HostSystem<R> as System>⟧.changes self.new.system
+            ≡ ⟦<HostSystem<R> as System>⟧.changes self.old.system }
+        ensures still { ⟦<HostSystem<R> as System>⟧.folders self.new.system
+            ≡ ⟦<HostSystem<R> as System>⟧.folders self.old.system }
         ensures earlier { ⟦<HostSystem<R> as System>⟧.honest self.new.system
             → ⟦<HostSystem<R> as System>⟧.honest self.old.system }
         ensures syncs { self.new.unsynced.syncs ≡ self.old.unsynced.syncs }
         ensures remembered { self.new.remembered ≡ self.old.remembered }
         ensures lies { ⟦<HostSystem<R> as System>⟧.honest self.new.system
-            → IfOk result (LiesIn (⟦<HostSystem<R> as System>⟧.folders self.new.system) path.now (current_of self.new.trail)) }
-        // What was seen may be another file by now; what is no file is told as it is.
+            → IfOk result
+            (LiesIn (⟦<HostSystem<R> as System>⟧.folders self.new.system) path.now (current_of self.new.open_folders)) }
+        // What was seen may be another file by now; what is no file is reported as it is.
         ensures apart { ⟦<HostSystem<R> as System>⟧.honest self.new.system
-            → IfOk result (λ place. IsNoFile place → IsPlaceAt (⟦<HostSystem<R> as System>⟧.folders self.new.system) (⟦<HostSystem<R> as System>⟧.holds self.new.system) path.now (current_of self.new.trail) place) }
+            → IfOk result (λ place. IsNoFile place → IsPlaceAt (⟦<HostSystem<R> as System>⟧.folders self.new.system)
+            (⟦<HostSystem<R> as System>⟧.holds self.new.system) path.now (current_of self.new.open_folders) place) }
         ensures seen { ⟦<HostSystem<R> as System>⟧.honest self.new.system → seen ≡ None
-            → IfOk result (IsPlaceAt (⟦<HostSystem<R> as System>⟧.folders self.new.system) (⟦<HostSystem<R> as System>⟧.holds self.new.system) path.now (current_of self.new.trail)) }
-        ensures kept_out { IsTrue (is_kept_out path.now) → result ≡ Ok Place.Other }
+            → IfOk result (IsPlaceAt (⟦<HostSystem<R> as System>⟧.folders self.new.system)
+            (⟦<HostSystem<R> as System>⟧.holds self.new.system) path.now (current_of self.new.open_folders)) }
+        ensures ignored { IsTrue (is_ignored path.now) → result ≡ Ok Place.Other }
     {
-        if is_kept_out(path.text()) {
+        if is_ignored(path.text()) {
             return Ok(Place::Other);
         }
         let (folder, name) = folder_and_name(path.text());
-        match self.trail.enter(&mut self.system, alloc, folder)? {
+        match self.open_folders.enter(&mut self.system, alloc, folder)? {
             None => {}
             Some(Place::Nothing) => return self.nothing(alloc),
             Some(place) => return Ok(place),
@@ -188,7 +200,7 @@ impl<R: Files<File = File> + AllocGlobal + Clone + Drop> RootFolder<R> {
         if let Some(status) = seen {
             return Ok(Place::File(status));
         }
-        match self.system.look(self.trail.current()?, name)? {
+        match self.system.look(self.open_folders.current()?, name)? {
             Found::Nothing => self.nothing(alloc),
             found => Ok(found.into_place()),
         }
@@ -204,21 +216,26 @@ impl<R: Files<File = File> + AllocGlobal + Clone + Drop> RootFolder<R> {
         pruning: &P,
     ) -> Result<Vec<PathText>, FolderFault>
         ensures sorted { IfOk result (λ paths. IsSorted (slice_cmp nat_cmp) paths.items) }
-        ensures kept_out { IfOk result (λ paths. All (λ path. is_kept_out path ≡ false) paths.items) }
+        ensures ignored { IfOk result (λ paths. All (λ path. is_ignored path ≡ false) paths.items) }
     {
         let mut listing = Listing::new(alloc, pruning);
         if folders.is_empty() {
-            self.trail.close();
+            self.open_folders.close();
             listing.take_folder(alloc, "")?;
         }
         for (index, place) in folders.iter().enumerate() {
-            self.keeping.note_path(place.text());
+            self.ownership.note_path(place.text());
             if !is_repeated(folders, index, place) {
                 self.take_place(alloc, place, &mut listing)?;
             }
         }
         self.new_file = None;
-        listing.walk(&mut self.system, alloc, &mut self.trail, &mut self.listed)?;
+        listing.walk(
+            &mut self.system,
+            alloc,
+            &mut self.open_folders,
+            &mut self.listed,
+        )?;
         let (paths, mut passed) = listing.into_found();
         self.passed_over.append(&mut passed)?;
         Ok(paths)
@@ -248,23 +265,23 @@ impl<R: Files<File = File> + AllocGlobal + Clone + Drop> RootFolder<R> {
 
     /// Whose the journal is.
     pub fn journal_owners(&mut self, alloc: Global) -> Result<JournalOwners, FolderFault> {
-        journal_owners(&mut self.system, alloc, &mut self.trail)
+        journal_owners(&mut self.system, alloc, &mut self.open_folders)
     }
 
     /// Whether the file at the path can be written anew: it keeps its owner, or needn't. What isn't
     /// there can.
     pub fn may_write(&mut self, alloc: Global, path: &PathText) -> Result<bool, FolderFault> {
         match self.look(alloc, path)? {
-            Place::File(status) => Ok(self.keeping.may_write(status)),
+            Place::File(status) => Ok(self.ownership.may_write(status)),
             _ => Ok(true),
         }
     }
 
-    /// Makes lasting what the files of the journal hold now, and what the paths of these changes
+    /// Makes durable what the files of the journal hold now, and what the paths of these changes
     /// hold, whoever wrote them, and all that was put and removed here.
     pub fn sync(&mut self, alloc: Global, changes: &[Change]) -> Result<(), FolderFault> {
         self.unsynced
-            .sync(&mut self.system, alloc, &mut self.trail, changes)
+            .sync(&mut self.system, alloc, &mut self.open_folders, changes)
     }
 }
 

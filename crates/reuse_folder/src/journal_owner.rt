@@ -2,10 +2,10 @@
 //! of a pending step, and `undo` those of a step. So a journal of another user is not opened.
 ghost use Rattle.std.specs.Prelude.{◌≡◌};
 ghost use Rattle.reuse_folder.specs.JournalOwners.{is_of_other, is_journal_of_other};
-ghost use Rattle.reuse_disk.specs.Trails.{AreOpenedIf};
+ghost use Rattle.reuse_disk.specs.OpenFolders.{AreOpenedIf};
 
 use reuse_change::layout::{ABOVE_JOURNAL, HEAD_NAME, JOURNAL};
-use reuse_disk::Trail;
+use reuse_disk::OpenFolders;
 use reuse_system::fault::FolderFault;
 use reuse_system::place::Found;
 use reuse_system::system::{HostSystem, System};
@@ -45,24 +45,26 @@ impl JournalOwners {
     }
 }
 
-/// Whose the journal below the root of this trail is. Nothing of it is read. What is opened is what
-/// is looked at, and stays open.
+/// Whose the journal below the root of these open folders is. Nothing of it is read. What is opened
+/// is what is looked at, and stays open.
 pub fn journal_owners<R: Files<File = File> + AllocGlobal + Drop>(
     system: &mut HostSystem<R>,
     alloc: Global,
-    trail: &mut Trail,
+    open_folders: &mut OpenFolders,
 ) -> Result<JournalOwners, FolderFault>
     ensures kept { ⟦<HostSystem<R> as System>⟧.holds system.new ≡ ⟦<HostSystem<R> as System>⟧.holds system.old }
     ensures changes { ⟦<HostSystem<R> as System>⟧.changes system.new ≡ ⟦<HostSystem<R> as System>⟧.changes system.old }
     ensures still { ⟦<HostSystem<R> as System>⟧.folders system.new ≡ ⟦<HostSystem<R> as System>⟧.folders system.old }
     ensures earlier { ⟦<HostSystem<R> as System>⟧.honest system.new → ⟦<HostSystem<R> as System>⟧.honest system.old }
-    ensures opened { AreOpenedIf (⟦<HostSystem<R> as System>⟧.honest system.old) (⟦<HostSystem<R> as System>⟧.folders system.old) trail.old
-        → AreOpenedIf (⟦<HostSystem<R> as System>⟧.honest system.new) (⟦<HostSystem<R> as System>⟧.folders system.new) trail.new }
+    ensures opened { AreOpenedIf (⟦<HostSystem<R> as System>⟧.honest system.old)
+        (⟦<HostSystem<R> as System>⟧.folders system.old) open_folders.old
+        → AreOpenedIf (⟦<HostSystem<R> as System>⟧.honest system.new)
+        (⟦<HostSystem<R> as System>⟧.folders system.new) open_folders.new }
 {
-    let above = folder_owner(system, alloc, trail, ABOVE_JOURNAL)?;
-    let folder = folder_owner(system, alloc, trail, JOURNAL)?;
+    let above = folder_owner(system, alloc, open_folders, ABOVE_JOURNAL)?;
+    let folder = folder_owner(system, alloc, open_folders, JOURNAL)?;
     let head = match folder {
-        Some(_) => match trail.current()?.look(system.rt(), alloc, HEAD_NAME)? {
+        Some(_) => match open_folders.current()?.look(system.rt(), alloc, HEAD_NAME)? {
             Found::File(status) => Some(status.owner.user),
             _ => None,
         },
@@ -78,18 +80,18 @@ pub fn journal_owners<R: Files<File = File> + AllocGlobal + Drop>(
 fn folder_owner<S: System>(
     system: &mut S,
     alloc: Global,
-    trail: &mut Trail,
+    open_folders: &mut OpenFolders,
     folder: &str,
 ) -> Result<Option<u32>, FolderFault>
     ensures kept { S.holds system.new ≡ S.holds system.old }
     ensures changes { S.changes system.new ≡ S.changes system.old }
     ensures still { S.folders system.new ≡ S.folders system.old }
     ensures earlier { S.honest system.new → S.honest system.old }
-    ensures opened { AreOpenedIf (S.honest system.old) (S.folders system.old) trail.old
-        → AreOpenedIf (S.honest system.new) (S.folders system.new) trail.new }
+    ensures opened { AreOpenedIf (S.honest system.old) (S.folders system.old) open_folders.old
+        → AreOpenedIf (S.honest system.new) (S.folders system.new) open_folders.new }
 {
-    match trail.enter(system, alloc, folder)? {
-        None => Ok(Some(trail.current()?.owner().user)),
+    match open_folders.enter(system, alloc, folder)? {
+        None => Ok(Some(open_folders.current()?.owner().user)),
         Some(_) => Ok(None),
     }
 }

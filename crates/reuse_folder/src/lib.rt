@@ -1,8 +1,9 @@
 //! A folder of the file system as a store of files.
 //!
-//! No link is followed, and no file is written where another may read it half: it is written aside,
-//! synced and renamed. Each call of the system is noted with its answer, and the contracts speak of
-//! these notes. The program opens a store, with the lock of its folder in hand. Tested by
+//! No link is followed, and no file is written where another may read it half: it is written to a
+//! temporary file, synced and renamed. Each call of the system is noted with its answer, and the
+//! contracts speak of these notes. The program opens a store, with the lock of its folder in hand.
+//! Tested by
 //! `folder.sh`, `races.sh`, `syncs.sh`, `owners.sh` and `fail_system_calls.sh` in `tests/`.
 #![tactic(auto)]
 
@@ -26,19 +27,19 @@ ghost use Rattle.reuse_folder.specs.Honesty.{files_of, IsHonest};
 mod failure;
 mod folder;
 mod journal_owner;
-mod keeping;
+mod ownership;
 mod remembered;
 mod rolled_back;
 
 pub use failure::Failure;
 use failure::LastFailure;
 use folder::{RootFolder, Stop};
-use keeping::Keeping;
-pub use keeping::Kept;
-use reuse_change::{Change, Parts, PathText, Pruning};
+pub use ownership::OwnerReport;
+use ownership::OwnershipPolicy;
+use reuse_change::{Change, PathText, Pieces, Pruning};
 use reuse_lock::{LockedFolders, RootLock};
 use reuse_store::laws::files_stay_good;
-use reuse_store::{Asked, CallRecord, FileWrite, Reading, Store, StoreFault};
+use reuse_store::{CallRecord, FileWrite, Reading, Store, StoreFault, StoreRequest};
 use reuse_system::fault::FolderFault;
 use reuse_system::owner::{OwnerChange, Process};
 use reuse_system::syncs::Syncs;
@@ -67,7 +68,7 @@ pub struct DiskStore<R: Files<File = File> + AllocGlobal + Clone + Drop> {
 }
 
 impl<R: Files<File = File> + AllocGlobal + Clone + Drop> DiskStore<R> {
-    /// The folder that is locked, in which what is written is made lasting or not, and files may
+    /// The folder that is locked, in which what is written is made durable or not, and files may
     /// lose their owners or not. The system isn't asked for the folder yet, so what it holds is
     /// unknown: for any files the contract gives a store that holds these, and the answers then fit
     /// or don't.
@@ -80,9 +81,9 @@ impl<R: Files<File = File> + AllocGlobal + Clone + Drop> DiskStore<R> {
         ensures mutations { ⟦<DiskStore<R> as Store>⟧.mutations result ≡ 0 }
     {
         let (root, lock) = lock.into_parts();
-        let keeping = Keeping::new(Process::current(&rt, rt.alloc()), owner_change);
+        let ownership = OwnershipPolicy::new(Process::current(&rt, rt.alloc()), owner_change);
         DiskStore {
-            folder: RootFolder::new(rt, root, syncs, keeping),
+            folder: RootFolder::new(rt, root, syncs, ownership),
             failure: LastFailure::none(),
             calls: CallRecord::new(),
             rolled_back: RolledBack::nothing(),
@@ -91,9 +92,9 @@ impl<R: Files<File = File> + AllocGlobal + Clone + Drop> DiskStore<R> {
     }
 
     /// Whether the journal belongs to another user than the process. If that can't be seen, it
-    /// isn't told here: opening the journal fails.
+    /// isn't reported here: opening the journal fails.
     pub fn is_journal_of_other(&mut self, alloc: Global) -> bool {
-        let user = self.folder.keeping().user();
+        let user = self.folder.ownership().user();
         match self.folder.journal_owners(alloc) {
             Ok(owners) => owners.is_journal_of_other(user),
             Err(_) => false,
@@ -103,17 +104,17 @@ impl<R: Files<File = File> + AllocGlobal + Clone + Drop> DiskStore<R> {
     /// From now on the first put of a call fails if a file was read that can't keep its owner,
     /// unless that is allowed, or if a name was asked for that no file can have.
     pub fn watch_writes(&mut self) {
-        self.folder.keeping().watch();
+        self.folder.ownership().watch();
     }
 
     /// Short files that are read from now on are remembered, for a call that began at this time
-    /// since 1970: they aren't read again as long as the system tells the same of them.
+    /// since 1970: they aren't read again as long as the system reports the same of them.
     pub fn remember_files(&mut self, since: Option<Duration>) {
         self.folder.remember_files(since);
     }
 
     /// Goes to where the system shows the handles of the process, so that paths through them are
-    /// short, until `come_back`. Meanwhile no other path is to be told from where the process was.
+    /// short, until `come_back`. Meanwhile no other path may start where the process was.
     pub fn go_to_handles(&mut self, env: &impl Env, alloc: Global) {
         self.folder.go_to_handles(env, alloc);
     }
@@ -137,7 +138,7 @@ impl<R: Files<File = File> + AllocGlobal + Clone + Drop> DiskStore<R> {
 
     /// No put fails for that any more, but those of such files; whether one has failed.
     pub fn release_writes(&mut self) -> bool {
-        self.folder.keeping().release()
+        self.folder.ownership().release()
     }
 
     /// Whether the file at the path, if there is one, can be written anew and keep its owner, or
@@ -148,8 +149,8 @@ impl<R: Files<File = File> + AllocGlobal + Clone + Drop> DiskStore<R> {
     }
 
     /// What was done so far to owners and names of files.
-    pub fn kept(&mut self) -> Kept {
-        self.folder.keeping().kept()
+    pub fn owner_report(&mut self) -> OwnerReport {
+        self.folder.ownership().owner_report()
     }
 
     /// How many files were rolled back, if a step was pending and isn't any more.
@@ -157,7 +158,7 @@ impl<R: Files<File = File> + AllocGlobal + Clone + Drop> DiskStore<R> {
         self.rolled_back.files()
     }
 
-    /// Whether folders are sought by their paths, since the system doesn't show open ones.
+    /// Whether folders are searched for by their paths, since the system doesn't show open ones.
     pub fn is_by_path(&self) -> bool {
         self.folder.is_by_path()
     }
@@ -172,7 +173,7 @@ impl<R: Files<File = File> + AllocGlobal + Clone + Drop> DiskStore<R> {
         &mut self,
         alloc: Global,
         path: &PathText,
-        parts: Parts,
+        parts: Pieces,
         answer: Result<(), FolderFault>,
     ) -> Result<(), StoreFault>
         ensures puts { IsPut ⟦<DiskStore<R> as Store>⟧ path.now (joined parts.entry) self.old self.new result }
@@ -184,7 +185,8 @@ impl<R: Files<File = File> + AllocGlobal + Clone + Drop> DiskStore<R> {
     {
         files_stay_good();
         self.rolled_back.note(path.text(), answer.is_ok());
-        self.failure.note(alloc, Asked::Write, path.text(), &answer);
+        self.failure
+            .note(alloc, StoreRequest::Write, path.text(), &answer);
         let answer = answer.map_err(StoreFault::from);
         self.calls.note_put_parts(path, parts, &answer);
         answer
@@ -207,7 +209,7 @@ impl<R: Files<File = File> + AllocGlobal + Clone + Drop> DiskStore<R> {
         files_stay_good();
         self.rolled_back.note(path.text(), answer.is_ok());
         self.failure
-            .note(alloc, Asked::Remove, path.text(), &answer);
+            .note(alloc, StoreRequest::Remove, path.text(), &answer);
         let answer = answer.map_err(StoreFault::from);
         self.calls.note_remove(path, &answer);
         answer
@@ -282,7 +284,8 @@ fn note_listing<P: Pruning>(
 )
     ghost pruned: { List (List ℕ) }
     ensures { calls.new ≡ record calls.old {
-      calls = ListCall folders.now pruned (result_map_both (λ paths. paths.items) (λ fault. fault) answer.now) ∷ calls.old.calls;
+      calls = ListCall folders.now pruned
+          (result_map_both (λ paths. paths.items) (λ fault. fault) answer.now) ∷ calls.old.calls;
     } }
 {
     calls.note_list(folders, answer);
@@ -290,11 +293,11 @@ fn note_listing<P: Pruning>(
 
 impl<R: Files<File = File> + AllocGlobal + Clone + Drop> Store for DiskStore<R> {
     ghost use Rattle.reuse_store.specs.Calls.{failures_of, written_of, mutations_of};
-    ghost use Rattle.reuse_folder.specs.Honesty.{files_of, files_may_be_left, IsHonest, MayBeLeft};
+    ghost use Rattle.reuse_folder.specs.Honesty.{files_of, files_are_a_crash_state, IsHonest, IsCrashState};
 
     ghost files = { λ store. files_of store.calls.start store.calls.calls };
 
-    ghost may_be = { λ store. MayBeLeft store.calls.start store.calls.doubts store.calls.calls };
+    ghost crash_states = { λ store. IsCrashState store.calls.start store.calls.initial_crash_states store.calls.calls };
 
     ghost failures = { λ store. failures_of store.calls.calls };
 
@@ -312,7 +315,7 @@ impl<R: Files<File = File> + AllocGlobal + Clone + Drop> Store for DiskStore<R> 
     ) -> Result<Vec<PathText>, StoreFault> {
         let answer = self.folder.list(alloc, folders, pruning);
         self.failure
-            .note(alloc, Asked::List, self.folder.listed(), &answer);
+            .note(alloc, StoreRequest::List, self.folder.listed(), &answer);
         let answer = answer.map_err(StoreFault::from);
         note_listing(&mut self.calls, folders, pruning, &answer);
         answer
@@ -320,35 +323,49 @@ impl<R: Files<File = File> + AllocGlobal + Clone + Drop> Store for DiskStore<R> 
 
     fn read(&mut self, alloc: Global, path: &PathText, limit: usize) -> Result<Reading, StoreFault>
         ensures kept { ⟦<DiskStore<R> as Store>⟧.honest self.old
-            → MatchResult result (λ reading. reading ≡ reading_of (map.get (⟦<DiskStore<R> as Store>⟧.files self.old) path.now) limit → ⟦<DiskStore<R> as Store>⟧.honest self.new) (λ fault. fault ≢ StoreFault.Clash → ⟦<DiskStore<R> as Store>⟧.honest self.new) }
-        ensures reading { ⟦<DiskStore<R> as Store>⟧.honest self.new → IfOk result (λ reading. reading ≡ reading_of (map.get (⟦<DiskStore<R> as Store>⟧.files self.old) path.now) limit) }
+            → MatchResult result
+            (λ reading. reading ≡ reading_of (map.get (⟦<DiskStore<R> as Store>⟧.files self.old) path.now) limit
+            → ⟦<DiskStore<R> as Store>⟧.honest self.new)
+            (λ fault. fault ≢ StoreFault.Clash → ⟦<DiskStore<R> as Store>⟧.honest self.new) }
+        ensures reading { ⟦<DiskStore<R> as Store>⟧.honest self.new → IfOk result
+            (λ reading. reading ≡ reading_of (map.get (⟦<DiskStore<R> as Store>⟧.files self.old) path.now) limit) }
         ensures fails { FailsAsRead ⟦<DiskStore<R> as Store>⟧ self.old self.new result }
         ensures reads { OnlyReads ⟦<DiskStore<R> as Store>⟧ self.old self.new }
         // What is read is what the file at the path holds on the disk, if none is remembered.
-        ensures read { ⟦<HostSystem<R> as System>⟧.honest self.new.folder.system → self.old.folder.remembered.files.items ≡ []
-            → IfOk result (IsReadWith (foreign_of self.old.rolled_back) (⟦<HostSystem<R> as System>⟧.folders self.new.folder.system) (⟦<HostSystem<R> as System>⟧.holds self.new.folder.system) path.now limit) }
+        ensures read { ⟦<HostSystem<R> as System>⟧.honest self.new.folder.system
+            → self.old.folder.remembered.files.items ≡ []
+            → IfOk result
+            (IsReadWith (foreign_of self.old.rolled_back) (⟦<HostSystem<R> as System>⟧.folders self.new.folder.system)
+            (⟦<HostSystem<R> as System>⟧.holds self.new.folder.system) path.now limit) }
     {
         let foreign = self.rolled_back.foreign();
         let answer = self.folder.read_with(alloc, path, limit, foreign);
-        self.failure.note(alloc, Asked::Read, path.text(), &answer);
+        self.failure
+            .note(alloc, StoreRequest::Read, path.text(), &answer);
         let answer = answer.map_err(StoreFault::from);
         self.calls.note_read(path, limit, &answer);
         answer
     }
 
-    fn put_parts(&mut self, alloc: Global, path: &PathText, parts: Parts) -> Result<(), StoreFault>
+    fn put_parts(&mut self, alloc: Global, path: &PathText, parts: Pieces) -> Result<(), StoreFault>
         ensures puts { IsPut ⟦<DiskStore<R> as Store>⟧ path.now (joined parts.entry) self.old self.new result }
         ensures later { IsLater ⟦<DiskStore<R> as Store>⟧ self.old self.new }
         // On the disk the file at the path has these bytes, and nothing else differs.
         ensures stands { ⟦<HostSystem<R> as System>⟧.honest self.new.folder.system
-            → IfOk result (λ _. IsStoredAt (⟦<HostSystem<R> as System>⟧.folders self.new.folder.system) (⟦<HostSystem<R> as System>⟧.holds self.new.folder.system) path.now (joined parts.entry) (is_kept self.old.folder.unsynced.syncs)) }
+            → IfOk result (λ _. IsStoredAt (⟦<HostSystem<R> as System>⟧.folders self.new.folder.system)
+            (⟦<HostSystem<R> as System>⟧.holds self.new.folder.system) path.now (joined parts.entry)
+            (is_kept self.old.folder.unsynced.syncs)) }
         ensures place { ⟦<HostSystem<R> as System>⟧.honest self.new.folder.system
-            → IsPutIn (⟦<HostSystem<R> as System>⟧.folders self.new.folder.system) path.now (joined parts.entry) (is_kept self.old.folder.unsynced.syncs)
-            (⟦<HostSystem<R> as System>⟧.holds self.old.folder.system) (⟦<HostSystem<R> as System>⟧.holds self.new.folder.system) (is_ok result) }
+            → IsPutIn (⟦<HostSystem<R> as System>⟧.folders self.new.folder.system) path.now (joined parts.entry)
+            (is_kept self.old.folder.unsynced.syncs)
+            (⟦<HostSystem<R> as System>⟧.holds self.old.folder.system)
+            (⟦<HostSystem<R> as System>⟧.holds self.new.folder.system) (is_ok result) }
         // The file at the path stays if it isn't what was read there.
         ensures keeps_edits { LosesNoEditAfter self.old.folder.reads.items path.now
-            (⟦<HostSystem<R> as System>⟧.changes self.old.folder.system) (⟦<HostSystem<R> as System>⟧.changes self.new.folder.system)
-            (⟦<HostSystem<R> as System>⟧.holds self.old.folder.system) (⟦<HostSystem<R> as System>⟧.holds self.new.folder.system) }
+            (⟦<HostSystem<R> as System>⟧.changes self.old.folder.system)
+            (⟦<HostSystem<R> as System>⟧.changes self.new.folder.system)
+            (⟦<HostSystem<R> as System>⟧.holds self.old.folder.system)
+            (⟦<HostSystem<R> as System>⟧.holds self.new.folder.system) }
     {
         let answer = self.folder.put(alloc, path, parts);
         self.note_put(alloc, path, parts, answer)
@@ -359,13 +376,18 @@ impl<R: Files<File = File> + AllocGlobal + Clone + Drop> Store for DiskStore<R> 
         ensures later { IsLater ⟦<DiskStore<R> as Store>⟧ self.old self.new }
         // On the disk no file is at the path, and nothing else differs.
         ensures gone { ⟦<HostSystem<R> as System>⟧.honest self.new.folder.system
-            → IfOk result (λ _. IsGone (⟦<HostSystem<R> as System>⟧.folders self.new.folder.system) (⟦<HostSystem<R> as System>⟧.holds self.new.folder.system) path.now) }
+            → IfOk result (λ _. IsGone (⟦<HostSystem<R> as System>⟧.folders self.new.folder.system)
+            (⟦<HostSystem<R> as System>⟧.holds self.new.folder.system) path.now) }
         ensures place { ⟦<HostSystem<R> as System>⟧.honest self.new.folder.system
-            → IsRemovedIn (⟦<HostSystem<R> as System>⟧.folders self.new.folder.system) path.now (⟦<HostSystem<R> as System>⟧.holds self.old.folder.system) (⟦<HostSystem<R> as System>⟧.holds self.new.folder.system) }
+            → IsRemovedIn (⟦<HostSystem<R> as System>⟧.folders self.new.folder.system) path.now
+            (⟦<HostSystem<R> as System>⟧.holds self.old.folder.system)
+            (⟦<HostSystem<R> as System>⟧.holds self.new.folder.system) }
         // The file at the path stays if it isn't what was read there.
         ensures keeps_edits { LosesNoEditAfter self.old.folder.reads.items path.now
-            (⟦<HostSystem<R> as System>⟧.changes self.old.folder.system) (⟦<HostSystem<R> as System>⟧.changes self.new.folder.system)
-            (⟦<HostSystem<R> as System>⟧.holds self.old.folder.system) (⟦<HostSystem<R> as System>⟧.holds self.new.folder.system) }
+            (⟦<HostSystem<R> as System>⟧.changes self.old.folder.system)
+            (⟦<HostSystem<R> as System>⟧.changes self.new.folder.system)
+            (⟦<HostSystem<R> as System>⟧.holds self.old.folder.system)
+            (⟦<HostSystem<R> as System>⟧.holds self.new.folder.system) }
     {
         let answer = self.folder.remove(alloc, path);
         self.note_removal(alloc, path, answer)
@@ -375,7 +397,8 @@ impl<R: Files<File = File> + AllocGlobal + Clone + Drop> Store for DiskStore<R> 
         ensures writes { AreWrites ⟦<DiskStore<R> as Store>⟧ writes.now self.old self.new result }
         // No path changes at which something else stands than was read there.
         ensures keeps_edits { LoseNoEdits self.old.folder.reads.items writes.now
-            (⟦<HostSystem<R> as System>⟧.changes self.old.folder.system) (⟦<HostSystem<R> as System>⟧.changes self.new.folder.system) }
+            (⟦<HostSystem<R> as System>⟧.changes self.old.folder.system)
+            (⟦<HostSystem<R> as System>⟧.changes self.new.folder.system) }
     {
         if writes.is_empty() {
             return Ok(());
@@ -387,13 +410,14 @@ impl<R: Files<File = File> + AllocGlobal + Clone + Drop> Store for DiskStore<R> 
     fn sync(&mut self, alloc: Global, changes: &[Change]) -> Result<(), StoreFault> {
         let answer = self.folder.sync(alloc, changes);
         self.failure
-            .note(alloc, Asked::Sync, self.folder.synced(), &answer);
+            .note(alloc, StoreRequest::Sync, self.folder.synced(), &answer);
         let answer = answer.map_err(StoreFault::from);
         self.calls.note_sync(changes, &answer);
         answer
     }
 
-    ghost files_may_be = { λ store. files_may_be_left store.calls.start store.calls.doubts store.calls.calls };
+    ghost files_in_crash_states = { λ store.
+        files_are_a_crash_state store.calls.start store.calls.initial_crash_states store.calls.calls };
 
     ghost are_files = { λ store honest. store.are_files honest };
 }

@@ -1,7 +1,7 @@
-//! Short files that a call has read, with what the system told of them then. A call that changes
-//! files reads each one twice: when it plans, and just before it writes. The second reading is
-//! saved if the system still tells the same of the file: which file it is, how long it is, and when
-//! it was changed last. Tested by tests/remembered_files.sh and tests/exchanged_files.sh.
+//! Short files that a call has read, with what the system reported of them then. A call that
+//! changes files reads each one twice: when it plans, and just before it writes. The second reading
+//! is saved if the system still reports the same of the file: which file it is, how long it is, and
+//! when it was changed last. Tested by tests/remembered_files.sh and tests/exchanged_files.sh.
 //!
 //! A file that was changed right before the call isn't remembered: the stamp of a further change
 //! could be the same, since the system's stamps go by ticks.

@@ -1,14 +1,14 @@
 //! How many files a run set back that finds a step pending. It writes and removes them first, and
 //! then the head, which is the first file of the journal that it writes.
 ghost use Rattle.std.specs.Prelude.{◌≡◌, if◌then◌else◌, false, true};
-ghost use Rattle.reuse_system.specs.KeptOut.{begins_journal};
+ghost use Rattle.reuse_system.specs.Ignored.{begins_journal};
 ghost use Rattle.reuse_system.specs.Names.{between_slashes};
 ghost use Rattle.reuse_folder.specs.RolledBack.{after_write, foreign_of, rolled_back_by};
 
-use reuse_system::kept_out::is_in_journal;
+use reuse_system::ignored::is_in_journal;
 
-/// What reading a path tells at which something stands that is neither a regular file nor a folder,
-/// as a link or a pipe.
+/// What reading a path reports at which something stands that is neither a regular file nor a
+/// folder, as a link or a pipe.
 #[derive(Clone, Copy, PartialEq, Eq)]
 pub enum Foreign {
     /// That no file of the tree is there.
@@ -46,7 +46,7 @@ impl RolledBack {
         self.is_pending = true;
     }
 
-    /// What reading a path tells at which no file and no folder stands: while a step is rolled
+    /// What reading a path reports at which no file and no folder stands: while a step is rolled
     /// back, such a path is none without a file.
     pub fn foreign(&self) -> Foreign
         ensures { result ≡ foreign_of self.now }
@@ -60,7 +60,8 @@ impl RolledBack {
 
     /// The file at this path was written or removed, if that was done.
     pub fn note(&mut self, path: &str, is_done: bool)
-        ensures { self.new ≡ (if is_done then after_write (begins_journal (between_slashes path.now)) self.old else self.old) }
+        ensures { self.new
+            ≡ (if is_done then after_write (begins_journal (between_slashes path.now)) self.old else self.old) }
     {
         if self.is_over || !is_done {
             return;

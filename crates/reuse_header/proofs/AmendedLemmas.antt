@@ -20,7 +20,8 @@ use Rattle.reuse_notice.specs.MergeSteps.{is_among}
 use Rattle.reuse_notice.specs.Plain.{IsPlain}
 use Rattle.reuse_notice.specs.Sets.{IsSorted}
 use Rattle.reuse_notice.specs.TextLists.{without}
-use Rattle.reuse_amend.specs.Amending.{text_replaced, text_amended, licence_amended, each_made, years_amended, prefix_amended, notice_saying, holder_amended, notice_amended, amended}
+use Rattle.reuse_amend.specs.Amending.{text_replaced, text_amended, licence_amended, each_made, years_amended}
+use Rattle.reuse_amend.specs.Amending.{prefix_amended, notice_saying, holder_amended, notice_amended, amended}
 use Rattle.reuse_amend.specs.Settled.{WritePlainTexts}
 use Rattle.reuse_notice.proofs.ClassLemmas.{text_kept}
 use Rattle.reuse_amend.proofs.UnnamedLemmas.{are_amended}

@@ -87,9 +87,9 @@ amended_ok a old info e = by (amended a old) refl e
     by (Some new) is e' = by_parts new is (says_the_same old new) (says_nothing new) refl refl e'
 
 -- what was to be written, and the edit that writes it
-write_ok : (write : Info → Result Edit HeaderRefusal) (due : Result (Option Info) AmendHeaderRefusal) (edit : Edit)
-    → written_if write due ≡ Ok (Some edit)
-    → (info : Info) × (due ≡ Ok (Some info)) × (write info ≡ Ok edit)
+write_ok : (write : Info → Result Edit HeaderRefusal) (expected : Result (Option Info) AmendHeaderRefusal) (edit : Edit)
+    → written_if write expected ≡ Ok (Some edit)
+    → (info : Info) × (expected ≡ Ok (Some info)) × (write info ≡ Ok edit)
 write_ok write (Err refusal) edit e = absurd (no_refusal refusal (Some edit) e)
 write_ok write (Ok None) edit e = absurd (not_none (Ok None) edit refl e)
 write_ok write (Ok (Some info)) edit e = (info, refl, by (write info) refl e)

@@ -21,7 +21,8 @@ use Rattle.reuse_notice.proofs.NoneLemmas.{none_drop}
 use Rattle.reuse_notice.proofs.NoticeSoundLemmas.{prefix_sound, written_sound}
 use Rattle.reuse_notice.proofs.PrefixLemmas.{found_passes}
 use Rattle.reuse_amend.proofs.ShapeLemmas.{plain_sound}
-use Rattle.reuse_notice.proofs.SoundLemmas.{is_nul, IsSound, is_low, low_is, low_utf8, sound_after, sound_front, sound_end, sound_trimmed}
+use Rattle.reuse_notice.proofs.SoundLemmas.{is_nul, IsSound, is_low, low_is, low_utf8, sound_after, sound_front}
+use Rattle.reuse_notice.proofs.SoundLemmas.{sound_end, sound_trimmed}
 use Rattle.reuse_notice.specs.Infos.{info_of}
 use Rattle.reuse_header.specs.Writing.{new_info}
 use Rattle.reuse_header.proofs.SayableLemmas.{Each, each_of_all}

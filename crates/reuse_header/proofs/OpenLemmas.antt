@@ -237,12 +237,12 @@ neighbour_again made info same few stands =
     ap (λ (m : List ℕ). settled m edit (neighbour_stands true m (text_start edit) (text_end edit))) same
     ∙ settled_yes made edit (neighbour_stands true made (text_start edit) (text_end edit)) few stands
 
-called_again : (how : How) (additions : Additions) (made : List ℕ) (info : Info) (due : Result Edit HeaderRefusal)
+called_again : (how : How) (additions : Additions) (made : List ℕ) (info : Info) (expected : Result Edit HeaderRefusal)
     → how.replace ≡ true → is_text made ≡ true
     → new_info [] (replaced_contents how.replace made) how.merge additions ≡ info
-    → neighbour_written true made info ≡ due → neighbour_annotation_of how additions made ≡ due
+    → neighbour_written true made info ≡ expected → neighbour_annotation_of how additions made ≡ expected
 unfolding neighbour_annotation_of
-called_again how additions made info due replace text says e =
+called_again how additions made info expected replace text says e =
     ap (λ (b : Bool). if b then neighbour_written how.replace made
     (new_info [] (replaced_contents how.replace made) how.merge additions) else Err NotText) text
     ∙ ap (neighbour_written how.replace made) says ∙ ap (λ (r : Bool). neighbour_written r made info) replace ∙ e
@@ -364,9 +364,9 @@ edit_again known laws how arguments file edit replace plain is_text_too e =
     let stand = stands_yes made (text_start (replacement (mark_len_of made) (neighbour_end made) text))
     (text_end (replacement (mark_len_of made) (neighbour_end made) text))
     (sym quiet.2) (omega (arith, quiet.3, there.0, there.1, long)) in
-    let due = called_again how additions made info (Ok (replacement (mark_len_of made) (neighbour_end made) text))
+    let expected = called_again how additions made info (Ok (replacement (mark_len_of made) (neighbour_end made) text))
     replace is_text_too says (neighbour_again made info quiet.0 w.few stand) in
-    ap (answer_of made) due ∙ quiet.1
+    ap (answer_of made) expected ∙ quiet.1
 
 pub neighbour_file_again : Known → Laws → (how : How) (arguments : Arguments) (file made : List ℕ) → how.replace ≡ true
     → ArePlain (additions_of arguments) → is_text made ≡ true

@@ -148,13 +148,13 @@ written_again style made span info marks clear same few stands =
     ∙ settled_yes made edit (stands_at style made (text_start edit) (text_end edit)) few stands
 
 called_again : (style : Style) (how : How) (additions : Additions) (made : List ℕ) (span : HeaderSpan) (info : Info)
-    (form : Form) (marks : LineMarks) (due : Result Edit HeaderRefusal) → how.replace ≡ true
+    (form : Form) (marks : LineMarks) (expected : Result Edit HeaderRefusal) → how.replace ≡ true
     → option_map (span_in made) (header_of style made) ≡ Some span
     → new_info (punctuation_of style) span.contents how.merge additions ≡ info
     → chosen_form style how.form (Some span) ≡ form → marks_of style form ≡ Some marks
-    → written_by style made (Some span) info (Some marks) ≡ due → annotation_of style how additions made ≡ due
+    → written_by style made (Some span) info (Some marks) ≡ expected → annotation_of style how additions made ≡ expected
 unfolding annotation_of
-called_again style how additions made span info form marks due replace found says same is e =
+called_again style how additions made span info form marks expected replace found says same is e =
     let punct = punctuation_of style in
     ap (λ (f : Option HeaderSpan). written_by style made (replaced_block how.replace f) (new_info punct (old_contents
     (replaced_block how.replace f)) how.merge additions) (marks_of style (chosen_form style how.form f))) found

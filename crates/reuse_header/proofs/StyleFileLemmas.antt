@@ -107,16 +107,16 @@ pub at_refusal : (names : BTreeMap (List ℕ) Kind) (named : NamedText) (texts a
 unfolding first_refusal
 at_refusal names named texts all refusal at refused = by refusal (refused at.earlier at.entries at.keyed)
   where
-    due : (r : StylesRefusal) → refusal_at at.earlier named ≡ Some r → own_names (Some all) ≡ Err r
-    due r e = ap (checked all) (sym at.refusal
+    expected : (r : StylesRefusal) → refusal_at at.earlier named ≡ Some r → own_names (Some all) ≡ Err r
+    expected r e = ap (checked all) (sym at.refusal
         ∙ ap (λ (o : Option StylesRefusal). option_or o (first_refusal (at.earlier ++ named.0 ∷ []) texts)) e)
 
     by : (r : StylesRefusal) → IsFirst (refusal_at at.earlier named) r → IsRefused (own_names (Some all)) r
-    by NotToml e = due NotToml e
-    by BadShape e = due BadShape e
-    by (BadName name) e = due (BadName name) e
-    by (BadStyle name) e = due (BadStyle name) e
-    by (Repeated name) e = due (Repeated name) e
+    by NotToml e = expected NotToml e
+    by BadShape e = expected BadShape e
+    by (BadName name) e = expected (BadName name) e
+    by (BadStyle name) e = expected (BadStyle name) e
+    by (Repeated name) e = expected (Repeated name) e
     by (Memory m) e = tt
 
 -- ---- one name
@@ -206,14 +206,15 @@ module _ {X : Type 0} (seen : X → NamedText) where
 -- ---- the answers for a document, and for a file
 
 -- an answer of names by texts is one by the document that has them
-pub refused_by : (due other : Result (List ℕ → Option Kind) StylesRefusal) (refusal : StylesRefusal) → other ≡ due
-    → IsRefused due refusal → IsRefused other refusal
-refused_by due other NotToml e is = e ∙ is
-refused_by due other BadShape e is = e ∙ is
-refused_by due other (BadName name) e is = e ∙ is
-refused_by due other (BadStyle name) e is = e ∙ is
-refused_by due other (Repeated name) e is = e ∙ is
-refused_by due other (Memory m) e is = tt
+pub refused_by : (expected other : Result (List ℕ → Option Kind) StylesRefusal) (refusal : StylesRefusal)
+    → other ≡ expected
+    → IsRefused expected refusal → IsRefused other refusal
+refused_by expected other NotToml e is = e ∙ is
+refused_by expected other BadShape e is = e ∙ is
+refused_by expected other (BadName name) e is = e ∙ is
+refused_by expected other (BadStyle name) e is = e ∙ is
+refused_by expected other (Repeated name) e is = e ∙ is
+refused_by expected other (Memory m) e is = tt
 
 pub styles_none : styles_of None ≡ Ok (lookup [])
 unfolding styles_of

@@ -70,8 +70,8 @@ amendment_answer file (Ok None) = Ok None
 amendment_answer file (Ok (Some edit)) = Ok (splice_of file edit)
 amendment_answer file (Err refusal) = Err refusal
 
--- the answer that is due, or want of memory, which may take the place of each
-abbrev pub IsAmendmentDue : {X : Type 0} → Result X AmendHeaderRefusal → Result X AmendHeaderRefusal → Type 0
-IsAmendmentDue due (Ok x) = due ≡ Ok x
-IsAmendmentDue due (Err (Header (Memory e))) = Unit {0}
-IsAmendmentDue due (Err refusal) = due ≡ Err refusal
+-- the answer that is expected, or an allocation failure, which may take the place of each
+abbrev pub IsExpectedAmendment : {X : Type 0} → Result X AmendHeaderRefusal → Result X AmendHeaderRefusal → Type 0
+IsExpectedAmendment expected (Ok x) = expected ≡ Ok x
+IsExpectedAmendment expected (Err (Header (Memory e))) = Unit {0}
+IsExpectedAmendment expected (Err refusal) = expected ≡ Err refusal

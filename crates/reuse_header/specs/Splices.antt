@@ -22,8 +22,8 @@ abbrev pub answer_of : List ℕ → Result Edit HeaderRefusal → Result (Option
 answer_of file (Ok edit) = Ok (splice_of file edit)
 answer_of file (Err refusal) = Err refusal
 
--- the answer that is due, or want of memory, which may take the place of each
-abbrev pub IsDue : Result (Option Splice) HeaderRefusal → Result (Option Splice) HeaderRefusal → Type 0
-IsDue due (Err (Memory e)) = Unit {0}
-IsDue due (Ok splice) = due ≡ Ok splice
-IsDue due (Err refusal) = due ≡ Err refusal
+-- the answer that is expected, or an allocation failure, which may take the place of each
+abbrev pub IsExpected : Result (Option Splice) HeaderRefusal → Result (Option Splice) HeaderRefusal → Type 0
+IsExpected expected (Err (Memory e)) = Unit {0}
+IsExpected expected (Ok splice) = expected ≡ Ok splice
+IsExpected expected (Err refusal) = expected ≡ Err refusal

@@ -101,12 +101,12 @@ unfoldable pub styles_of : Option (List ℕ) → Result (List ℕ → Option Kin
 styles_of None = Ok (lookup [])
 styles_of (Some bytes) = styles_in (read_document bytes)
 
--- a refusal is the one that is due, or want of memory, which may take the place of each
+-- a refusal is the one that is expected, or an allocation failure, which may take the place of each
 abbrev pub IsRefused : Result (List ℕ → Option Kind) StylesRefusal → StylesRefusal → Type 0
-IsRefused due (Memory e) = Unit {0}
-IsRefused due refusal = due ≡ Err refusal
+IsRefused expected (Memory e) = Unit {0}
+IsRefused expected refusal = expected ≡ Err refusal
 
 -- the same, of the first refusal of names
 abbrev pub IsFirst : Option StylesRefusal → StylesRefusal → Type 0
-IsFirst due (Memory e) = Unit {0}
-IsFirst due refusal = due ≡ Some refusal
+IsFirst expected (Memory e) = Unit {0}
+IsFirst expected refusal = expected ≡ Some refusal

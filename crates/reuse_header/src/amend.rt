@@ -8,7 +8,8 @@ ghost use Rattle.reuse_header.specs.Marks.{marks_of};
 ghost use Rattle.reuse_header.specs.Annotation.{written_by};
 ghost use Rattle.reuse_header.specs.Drafts.{IsWithin};
 ghost use Rattle.reuse_header.specs.Amendment.{amended_information, as_amendment, block_amendment, written_if};
-ghost use Rattle.reuse_header.specs.Amendment.{amendment_of, neighbour_amendment_of, amendment_answer, IsAmendmentDue};
+ghost use Rattle.reuse_header.specs.Amendment.{amendment_of, neighbour_amendment_of, amendment_answer};
+ghost use Rattle.reuse_header.specs.Amendment.{IsExpectedAmendment};
 
 use crate::amendment::AmendHeaderRefusal;
 use crate::annotate::{collected, write_block};
@@ -39,7 +40,7 @@ pub fn amend_file(
     amendments: &Amendments,
 ) -> Result<Option<Splice>, AmendHeaderRefusal>
     requires { length file.now ≤ LONGEST_FILE }
-    ensures { IsAmendmentDue (amendment_answer file.now (amendment_of style amendments.now file.now)) result }
+    ensures { IsExpectedAmendment (amendment_answer file.now (amendment_of style amendments.now file.now)) result }
 {
     match find(file, style).block {
         None => Ok(None),
@@ -57,7 +58,7 @@ fn amend_block(
 ) -> Result<Option<Splice>, AmendHeaderRefusal>
     requires within { IsWithin file.now (Some (block_view block)) }
     requires short { length file.now ≤ LONGEST_FILE }
-    ensures { IsAmendmentDue
+    ensures { IsExpectedAmendment
         (amendment_answer file.now (block_amendment style amendments.now file.now (block_view block.entry))) result }
 {
     let info = read_block(alloc, block.contents, style.punctuation())?;
@@ -85,7 +86,7 @@ fn write_new(
 ) -> Result<Option<Splice>, AmendHeaderRefusal>
     requires within { IsWithin file.now (Some (block_view block)) }
     requires short { length file.now ≤ LONGEST_FILE }
-    ensures { IsAmendmentDue (amendment_answer file.now (written_if (λ info. written_by style file.now
+    ensures { IsExpectedAmendment (amendment_answer file.now (written_if (λ info. written_by style file.now
         (Some (block_view block.entry)) info (marks_of style block.entry.form)) (Ok new))) result }
 {
     match new {
@@ -104,7 +105,7 @@ fn write_amended(
 ) -> Result<Option<Splice>, AmendHeaderRefusal>
     requires within { IsWithin file.now (Some (block_view block)) }
     requires short { length file.now ≤ LONGEST_FILE }
-    ensures { IsAmendmentDue (amendment_answer file.now (as_amendment (written_by style file.now
+    ensures { IsExpectedAmendment (amendment_answer file.now (as_amendment (written_by style file.now
         (Some (block_view block.entry)) info.now (marks_of style block.entry.form)))) result }
 {
     let Some(marks) = marks_of(style, block.form) else {
@@ -128,7 +129,7 @@ pub fn amend_neighbour(
     amendments: &Amendments,
 ) -> Result<Option<Splice>, AmendHeaderRefusal>
     requires { length file.now ≤ LONGEST_FILE }
-    ensures { IsAmendmentDue (amendment_answer file.now (neighbour_amendment_of amendments.now file.now)) result }
+    ensures { IsExpectedAmendment (amendment_answer file.now (neighbour_amendment_of amendments.now file.now)) result }
 {
     if is_text_file(file) {
         amend_text(alloc, file, amendments)
@@ -144,7 +145,7 @@ fn amend_text(
     amendments: &Amendments,
 ) -> Result<Option<Splice>, AmendHeaderRefusal>
     requires { length file.now ≤ LONGEST_FILE }
-    ensures { IsAmendmentDue (amendment_answer file.now (written_if (neighbour_written true file.now)
+    ensures { IsExpectedAmendment (amendment_answer file.now (written_if (neighbour_written true file.now)
         (amended_information amendments.now (info_of [] (replaced_contents true file.now))))) result }
 {
     let info = read_neighbour(alloc, file)?;
@@ -161,7 +162,7 @@ fn write_new_neighbour(
     new: Option<Info>,
 ) -> Result<Option<Splice>, AmendHeaderRefusal>
     requires { length file.now ≤ LONGEST_FILE }
-    ensures { IsAmendmentDue
+    ensures { IsExpectedAmendment
         (amendment_answer file.now (written_if (neighbour_written true file.now) (Ok new))) result }
 {
     match new {
@@ -185,7 +186,7 @@ fn write_amended_neighbour(
     info: &Info,
 ) -> Result<Option<Splice>, AmendHeaderRefusal>
     requires { length file.now ≤ LONGEST_FILE }
-    ensures { IsAmendmentDue
+    ensures { IsExpectedAmendment
         (amendment_answer file.now (as_amendment (neighbour_written true file.now info.now))) result }
 {
     match write_neighbour(alloc, file, true, info) {
@@ -200,7 +201,7 @@ fn amend_information(
     info: &Info,
     amendments: &Amendments,
 ) -> Result<Option<Info>, AmendHeaderRefusal>
-    ensures { IsAmendmentDue (amended_information amendments.now info.now) result }
+    ensures { IsExpectedAmendment (amended_information amendments.now info.now) result }
 {
     let new = match amend_info(alloc, info, amendments) {
         Ok(new) => new,

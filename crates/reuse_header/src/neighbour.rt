@@ -4,7 +4,7 @@ ghost use Rattle.reuse_header.specs.Open.{open_left};
 ghost use Rattle.reuse_header.specs.Blocks.{without_returns};
 ghost use Rattle.reuse_header.specs.Neighbour.{is_text, neighbour_annotation_of, neighbour_stands, neighbour_written};
 ghost use Rattle.reuse_header.specs.Neighbour.{replaced_contents};
-ghost use Rattle.reuse_header.specs.Splices.{IsDue, answer_of};
+ghost use Rattle.reuse_header.specs.Splices.{IsExpected, answer_of};
 
 use crate::annotate::{into_splice, new_info};
 use crate::annotation::{HeaderRefusal, How, Splice};
@@ -40,7 +40,7 @@ pub fn annotate_neighbour(
     how: &How,
 ) -> Result<Option<Splice>, HeaderRefusal>
     requires { length file.now ≤ LONGEST_FILE }
-    ensures { IsDue (answer_of file.now (neighbour_annotation_of how.now additions.now file.now)) result }
+    ensures { IsExpected (answer_of file.now (neighbour_annotation_of how.now additions.now file.now)) result }
 {
     if !is_text_file(file) {
         return Err(HeaderRefusal::NotText);
@@ -66,7 +66,7 @@ pub(crate) fn write_neighbour(
     info: &Info,
 ) -> Result<Option<Splice>, HeaderRefusal>
     requires { length file.now ≤ LONGEST_FILE }
-    ensures { IsDue (answer_of file.now (neighbour_written replace file.now info.now)) result }
+    ensures { IsExpected (answer_of file.now (neighbour_written replace file.now info.now)) result }
 {
     let place = neighbour_place(file, replace);
     let draft = make_draft(alloc, file, place, line_kind(file), NEIGHBOUR_MARKS, info)?;

@@ -1,5 +1,6 @@
 -- What was read and put of the journal's files.
-use Rattle.std.proofs.Common.{◌≡◌, ⊎_elim, ℕ, ◌≤◌, Bool, true, false, cond, List, length, Some, None, sym, ap, ◌∙◌, subst, arith}
+use Rattle.std.proofs.Common.{◌≡◌, ⊎_elim, ℕ, ◌≤◌, Bool, true, false, cond, List, length, Some, None, sym, ap, ◌∙◌}
+use Rattle.std.proofs.Common.{subst, arith}
 use Rattle.std.specs.FinMap.{get}
 use Rattle.reuse_change.specs.Files.{Files}
 use Rattle.reuse_change.specs.Path.{lies_under, journal_folder}
@@ -14,20 +15,26 @@ use Rattle.reuse_store.proofs.OfTree.{get-folder}
 use Rattle.reuse_store.proofs.ApplyLemmas.{put_sets, put_doubt}
 
 -- a file of the folder, read at a path that is its
-pub file_in_folder : (files : Files) (path place : List ℕ) → path ≡ place → lies_under place journal_folder ≡ true → get files path ≡ get (undo_folder_of files) place
-file_in_folder files path place is under = ap (get files) is ∙ sym (get-folder files place ∙ ap (λ b. cond b (get files place) None) under)
+pub file_in_folder : (files : Files) (path place : List ℕ) → path ≡ place → lies_under place journal_folder ≡ true
+    → get files path ≡ get (undo_folder_of files) place
+file_in_folder files path place is under =
+    ap (get files) is ∙ sym (get-folder files place ∙ ap (λ b. cond b (get files place) None) under)
 
 -- ---- puts
 
-pub put_says : (m n : Files) (path bytes text : List ℕ) (number : ℕ) (entry : Entry) → path ≡ entry_path number → bytes ≡ text → Puts path bytes m n
+pub put_says : (m n : Files) (path bytes text : List ℕ) (number : ℕ) (entry : Entry) → path ≡ entry_path number
+    → bytes ≡ text → Puts path bytes m n
     → IsGoodEntry text entry → EntrySays (get n (entry_path number)) entry
 put_says m n path bytes text number entry is same puts good =
-    subst (λ f. EntrySays f entry) (sym (ap (get n) (sym is) ∙ (put_sets m n path bytes puts).here ∙ ap (λ b. Some b) same)) good
+    subst (λ f. EntrySays f entry)
+    (sym (ap (get n) (sym is) ∙ (put_sets m n path bytes puts).here ∙ ap (λ b. Some b) same)) good
 
-pub put_beside : (m n : Files) (path bytes : List ℕ) (number : ℕ) → path ≡ entry_path number → Puts path bytes m n → IsSameBut (entry_path number) m n
+pub put_beside : (m n : Files) (path bytes : List ℕ) (number : ℕ) → path ≡ entry_path number → Puts path bytes m n
+    → IsSameBut (entry_path number) m n
 put_beside m n path bytes number is puts = subst (λ p. IsSameBut p m n) is (put_sets m n path bytes puts).elsewhere
 
-pub failed_beside : (fault : StoreFault) (m n : Files) (path bytes : List ℕ) (number : ℕ) → path ≡ entry_path number → PutFails fault path bytes m n → IsSameBut (entry_path number) m n
+pub failed_beside : (fault : StoreFault) (m n : Files) (path bytes : List ℕ) (number : ℕ) → path ≡ entry_path number
+    → PutFails fault path bytes m n → IsSameBut (entry_path number) m n
 failed_beside fault m n path bytes number is fails = ⊎_elim
     (λ same other ne. ap (λ files. get files other) same)
     (λ sets. subst (λ p. IsSameBut p m n) is sets.elsewhere)

@@ -1,8 +1,8 @@
 pub mod BackAgain
 pub mod Barriers
 pub mod ClearedHeads
-pub mod FilesInDoubt
-pub mod HeadMutations
+pub mod FilesBetweenStates
+pub mod HeadTransition
 pub mod HeadPuts
 pub mod JournalLemmas
 pub mod JournalReading
@@ -19,6 +19,6 @@ pub mod RecoveredTrees
 pub mod Recovering
 pub mod RecoveryDoubt
 pub mod RecoveryLaws
-pub mod Standings
+pub mod CommittedStates
 pub mod TakenBack
 pub mod SafeFiles

@@ -1,5 +1,6 @@
 -- Some of the changes of an entry, chosen by a test: they are changes of an entry, or none.
-use Rattle.std.proofs.Common.{◌≡◌, inl, inr, ℕ, suc, ◌<◌, ◌≤◌, Bool, true, false, not, ◌||◌, cond, List, [], ◌∷◌, length, arith, refl, sym, ap, subst, ◌∙◌}
+use Rattle.std.proofs.Common.{◌≡◌, inl, inr, ℕ, suc, ◌<◌, ◌≤◌, Bool, true, false, not, ◌||◌, cond, List, [], ◌∷◌}
+use Rattle.std.proofs.Common.{length, arith, refl, sym, ap, subst, ◌∙◌}
 use Rattle.std.specs.List.{All, filter, sum_by}
 use Rattle.std.specs.List.Sorted.{IsStrictlySortedBy}
 use Rattle.std.specs.Ordering.{nat_cmp}
@@ -31,15 +32,19 @@ module _ {X : Type 0} (test : X → Bool) where
   left_all P [] all = All-nil (λ x. test x ≡ true → P x)
   left_all P (x ∷ xs) all = of_test (test x) refl (left_all P xs) all
     where
-      of_test : (b : Bool) → test x ≡ b → (All P (filter test xs) → All (λ y. test y ≡ true → P y) xs) → All P (cond b (x ∷ filter test xs) (filter test xs)) → All (λ y. test y ≡ true → P y) (x ∷ xs)
-      of_test true e later here = All-cons (λ y. test y ≡ true → P y) x xs (λ passes. All-head P x (filter test xs) here) (later (All-tail P x (filter test xs) here))
-      of_test false e later here = All-cons (λ y. test y ≡ true → P y) x xs (λ passes. absurd (false≢true (sym e ∙ passes))) (later here)
+      of_test : (b : Bool) → test x ≡ b → (All P (filter test xs) → All (λ y. test y ≡ true → P y) xs)
+          → All P (cond b (x ∷ filter test xs) (filter test xs)) → All (λ y. test y ≡ true → P y) (x ∷ xs)
+      of_test true e later here = All-cons (λ y. test y ≡ true → P y) x xs
+          (λ passes. All-head P x (filter test xs) here) (later (All-tail P x (filter test xs) here))
+      of_test false e later here =
+          All-cons (λ y. test y ≡ true → P y) x xs (λ passes. absurd (false≢true (sym e ∙ passes))) (later here)
 
   fewer : (xs : List X) → length (filter test xs) ≤ length xs
   fewer [] = omega arith
   fewer (x ∷ xs) = of_test (test x) (fewer xs)
     where
-      of_test : (b : Bool) → length (filter test xs) ≤ length xs → length (cond b (x ∷ filter test xs) (filter test xs)) ≤ suc (length xs)
+      of_test : (b : Bool) → length (filter test xs) ≤ length xs
+          → length (cond b (x ∷ filter test xs) (filter test xs)) ≤ suc (length xs)
       of_test true h = omega arith
       of_test false h = omega arith
 
@@ -47,12 +52,14 @@ module _ {X : Type 0} (test : X → Bool) where
   less f xs = omega (arith, sum_by-filter_both test (λ x. not (test x)) (λ x. refl) f xs)
 
 -- a test of the path alone
-by_path : (test : List ℕ → Bool) (changes : List Change) → paths_of (filter (λ change. test (path_of change)) changes) ≡ filter test (paths_of changes)
+by_path : (test : List ℕ → Bool) (changes : List Change)
+    → paths_of (filter (λ change. test (path_of change)) changes) ≡ filter test (paths_of changes)
 by_path test [] = refl
 by_path test (change ∷ changes) = of_test (test (path_of change)) (by_path test changes)
   where
     of_test : (b : Bool) → paths_of (filter (λ c. test (path_of c)) changes) ≡ filter test (paths_of changes)
-        → paths_of (cond b (change ∷ filter (λ c. test (path_of c)) changes) (filter (λ c. test (path_of c)) changes)) ≡ cond b (path_of change ∷ filter test (paths_of changes)) (filter test (paths_of changes))
+        → paths_of (cond b (change ∷ filter (λ c. test (path_of c)) changes) (filter (λ c. test (path_of c)) changes))
+        ≡ cond b (path_of change ∷ filter test (paths_of changes)) (filter test (paths_of changes))
     of_test true e = ap (λ ps. path_of change ∷ ps) e
     of_test false e = e
 
@@ -63,26 +70,32 @@ module _ (test : List ℕ → Bool) where
   -- none of those left is of a path that doesn't pass
   pub none_left : (changes : List Change) (path : List ℕ) → test path ≡ false → touches (chosen changes) path ≡ false
   none_left [] path fails = refl
-  none_left (change ∷ changes) path fails = of_test (test (path_of change)) refl (bytes_eq path (path_of change)) refl (none_left changes path fails)
+  none_left (change ∷ changes) path fails =
+      of_test (test (path_of change)) refl (bytes_eq path (path_of change)) refl (none_left changes path fails)
     where
-      of_test : (b : Bool) → test (path_of change) ≡ b → (same : Bool) → bytes_eq path (path_of change) ≡ same → touches (chosen changes) path ≡ false → touches (cond b (change ∷ chosen changes) (chosen changes)) path ≡ false
+      of_test : (b : Bool) → test (path_of change) ≡ b → (same : Bool) → bytes_eq path (path_of change) ≡ same → touches
+          (chosen changes) path ≡ false → touches (cond b (change ∷ chosen changes) (chosen changes)) path ≡ false
       of_test false e same is rest = rest
       of_test true e false is rest = ap (λ b. b || touches (chosen changes) path) is ∙ rest
-      of_test true e true is rest = absurd (false≢true (sym fails ∙ ap test ((bytes_eq-Decides path (path_of change)).0 is) ∙ e))
+      of_test true e true is rest =
+          absurd (false≢true (sym fails ∙ ap test ((bytes_eq-Decides path (path_of change)).0 is) ∙ e))
 
   -- and none is of another path than the changes are
-  pub none_more : (changes : List Change) (path : List ℕ) → touches changes path ≡ false → touches (chosen changes) path ≡ false
+  pub none_more : (changes : List Change) (path : List ℕ) → touches changes path ≡ false
+      → touches (chosen changes) path ≡ false
   none_more [] path none = refl
   none_more (change ∷ changes) path none = of_test (test (path_of change)) (none_more changes path parts.1)
     where
       parts : (bytes_eq path (path_of change) ≡ false) × (touches changes path ≡ false)
       parts = or_parts (bytes_eq path (path_of change)) (touches changes path) none
 
-      of_test : (b : Bool) → touches (chosen changes) path ≡ false → touches (cond b (change ∷ chosen changes) (chosen changes)) path ≡ false
+      of_test : (b : Bool) → touches (chosen changes) path ≡ false
+          → touches (cond b (change ∷ chosen changes) (chosen changes)) path ≡ false
       of_test true rest = or_from (bytes_eq path (path_of change)) (touches (chosen changes) path) parts.0 rest
       of_test false rest = rest
 
-  touched_still : (changes : List Change) (path : List ℕ) → touches (chosen changes) path ≡ true → touches changes path ≡ true
+  touched_still : (changes : List Change) (path : List ℕ) → touches (chosen changes) path ≡ true
+      → touches changes path ≡ true
   touched_still changes path e = of_test (touches changes path) refl
     where
       of_test : (b : Bool) → touches changes path ≡ b → touches changes path ≡ true
@@ -99,10 +112,13 @@ module _ (test : List ℕ → Bool) where
         proper = All-filter (λ c. test (path_of c)) IsProper changes good.proper;
         small = All-filter (λ c. test (path_of c)) IsSmall changes good.small;
         of_tree = All-filter (λ c. test (path_of c)) (λ c. is_of_tree (path_of c) ≡ true) changes good.of_tree;
-        ascending = subst (IsStrictlySortedBy (slice_cmp nat_cmp)) (sym (by_path test changes)) (IsStrictlySortedBy-filter (slice_cmp nat_cmp) test (paths_of changes) good.ascending);
-        apart = λ path other here there. good.apart path other (touched_still changes path here) (touched_still changes other there);
+        ascending = subst (IsStrictlySortedBy (slice_cmp nat_cmp)) (sym (by_path test changes))
+            (IsStrictlySortedBy-filter (slice_cmp nat_cmp) test (paths_of changes) good.ascending);
+        apart = λ path other here there. good.apart path other (touched_still changes path here)
+            (touched_still changes other there);
         few = omega (arith, good.few, fewer (λ c. test (path_of c)) changes);
         light = omega (arith, good.light, less (λ c. test (path_of c)) change_size changes);
-        alike = (good.alike.0, All-filter (λ c. test (path_of c)) (λ c. is_sealed c ≡ good.alike.0) changes good.alike.1);
+        alike =
+            (good.alike.0, All-filter (λ c. test (path_of c)) (λ c. is_sealed c ≡ good.alike.0) changes good.alike.1);
         own = All-filter (λ c. test (path_of c)) HasOwnDigest changes good.own;
       })

@@ -1,12 +1,14 @@
 -- Trees that recovering a step leads to, and the changes of it that can be rolled back.
-use Rattle.std.proofs.Common.{◌≡◌, ◌⊎◌, inl, inr, ℕ, ◌<◌, Bool, true, false, ◌||◌, cond, List, [], ◌∷◌, filter, length, get_or, is_some, refl, sym, ap, subst, ◌∙◌}
+use Rattle.std.proofs.Common.{◌≡◌, ◌⊎◌, inl, inr, ℕ, ◌<◌, Bool, true, false, ◌||◌, cond, List, [], ◌∷◌, filter, length}
+use Rattle.std.proofs.Common.{get_or, is_some, refl, sym, ap, subst, ◌∙◌}
 use Rattle.std.specs.FinMap.{get}
 use Rattle.std.specs.List.{All}
 use Rattle.std.specs.Str.{bytes_eq}
 use Rattle.std.proofs.lemmas.Bool.{false≢true}
 use Rattle.std.proofs.lemmas.Slice.Eq.{bytes_eq-Decides}
 use Rattle.reuse_change.specs.Change.{path_of, IsProper}
-use Rattle.reuse_change.specs.Entry.{makes, opposite, touches, AppliesBy, IsEntry, IsReady, SomeMade, ArePartlyMade, CanBeRolledBack}
+use Rattle.reuse_change.specs.Entry.{makes, opposite, touches, AppliesBy, IsEntry, IsReady, SomeMade, ArePartlyMade}
+use Rattle.reuse_change.specs.Entry.{CanBeRolledBack}
 use Rattle.reuse_change.specs.Files.{Files, AreFiles, Clashes}
 use Rattle.reuse_change.specs.Path.{lies_under}
 use Rattle.reuse_change.specs.declared.change.Change.{Change}
@@ -23,7 +25,8 @@ use Rattle.reuse_journal.proofs.PartOfEntry.{all_left, left_all, none_left, none
 module _ (direction : Direction) (changes : List Change) (good : IsEntry changes) (tree start : Files)
     (leads : RecoversTree direction changes tree start) where
   made_at : (change : Change) → RecoversAt direction tree start change
-      → (get tree (path_of change) ≡ get start (path_of change)) ⊎ AppliesBy direction change (get start (path_of change))
+      → (get tree (path_of change) ≡ get start (path_of change))
+      ⊎ AppliesBy direction change (get start (path_of change))
       (get tree (path_of change))
   made_at change (inl stays) = inl (sym stays.1)
   made_at change (inr (inl back)) = inr
@@ -50,7 +53,8 @@ module _ (direction : Direction) (changes : List Change) (good : IsEntry changes
       )
   ready_at change can (inr (inr stuck)) = absurd (stuck.0 can)
 
-  pub stuck_at : (change : Change) → (CanBeRolledBack direction tree change → ⊥) → RecoversAt direction tree start change
+  pub stuck_at : (change : Change) → (CanBeRolledBack direction tree change → ⊥)
+      → RecoversAt direction tree start change
       → IsReady direction change (get start (path_of change)) → ⊥
   stuck_at change none (inl stays) ready = none (inl stays.0)
   stuck_at change none (inr (inl back)) ready = none (inr back.0)
@@ -126,7 +130,8 @@ module _ (direction : Direction) (changes : List Change) (good : IsEntry changes
 -- recovering leads to one tree
 module _ (direction : Direction) (changes : List Change) (good : IsEntry changes) (tree one other : Files)
     (leads : RecoversTree direction changes tree one) (also : RecoversTree direction changes tree other) where
-  once_at : (change : Change) → IsProper change → RecoversAt direction tree one change → RecoversAt direction tree other change
+  once_at : (change : Change) → IsProper change → RecoversAt direction tree one change
+      → RecoversAt direction tree other change
       → get one (path_of change) ≡ get other (path_of change)
   once_at change proper (inl a) (inl b) = a.1 ∙ sym b.1
   once_at change proper (inl a) (inr (inl b)) = absurd
@@ -134,7 +139,8 @@ module _ (direction : Direction) (changes : List Change) (good : IsEntry changes
   once_at change proper (inl a) (inr (inr b)) = absurd (b.0 (inl a.0))
   once_at change proper (inr (inl a)) (inl b) = absurd
       (ready_once direction change (get tree (path_of change)) proper b.0 a.0.ready)
-  once_at change proper (inr (inl a)) (inr (inl b)) = applies_once_by (opposite direction) change (get tree (path_of change))
+  once_at change proper (inr (inl a)) (inr (inl b)) =
+      applies_once_by (opposite direction) change (get tree (path_of change))
       (get one (path_of change)) (get other (path_of change)) a.1 b.1
   once_at change proper (inr (inl a)) (inr (inr b)) = absurd (b.0 (inr a.0))
   once_at change proper (inr (inr a)) (inl b) = absurd (a.0 (inl b.0))
@@ -152,12 +158,14 @@ module _ (direction : Direction) (changes : List Change) (good : IsEntry changes
           (once_at (get_or changes found.0 found.1) (good.proper found.0 found.1 found.2)
           (leads.each found.0 found.1 found.2) (also.each found.0 found.1 found.2))
 
--- of a step that is under way from a tree, all can be rolled back, and recovering leads to that tree
-module _ (direction : Direction) (changes : List Change) (good : IsEntry changes) (start tree : Files) (are : AreFiles start)
+-- of a step that is pending from a tree, all can be rolled back, and recovering leads to that tree
+module _ (direction : Direction) (changes : List Change) (good : IsEntry changes) (start tree : Files)
+    (are : AreFiles start)
     (partly : ArePartlyMade direction changes start tree) where
   back_at : (change : Change) → IsProper change → IsReady direction change (get start (path_of change))
       → CanBeRolledBack direction tree change
-      → (get tree (path_of change) ≡ get start (path_of change)) ⊎ AppliesBy direction change (get start (path_of change))
+      → (get tree (path_of change) ≡ get start (path_of change))
+      ⊎ AppliesBy direction change (get start (path_of change))
       (get tree (path_of change)) → RecoversAt direction tree start change
   back_at change proper ready can (inl same) = inl (subst (IsReady direction change) (sym same) ready, sym same)
   back_at change proper ready (inl here) (inr applies) =
@@ -204,7 +212,8 @@ module _ (test : List ℕ → Bool) where
 
   module _ (direction : Direction) (changes : List Change) (start now : Files) where
     abbrev Made : Change → Type 0
-    Made c = (get now (path_of c) ≡ get start (path_of c)) ⊎ AppliesBy direction c (get start (path_of c)) (get now (path_of c))
+    Made c = (get now (path_of c) ≡ get start (path_of c))
+        ⊎ AppliesBy direction c (get start (path_of c)) (get now (path_of c))
 
     -- where some of these are made, some of all are
     pub some_more : SomeMade direction (chosen changes) start now → SomeMade direction changes start now

@@ -1,5 +1,6 @@
 -- What a loss of power may leave, where files that await recovery are recovered.
-use Rattle.std.proofs.Common.{◌≡◌, ◌⊎◌, inl, inr, ⊎_elim, ℕ, Bool, true, false, not, List, get_or, Some, None, Result, Ok, Err, IfErr, codes, refl, sym, ap, subst, ◌∙◌}
+use Rattle.std.proofs.Common.{◌≡◌, ◌⊎◌, inl, inr, ⊎_elim, ℕ, Bool, true, false, not, List, get_or, Some, None, Result}
+use Rattle.std.proofs.Common.{Ok, Err, IfErr, codes, refl, sym, ap, subst, ◌∙◌}
 use Rattle.std.specs.FinMap.{get}
 use Rattle.std.specs.List.{All}
 use Rattle.std.proofs.lemmas.Bool.{false≢true}
@@ -9,7 +10,7 @@ use Rattle.reuse_change.specs.Change.{path_of}
 use Rattle.reuse_change.specs.Entry.{IsEntry, IsReady, SomeMade, ArePartlyMade, CanBeRolledBack}
 use Rattle.reuse_change.specs.Files.{Files, AreFiles, tree_of}
 use Rattle.reuse_tree.specs.Head.{direction_of, IsGoodHead}
-use Rattle.reuse_store.specs.Lasting.{IsMidway}
+use Rattle.reuse_store.specs.Durable.{IsMidway}
 use Rattle.reuse_change.specs.Listing.{is_among}
 use Rattle.reuse_change.specs.Path.{lies_under, journal_folder}
 use Rattle.reuse_change.specs.Tree.{is_of_tree, undo_folder_of, Sets}
@@ -26,12 +27,14 @@ use Rattle.reuse_command.specs.Answer.{IsEarly, IsStop}
 use Rattle.reuse_journal.specs.Carried.{IsRolledBack}
 use Rattle.reuse_journal.specs.History.{Memory}
 use Rattle.reuse_journal.specs.Journal.{Recorded, Journal, State}
-use Rattle.reuse_journal.specs.JournalFiles.{head_path, entry_path, entry_in, head_of, number_of, EntrySays, IsKeptIn, KeepsJournal}
-use Rattle.reuse_journal.specs.Losses.{AreInDoubt, AwaitsOrIs, AwaitsRecovery, Earlier, IsOrRecoversTo, StopsBackWithDoubt, SurvivesInDoubt, SurvivesRecovery}
+use Rattle.reuse_journal.specs.JournalFiles.{head_path, entry_path, entry_in, head_of, number_of, EntrySays, IsKeptIn}
+use Rattle.reuse_journal.specs.JournalFiles.{KeepsJournal}
+use Rattle.reuse_journal.specs.Losses.{AreBetweenStates, AwaitsOrIs, AwaitsRecovery, Earlier, IsOrRecoversTo}
+use Rattle.reuse_journal.specs.Losses.{StopsBackWithDoubt, SurvivesBetweenStates, SurvivesRecovery}
 use Rattle.reuse_journal.specs.Opening.{IsRead, NoFileAbove}
 use Rattle.reuse_journal.specs.Recovery.{AreFound, RecoversAt, RecoversTo, changes_besides}
 use Rattle.reuse_journal.specs.Remembered.{IsSameBut}
-use Rattle.reuse_journal.specs.Standing.{IsStanding, IsStep, IsTree, IsUnderWay}
+use Rattle.reuse_journal.specs.CommittedState.{IsCommittedState, IsStep, IsTree, IsPending}
 use Rattle.reuse_command.specs.declared.reply.Recovered.{Recovered}
 use Rattle.reuse_command.specs.declared.reply.Refusal.{Refusal}
 use Rattle.reuse_command.specs.declared.failure.Failure.TheVariants.{Interrupted}
@@ -40,11 +43,12 @@ use Rattle.reuse_command.proofs.OnlyReading.{early_is_no_stop}
 use Rattle.reuse_journal.proofs.HeadPuts.{head_keeps_tree, head_sets}
 use Rattle.reuse_journal.proofs.JournalLemmas.{entry_good, keeps_again}
 use Rattle.reuse_journal.proofs.OneOpening.{IsOneStep, one_step}
-use Rattle.reuse_journal.proofs.FilesInDoubt.{none_pending}
-use Rattle.reuse_journal.proofs.OpeningDoubt.{doubt_stays, some_made, standing_safe}
+use Rattle.reuse_journal.proofs.FilesBetweenStates.{none_pending}
+use Rattle.reuse_journal.proofs.OpeningDoubt.{doubt_stays, some_made, committed_safe}
 use Rattle.reuse_journal.proofs.OpeningLemmas.{recorded}
 use Rattle.reuse_journal.proofs.RecoveredFiles.{each_picked, good as its_entry, is_recovered}
-use Rattle.reuse_journal.proofs.RecoveredTrees.{ready_at, recovers_from, recovers_once, recovers_partly, recovers_still, some_more, some_part, stuck_at}
+use Rattle.reuse_journal.proofs.RecoveredTrees.{ready_at, recovers_from, recovers_once, recovers_partly, recovers_still}
+use Rattle.reuse_journal.proofs.RecoveredTrees.{some_more, some_part, stuck_at}
 use Rattle.reuse_journal.proofs.PartOfEntry.{all_left}
 use Rattle.reuse_journal.proofs.Recovering.{IsPicked}
 use Rattle.reuse_journal.proofs.PendingRecovery.{none_in_files}
@@ -82,11 +86,13 @@ module _ (direction : PendingDirection) (step : Recorded) (held : State) where
       good = to.good;
       pending = record {
         above = no_file_above direction step held after entry_of to.good midway.tree;
-        keeps = subst (λ f. KeepsJournal f held.journal (Some (record { entry = number_of step; direction = direction })))
+        keeps =
+            subst (λ f. KeepsJournal f held.journal (Some (record { entry = number_of step; direction = direction })))
             (sym midway.folder) to.pending.keeps;
         kept = subst (λ f. IsKeptIn f step) (sym midway.folder) to.pending.kept;
       };
-      tree = recovers_still (direction_of direction) step.changes entry_of (tree_of before) held.tree to.tree to.good.are_files
+      tree = recovers_still (direction_of direction) step.changes entry_of
+          (tree_of before) held.tree to.tree to.good.are_files
           (tree_of after) midway.tree;
     }
 
@@ -100,7 +106,7 @@ module _ (direction : PendingDirection) (step : Recorded) (held : State) where
       })
 
       settled : (done : Files) → tree_of done ≡ held.tree → undo_folder_of done ≡ undo_folder_of before
-          → (after : Files) → Sets head_path (Some text) done after → IsStanding after held
+          → (after : Files) → Sets head_path (Some text) done after → IsCommittedState after held
       settled done tree folder after sets = record {
         tree = head_keeps_tree done after (Some text) sets ∙ tree;
         good = to.good;
@@ -151,7 +157,8 @@ module _ (direction : PendingDirection) (step : Recorded) (held : State) where
 
   no_stop : {S : Type 0} (store : Ghosts S) (old new : S) (refusal : Refusal) → IsEarly refusal
       → OnlyReads store old new → store.honest new → AwaitsRecovery store direction step held old
-      → AwaitsOrIs store direction step held new × (IsStop refusal → Leaves store new (IsOrRecoversTo direction step held))
+      → AwaitsOrIs store direction step held new
+      × (IsStop refusal → Leaves store new (IsOrRecoversTo direction step held))
   no_stop store old new refusal early reads honest awaits = (
     inl (awaits_still store old new reads honest awaits),
     λ stop. absurd (early_is_no_stop refusal early stop),
@@ -192,10 +199,13 @@ module _ (before : Files) (pending : Pending) (memory : Memory) (journal : Journ
         (recorded pending.entry entry) step read.keeps to.pending.keeps says to.pending.kept
 
     -- what is said of the one is said of the other
-    of_it : (Says : PendingDirection → Recorded → Type 0) → Says pending.direction (recorded pending.entry entry) → Says direction step
-    of_it Says is = subst (Says direction) one.steps (subst (λ w. Says w (recorded pending.entry entry)) one.directions is)
+    of_it : (Says : PendingDirection → Recorded → Type 0) → Says pending.direction (recorded pending.entry entry)
+        → Says direction step
+    of_it Says is =
+        subst (Says direction) one.steps (subst (λ w. Says w (recorded pending.entry entry)) one.directions is)
 
-    its : (Says : PendingDirection → Recorded → Type 0) → Says direction step → Says pending.direction (recorded pending.entry entry)
+    its : (Says : PendingDirection → Recorded → Type 0) → Says direction step
+        → Says pending.direction (recorded pending.entry entry)
     its Says is = subst (λ w. Says w (recorded pending.entry entry)) (sym one.directions)
         (subst (Says direction) (sym one.steps) is)
 
@@ -221,14 +231,16 @@ module _ (before : Files) (pending : Pending) (memory : Memory) (journal : Journ
     its_picked = each_picked before pending memory journal read entry says changed skipped found
 
     ready_here : (change : Change) → is_left (path_of change) ≡ true → IsPicked Stuck Free skipped change
-        → RecoversAt (direction_of pending.direction) (tree_of before) held.tree change → IsReady (direction_of pending.direction) change
+        → RecoversAt (direction_of pending.direction) (tree_of before) held.tree change
+        → IsReady (direction_of pending.direction) change
         (get held.tree (path_of change))
     ready_here change passes (inl stuck) at = absurd (false≢true (sym (ap not stuck.1) ∙ passes))
     ready_here change passes (inr free) at = ready_at (direction_of pending.direction) entry.changes entry_good_here
         (tree_of before) held.tree its_to.tree change free.0 at
 
     stuck_here : (change : Change) → is_left (path_of change) ≡ false → IsPicked Stuck Free skipped change
-        → RecoversAt (direction_of pending.direction) (tree_of before) held.tree change → IsReady (direction_of pending.direction) change
+        → RecoversAt (direction_of pending.direction) (tree_of before) held.tree change
+        → IsReady (direction_of pending.direction) change
         (get held.tree (path_of change)) → ⊥
     stuck_here change out (inl stuck) at ready = stuck_at (direction_of pending.direction) entry.changes entry_good_here
         (tree_of before) held.tree its_to.tree change stuck.0 at ready
@@ -278,7 +290,7 @@ module _ (before : Files) (pending : Pending) (memory : Memory) (journal : Journ
 
       pub part_stands : AreFiles (store.files new)
           → IsSameBut head_path (undo_folder_of before) (undo_folder_of (store.files new)) → IsRolledBack
-          (direction_of pending.direction) part text before (store.files new) → IsStanding (store.files new) held
+          (direction_of pending.direction) part text before (store.files new) → IsCommittedState (store.files new) held
       part_stands are folder rolled =
           let after = store.files new in
           let recovered = is_recovered before pending memory journal read entry says changed skipped found after text
@@ -293,8 +305,8 @@ module _ (before : Files) (pending : Pending) (memory : Memory) (journal : Journ
 -- ---- files in doubt
 
 module _ (direction : PendingDirection) (step : Recorded) (held next : State) where
-  -- of a step that is under way, recovering leads to the state from before it
-  pub recovers_under : (files : Files) → IsUnderWay direction step held files → RecoversTo direction step held files
+  -- of a step that is pending, recovering leads to the state from before it
+  pub recovers_under : (files : Files) → IsPending direction step held files → RecoversTo direction step held files
   recovers_under files under =
       let good = kept_entry step (undo_folder_of files) under.kept in
       record {
@@ -309,7 +321,7 @@ module _ (direction : PendingDirection) (step : Recorded) (held next : State) wh
       }
 
   module _ (ready : All (λ c. IsReady (direction_of direction) c (get held.tree (path_of c))) step.changes) where
-    under_again : (files : Files) → RecoversTo direction step held files → IsUnderWay direction step held files
+    under_again : (files : Files) → RecoversTo direction step held files → IsPending direction step held files
     under_again files to = record {
       good = to.good;
       journal = to.pending.keeps;
@@ -317,16 +329,17 @@ module _ (direction : PendingDirection) (step : Recorded) (held next : State) wh
       partly = record { made = some_on direction step held files to; ready = ready };
     }
 
-    module _ {S : Type 0} (store : Ghosts S) (earlier : Earlier) (leads : IsStep direction step held next) (new : S) where
+    module _ {S : Type 0} (store : Ghosts S) (earlier : Earlier)
+        (leads : IsStep direction step held next) (new : S) where
       doubt_left : AwaitsOrIs store direction step held new → Leaves store new (IsOrRecoversTo direction step held)
-          → AreInDoubt store earlier held next new
+          → AreBetweenStates store earlier held next new
       doubt_left (inl awaits) each = inr (inr (
         direction,
         step,
         leads,
         under_again (store.files new) awaits.files,
         λ left is. inr (⊎_elim
-            (λ (stands : IsStanding left held). inl stands)
+            (λ (stands : IsCommittedState left held). inl stands)
             (λ (to : RecoversTo direction step held left). inr (inr (direction, step, leads, under_again left to)))
             (each left is)),
       ))
@@ -335,38 +348,42 @@ module _ (direction : PendingDirection) (step : Recorded) (held next : State) wh
         λ left is. inl (record {
           tree = have left is;
           opens = ⊎_elim
-              (λ (here : IsStanding left held). inl here)
-              (λ (to : RecoversTo direction step held left). inr (inl (next, direction, step, leads, under_again left to)))
+              (λ (here : IsCommittedState left held). inl here)
+              (λ (to : RecoversTo direction step held left). inr
+              (inl (next, direction, step, leads, under_again left to)))
               (each left is);
         }),
       )
 
-      pub survives_in_doubt : (result : Result Recovered Refusal) → SurvivesRecovery store direction step held result new
-          → IfErr result (λ refusal. IsEarly refusal → AreInDoubt store earlier held next new)
-          → SurvivesInDoubt store earlier held next result new
+      pub survives_in_doubt : (result : Result Recovered Refusal)
+          → SurvivesRecovery store direction step held result new
+          → IfErr result (λ refusal. IsEarly refusal → AreBetweenStates store earlier held next new)
+          → SurvivesBetweenStates store earlier held next result new
       survives_in_doubt (Ok recovered) survived early = inl (
         survived.0,
-        λ left is. standing_safe store earlier held next left
-            (subst (λ files. IsStanding files held) (sym (survived.1 left is)) survived.0),
+        λ left is. committed_safe store earlier held next left
+            (subst (λ files. IsCommittedState files held) (sym (survived.1 left is)) survived.0),
       )
       survives_in_doubt (Err (Failed (Interrupted cause))) survived early = doubt_left survived.0 (survived.1 tt)
       survives_in_doubt (Err refusal) survived early = early tt
 
 -- what recovering files in doubt leaves
-module _ {S : Type 0} (store : Ghosts S) (earlier : Earlier) (held next : State) (old new : S) (honest : store.honest new)
+module _ {S : Type 0} (store : Ghosts S) (earlier : Earlier) (held next : State) (old new : S)
+    (honest : store.honest new)
     (pending : Pending) (memory : Memory) (journal : Journal)
     (read : IsRead (store.files old) (Some pending) memory journal)
     (result : Result Recovered Refusal) (early : IfErr result (λ refusal. IsEarly refusal → OnlyReads store old new))
-    (lasting : (direction : PendingDirection) → (step : Recorded) → AwaitsRecovery store direction step held old
+    (durable : (direction : PendingDirection) → (step : Recorded) → AwaitsRecovery store direction step held old
     → SurvivesRecovery store direction step held result new)
   where
-    pub recovers_in_doubt : AreInDoubt store earlier held next old → SurvivesInDoubt store earlier held next result new
+    pub recovers_in_doubt : AreBetweenStates store earlier held next old
+        → SurvivesBetweenStates store earlier held next result new
     recovers_in_doubt (inl stands) = absurd (none_pending (store.files old) held stands.0 pending memory journal read)
     recovers_in_doubt (inr (inl stands)) = absurd
         (none_pending (store.files old) next stands.0 pending memory journal read)
     recovers_in_doubt (inr (inr (direction, step, leads, under, each))) =
         survives_in_doubt direction step held next under.partly.ready store earlier leads new result
-        (lasting direction step
+        (durable direction step
         (record {
           files = recovers_under direction step held next
               (store.files old) under;
@@ -374,6 +391,6 @@ module _ {S : Type 0} (store : Ghosts S) (earlier : Earlier) (held next : State)
               (each left is);
         }))
         (IfErr-weaker result (λ refusal. IsEarly refusal → OnlyReads store old new)
-        (λ refusal. IsEarly refusal → AreInDoubt store earlier held next new)
+        (λ refusal. IsEarly refusal → AreBetweenStates store earlier held next new)
         (λ refusal reads is. doubt_stays store earlier held next old new (reads is) honest
         (inr (inr (direction, step, leads, under, each)))) early)

@@ -12,17 +12,20 @@ abbrev pub SetsHead : List ℕ → Files → Files → Type 0
 SetsHead head before after = Sets head_path (Some head) (undo_folder_of before) (undo_folder_of after)
 
 -- all changes are made, and this is the head
-pub record IsCarriedOut (direction : Direction) (changes : List Change) (head : List ℕ) (before after : Files) : Type 0 where
+pub record IsCarriedOut (direction : Direction) (changes : List Change) (head : List ℕ)
+    (before after : Files) : Type 0 where
   pub tree : LeadsBy direction changes (tree_of before) (tree_of after)
   pub sets : SetsHead head before after
 
 -- some changes are made, and this is the head
-pub record IsStopped (direction : Direction) (changes : List Change) (head : List ℕ) (before after : Files) : Type 0 where
+pub record IsStopped (direction : Direction) (changes : List Change) (head : List ℕ)
+    (before after : Files) : Type 0 where
   pub tree : SomeMade direction changes (tree_of before) (tree_of after)
   pub sets : SetsHead head before after
 
 -- the files were those now with some of the changes made, none of which is made now, and this is the head
-pub record IsRolledBack (direction : Direction) (changes : List Change) (head : List ℕ) (before after : Files) : Type 0 where
+pub record IsRolledBack (direction : Direction) (changes : List Change) (head : List ℕ)
+    (before after : Files) : Type 0 where
   pub partly : ArePartlyMade direction changes (tree_of after) (tree_of before)
   pub sets : SetsHead head before after
 

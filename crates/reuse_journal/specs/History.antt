@@ -1,5 +1,6 @@
 -- What a session remembers of the journal.
-use Rattle.std.specs.Prelude.{ℕ, ◌+◌, ◌==◌, not, take_while, List, [], ◌∷◌, ◌++◌, map, reverse, Bool, true, false, Option}
+use Rattle.std.specs.Prelude.{ℕ, ◌+◌, ◌==◌, not, take_while, List, [], ◌∷◌, ◌++◌, map, reverse, Bool, true, false}
+use Rattle.std.specs.Prelude.{Option}
 use Rattle.reuse_journal.specs.Labels.{row_of}
 use Rattle.reuse_change.specs.declared.direction.Direction.{Direction}
 use Rattle.reuse_change.specs.declared.direction.Direction.TheVariants.{Forward, Backward}
@@ -34,7 +35,8 @@ rows_listing memory = map (row_listing true) memory.done ++ map (row_listing fal
 
 -- the numbers of the entries that were done after that of the number, the newest first
 abbrev pub numbers_after : List ListedEntry → ℕ → List ℕ
-numbers_after done number = map (λ (entry : ListedEntry). entry.number) (take_while (λ (entry : ListedEntry). not (entry.number == number)) (reverse done))
+numbers_after done number = map (λ (entry : ListedEntry). entry.number)
+    (take_while (λ (entry : ListedEntry). not (entry.number == number)) (reverse done))
 
 -- what is remembered after a run: a new entry is done, and none is undone
 abbrev pub remember_run : Memory → ListedEntry → Memory

@@ -53,12 +53,17 @@ number_of step = step.label.number
 abbrev pub IsKeptIn : Files → Recorded → Type 0
 IsKeptIn folder step = EntrySays (get folder (entry_path (number_of step))) (entry_in step)
 
--- the head that lists the steps of a journal, and tells what is pending; it lists the undone ones the next to be redone
--- last
+-- the head that lists the steps of a journal, and reports what is pending; it lists the undone ones the next to be
+-- redone last
 abbrev pub head_of : Journal → Option Pending → Head
-head_of journal pending = record { done = map number_of (reverse journal.done); undone = map number_of (reverse journal.undone); next = journal.used + 1; pending = pending }
+head_of journal pending = record {
+  done = map number_of (reverse journal.done);
+  undone = map number_of (reverse journal.undone);
+  next = journal.used + 1;
+  pending = pending;
+}
 
--- the folder has this journal, and tells what is pending
+-- the folder has this journal, and reports what is pending
 pub record KeepsJournal (folder : Files) (journal : Journal) (pending : Option Pending) : Type 0 where
   pub head : HeadSays (get folder head_path) (head_of journal pending)
   pub done : All (IsKeptIn folder) journal.done

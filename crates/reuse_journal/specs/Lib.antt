@@ -10,5 +10,5 @@ pub mod Opening
 pub mod Recovery
 pub mod Remembered
 pub mod Seals
-pub mod Standing
+pub mod CommittedState
 pub mod Tested

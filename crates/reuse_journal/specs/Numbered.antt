@@ -28,7 +28,11 @@ abbrev pub entries_besides : List ℕ → List ListedEntry → List ListedEntry
 entries_besides numbers entries = filter (λ (entry : ListedEntry). not (is_one_of numbers entry.number)) entries
 
 abbrev pub memory_besides : List ℕ → Memory → Memory
-memory_besides numbers memory = record { done = entries_besides numbers memory.done; undone = entries_besides numbers memory.undone; used = memory.used }
+memory_besides numbers memory = record {
+  done = entries_besides numbers memory.done;
+  undone = entries_besides numbers memory.undone;
+  used = memory.used;
+}
 
 -- the steps whose number is none of these
 abbrev pub steps_besides : List ℕ → List Recorded → List Recorded

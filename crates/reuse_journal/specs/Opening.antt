@@ -1,5 +1,6 @@
 -- What opening a session finds.
-use Rattle.std.specs.Prelude.{◌≡◌, ◌⊎◌, ◌↔◌, ℕ, ◌+◌, ◌<◌, ◌≤◌, List, [], ◌∷◌, ◌++◌, length, Option, Some, None, IsSome, Result, Err, IsOk, nat_lt, if◌then◌else◌}
+use Rattle.std.specs.Prelude.{◌≡◌, ◌⊎◌, ◌↔◌, ℕ, ◌+◌, ◌<◌, ◌≤◌, List, [], ◌∷◌, ◌++◌, length, Option, Some, None, IsSome}
+use Rattle.std.specs.Prelude.{Result, Err, IsOk, nat_lt, if◌then◌else◌}
 use Rattle.std.specs.List.{All, Contains}
 use Rattle.std.specs.FinMap.{get}
 use Rattle.reuse_change.specs.Layout.{above_journal}
@@ -10,9 +11,10 @@ use Rattle.reuse_change.specs.Entry.{CanBeRolledBack, IsFirstWithout}
 use Rattle.reuse_tree.specs.Head.{listed, direction_of}
 use Rattle.reuse_journal.specs.History.{Memory}
 use Rattle.reuse_journal.specs.Journal.{Recorded, Journal, State}
-use Rattle.reuse_journal.specs.JournalFiles.{head_path, entry_path, number_of, HeadSays, EntrySays, IsKeptIn, KeepsJournal}
+use Rattle.reuse_journal.specs.JournalFiles.{head_path, entry_path, number_of, HeadSays, EntrySays, IsKeptIn}
+use Rattle.reuse_journal.specs.JournalFiles.{KeepsJournal}
 use Rattle.reuse_journal.specs.Remembered.{Remembers}
-use Rattle.reuse_journal.specs.Standing.{IsStanding, IsUnderWay}
+use Rattle.reuse_journal.specs.CommittedState.{IsCommittedState, IsPending}
 use Rattle.reuse_change.specs.Tree.{undo_folder_of}
 use Rattle.reuse_tree.specs.declared.journal.head.Head.{Head}
 use Rattle.reuse_tree.specs.declared.journal.head.Pending.{Pending}
@@ -72,41 +74,43 @@ pub record IsStuckAt (files : Files) (path : List ℕ) : Type 0 where
   pub journal : Journal
   pub direction : PendingDirection
   pub step : Recorded
-  pub keeps : KeepsJournal (undo_folder_of files) journal (Some (record { entry = number_of step; direction = direction }))
+  pub keeps : KeepsJournal (undo_folder_of files) journal
+      (Some (record { entry = number_of step; direction = direction }))
   pub kept : IsKeptIn (undo_folder_of files) step
   pub stuck : IsFirstWithout (CanBeRolledBack (direction_of direction) (tree_of files)) step.changes path
 
--- the files are this standing, or a step is under way from it
+-- the files are this committed state, or a step is pending from it
 abbrev pub CanOpenOn : Files → State → Type 0
 CanOpenOn files held =
-    IsStanding files held ⊎ ((direction : PendingDirection) × (step : Recorded) × IsUnderWay direction step held files)
+    IsCommittedState files held
+    ⊎ ((direction : PendingDirection) × (step : Recorded) × IsPending direction step held files)
 
--- What opening these files answers, where it tells neither an I/O error nor an allocation failure: a bad journal
+-- What opening these files answers, where it reports neither an I/O error nor an allocation failure: a bad journal
 -- exactly at the first path at fault, else a path that moved exactly where the pending step is stuck, else a session.
 pub record OpensAs {A : Type 0} (files : Files) (answer : Result A Refusal) : Type 0 where
   pub bad : (path : List ℕ) → (answer ≡ Err (BadJournal path)) ↔ IsFirstBad files path
   pub moved : (path : List ℕ) → (answer ≡ Err (Moved path)) ↔ IsStuckAt files path
   pub opened : IsOk answer ↔ ((held : State) × CanOpenOn files held)
 
--- The files were this standing, and are. Or a step was under way from it; then its files are rolled back.
+-- The files were this committed state, and are. Or a step was pending from it; then its files are rolled back.
 abbrev pub OpensOn : Files → State → Files → Type 0
 OpensOn before held after =
-    (IsStanding before held × (after ≡ before))
-    ⊎ ((direction : PendingDirection) × (step : Recorded) × IsUnderWay direction step held before
-    × IsStanding after held)
+    (IsCommittedState before held × (after ≡ before))
+    ⊎ ((direction : PendingDirection) × (step : Recorded) × IsPending direction step held before
+    × IsCommittedState after held)
 
--- A step was under way from a standing. It is still, or its files are rolled back.
+-- A step was pending from a committed state. It is still, or its files are rolled back.
 abbrev pub StopsOpening : Files → Files → Type 0
 StopsOpening before after =
     (held : State) × (direction : PendingDirection) × (step : Recorded)
-    × IsUnderWay direction step held before × (IsStanding after held ⊎ IsUnderWay direction step held after)
+    × IsPending direction step held before × (IsCommittedState after held ⊎ IsPending direction step held after)
 
--- the head tells a step as pending, which is that of this entry
+-- the head reports a step as pending, which is that of this entry
 pub record IsPendingIn (folder : Files) (entry : Entry) : Type 0 where
   pub head : Head
   pub pending : Pending
   pub says : HeadSays (get folder head_path) head
-  pub tells : head.pending ≡ Some pending
+  pub states : head.pending ≡ Some pending
   pub is : EntrySays (get folder (entry_path pending.entry)) entry
 
 -- no put and no removal is asked for; or at most one for each change of such an entry, and one for the head
@@ -144,7 +148,7 @@ abbrev pub least : Option ℕ → ℕ → ℕ
 least None other = other
 least (Some one) other = if nat_lt one other then one else other
 
--- The files have this journal and tell what is pending, and this is remembered of it. Each entry that the head names
+-- The files have this journal and report what is pending, and this is remembered of it. Each entry that the head names
 -- can be read, and neither the journal's folder nor the one above it is a file.
 pub record IsRead (files : Files) (pending : Option Pending) (memory : Memory) (journal : Journal) : Type 0 where
   pub no_reuse : get files above_journal ≡ None
@@ -153,9 +157,9 @@ pub record IsRead (files : Files) (pending : Option Pending) (memory : Memory) (
   pub readable : All (IsReadable (undo_folder_of files)) (pending_numbers pending)
   pub remembers : Remembers memory journal
 
--- what is pending was under way from the standing that the files are then
+-- what the head has pending was so from the committed state that the files are then
 abbrev pub IsSettled : Pending → Journal → Files → Files → Type 0
 IsSettled pending journal before after =
     (step : Recorded) × (number_of step ≡ pending.entry)
-    × IsUnderWay pending.direction step (record { tree = tree_of after; journal = journal }) before
-    × IsStanding after (record { tree = tree_of after; journal = journal })
+    × IsPending pending.direction step (record { tree = tree_of after; journal = journal }) before
+    × IsCommittedState after (record { tree = tree_of after; journal = journal })

@@ -15,7 +15,7 @@ use Rattle.reuse_journal.specs.Journal.{Recorded, Journal, State}
 use Rattle.reuse_journal.specs.JournalFiles.{head_path, number_of, IsKeptIn, KeepsJournal}
 use Rattle.reuse_journal.specs.Opening.{NoFileAbove, IsFirstBad, IsStuckAt}
 use Rattle.reuse_journal.specs.Remembered.{IsSameBut}
-use Rattle.reuse_journal.specs.Standing.{IsStanding, IsTree}
+use Rattle.reuse_journal.specs.CommittedState.{IsCommittedState, IsTree}
 use Rattle.reuse_command.specs.Answer.{nothing_recovered}
 use Rattle.reuse_command.specs.declared.reply.Recovered.{Recovered}
 use Rattle.reuse_command.specs.declared.reply.Refusal.{Refusal}
@@ -66,15 +66,18 @@ pub record HasNonePending (journal : Journal) (files : Files) : Type 0 where
   pub keeps : KeepsJournal (undo_folder_of files) journal None
 
 -- the journal is without fault, and this step is pending in it
-pub record HasPending (direction : PendingDirection) (step : Recorded) (journal : Journal) (files : Files) : Type 0 where
+pub record HasPending (direction : PendingDirection) (step : Recorded) (journal : Journal)
+    (files : Files) : Type 0 where
   pub above : NoFileAbove files
-  pub keeps : KeepsJournal (undo_folder_of files) journal (Some (record { entry = number_of step; direction = direction }))
+  pub keeps : KeepsJournal (undo_folder_of files) journal
+      (Some (record { entry = number_of step; direction = direction }))
   pub kept : IsKeptIn (undo_folder_of files) step
 
 -- the tree is recovered, the same steps are listed, and none is pending; nothing else of the journal's folder differs
-pub record IsRecovered (direction : PendingDirection) (step : Recorded) (journal : Journal) (before after : Files) : Type 0 where
+pub record IsRecovered (direction : PendingDirection) (step : Recorded) (journal : Journal)
+    (before after : Files) : Type 0 where
   pub tree : RecoversTree (direction_of direction) step.changes (tree_of before) (tree_of after)
-  pub stands : IsStanding after (record { tree = tree_of after; journal = journal })
+  pub stands : IsCommittedState after (record { tree = tree_of after; journal = journal })
   pub folder : IsSameBut head_path (undo_folder_of before) (undo_folder_of after)
 
 -- the step is pending, and recovering these files leads to the committed state
@@ -83,19 +86,20 @@ pub record RecoversTo (direction : PendingDirection) (step : Recorded) (held : S
   pub pending : HasPending direction step held.journal files
   pub tree : RecoversTree (direction_of direction) step.changes (tree_of files) held.tree
 
--- the answer tells the step, and each path that was rolled back or left; no path is left where that wasn't asked for
-pub record TellsRecovery (skip_moved : Bool) (direction : PendingDirection) (step : Recorded) (files : Files) (told : Recovered) : Type 0 where
-  pub number : told.number ≡ Some (number_of step)
-  pub changed : AreMade (direction_of direction) (tree_of files) step.changes told.changed
-  pub skipped : AreStuck (direction_of direction) (tree_of files) step.changes told.skipped
-  pub none : skip_moved ≡ false → told.skipped ≡ []
+-- the answer reports the step, and each path that was rolled back or left; no path is left where that wasn't asked for
+pub record AnswersRecovery (skip_moved : Bool) (direction : PendingDirection) (step : Recorded) (files : Files)
+    (reported : Recovered) : Type 0 where
+  pub number : reported.number ≡ Some (number_of step)
+  pub changed : AreMade (direction_of direction) (tree_of files) step.changes reported.changed
+  pub skipped : AreStuck (direction_of direction) (tree_of files) step.changes reported.skipped
+  pub none : skip_moved ≡ false → reported.skipped ≡ []
 
 -- what is answered and left: nothing, where no step was pending; and else the step is recovered
 abbrev pub RecoversFiles : Bool → (before after : Files) → Recovered → Type 0
-RecoversFiles skip_moved before after told =
-    ((journal : Journal) × HasNonePending journal before × (told ≡ nothing_recovered) × (after ≡ before))
+RecoversFiles skip_moved before after reported =
+    ((journal : Journal) × HasNonePending journal before × (reported ≡ nothing_recovered) × (after ≡ before))
     ⊎ ((direction : PendingDirection) × (step : Recorded) × (journal : Journal)
-    × HasPending direction step journal before × TellsRecovery skip_moved direction step before told
+    × HasPending direction step journal before × AnswersRecovery skip_moved direction step before reported
     × IsRecovered direction step journal before after)
 
 -- some of the paths that can be rolled back are, and no other path differs
@@ -106,7 +110,8 @@ pub record SomeRecovered (direction : Direction) (changes : List Change) (before
   pub others : (path : List ℕ) → touches changes path ≡ false → get after path ≡ get before path
 
 -- the step is pending still, and each of its paths is as it was or is rolled back
-pub record IsHalfway (direction : PendingDirection) (step : Recorded) (journal : Journal) (before after : Files) : Type 0 where
+pub record IsHalfway (direction : PendingDirection) (step : Recorded) (journal : Journal)
+    (before after : Files) : Type 0 where
   pub pending : HasPending direction step journal after
   pub tree : SomeRecovered (direction_of direction) step.changes (tree_of before) (tree_of after)
 
@@ -116,7 +121,7 @@ StopsRecovering before after =
     (direction : PendingDirection) × (step : Recorded) × (journal : Journal) × HasPending direction step journal before
     × (IsRecovered direction step journal before after ⊎ IsHalfway direction step journal before after)
 
--- Unless an I/O error or an allocation failure is told, recovering is refused as a bad journal exactly at the first
+-- Unless an I/O error or an allocation failure is reported, recovering is refused as a bad journal exactly at the first
 -- path at fault, and as moved exactly at the first path that is stuck, where none is to be skipped.
 pub record RefusesRecovery (skip_moved : Bool) (files : Files) (answer : Result Recovered Refusal) : Type 0 where
   pub bad : (path : List ℕ) → (answer ≡ Err (BadJournal path)) ↔ IsFirstBad files path
@@ -125,7 +130,8 @@ pub record RefusesRecovery (skip_moved : Bool) (files : Files) (answer : Result 
 -- ---- for private clauses
 
 -- what is found of some changes: the paths that can be rolled back, and those that are stuck
-pub record AreFound (direction : Direction) (tree : Files) (changes : List Change) (changed skipped : List (List ℕ)) : Type 0 where
+pub record AreFound (direction : Direction) (tree : Files) (changes : List Change)
+    (changed skipped : List (List ℕ)) : Type 0 where
   pub made : AreMade direction tree changes changed
   pub stuck : AreStuck direction tree changes skipped
 

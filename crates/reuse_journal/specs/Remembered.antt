@@ -12,7 +12,12 @@ use Rattle.reuse_json.specs.declared.entry.Entry.{Entry}
 
 -- a step as an entry that the head lists
 abbrev pub listed_as : Recorded → ListedEntry
-listed_as step = record { number = step.label.number; when = step.label.when; command = step.label.command; count = length step.changes }
+listed_as step = record {
+  number = step.label.number;
+  when = step.label.when;
+  command = step.label.command;
+  count = length step.changes;
+}
 
 -- this is remembered of the journal
 pub record Remembers (memory : Memory) (journal : Journal) : Type 0 where

@@ -1,4 +1,4 @@
--- What the seals of a step tell of its files.
+-- What the seals of a step report of its files.
 use Rattle.std.specs.Prelude.{◌≡◌, true}
 use Rattle.std.specs.Option.{option_map}
 use Rattle.std.specs.FinMap.{get}
@@ -28,5 +28,6 @@ pub record IsUntouched (direction : Direction) (left now : Files) (change : Chan
   pub free : makes direction change ≡ true → ¬ (Clashes now (path_of change))
 
 -- the change has one file, or none, on both trees, if it has one digest on both
-abbrev pub IsToldApart : Files → Files → Change → Type 0
-IsToldApart left now change = option_map sha256 (get now (path_of change)) ≡ option_map sha256 (get left (path_of change)) → get now (path_of change) ≡ get left (path_of change)
+abbrev pub IsDistinguished : Files → Files → Change → Type 0
+IsDistinguished left now change = option_map sha256 (get now (path_of change)) ≡ option_map sha256
+    (get left (path_of change)) → get now (path_of change) ≡ get left (path_of change)

@@ -3,10 +3,10 @@ use Rattle.reuse_change.specs.Files.{Files}
 use Rattle.reuse_change.specs.declared.change.Change.{Change}
 use Rattle.reuse_change.specs.Entry.{CanBeMade, CanBeRolledBack}
 use Rattle.reuse_change.specs.declared.direction.Direction.{Direction}
-use Rattle.reuse_journal.specs.declared.prepare.Aim.{Aim}
-use Rattle.reuse_journal.specs.declared.prepare.Aim.TheVariants.{Go, RollingBack}
+use Rattle.reuse_journal.specs.declared.prepare.Check.{Check}
+use Rattle.reuse_journal.specs.declared.prepare.Check.TheVariants.{Go, RollingBack}
 
 -- on the tree, the change is as the aim needs it
-abbrev pub Passes : Aim → Direction → Files → Change → Type 0
+abbrev pub Passes : Check → Direction → Files → Change → Type 0
 Passes Go direction tree = CanBeMade direction tree
 Passes RollingBack direction tree = CanBeRolledBack direction tree

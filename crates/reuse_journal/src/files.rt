@@ -1,5 +1,6 @@
 //! The files of the journal: reads and puts its head and its entries.
-ghost use Rattle.std.specs.Prelude.{◌≡◌, ◌≢◌, ◌⊎◌, ◌<◌, ◌≤◌, ◌+◌, ℕ, List, Option, Some, true, IfOk, IfErr, OnOk, OnErr, IsErrOf, length};
+ghost use Rattle.std.specs.Prelude.{◌≡◌, ◌≢◌, ◌⊎◌, ◌<◌, ◌≤◌, ◌+◌, ℕ, List, Option, Some, true, IfOk, IfErr, OnOk};
+ghost use Rattle.std.specs.Prelude.{OnErr, IsErrOf, length};
 ghost use Rattle.std.specs.FinMap as map;
 ghost use Rattle.reuse_change.specs.Files.{Clashes, tree_of};
 ghost use Rattle.reuse_store.specs.Store.{reading_of};
@@ -203,7 +204,7 @@ pub fn put_entry<S: Store>(
     // barrier what is there, if the tree was certain.
     ensures left { IsEntry entry.now.changes → knows (is_any_sealed entry.now.changes) entry.now.command ≡ true
         → MaySet S.Store (entry_path number) (λ file. EntrySays file entry.now) store.old store.new }
-    ensures lasting { S.honest store.new → HaveTree S.Store store.old (tree_of (S.files store.old))
+    ensures durable { S.honest store.new → HaveTree S.Store store.old (tree_of (S.files store.old))
         → OnOk result (IsSynced S.Store store.new) }
     ensures refusal { IfErr result IsEarlyFailure }
     ensures clash { S.honest store.new → result ≡ Err (Refusal.Failed (failures.Fault faults.Clash))
@@ -238,7 +239,7 @@ pub fn put_head<S: Store>(
     // A loss of power may leave what it might before, with this head or without; and behind the
     // barrier what is there, if the tree was certain.
     ensures left { MaySet S.Store head_path (λ file. file ≡ Some text.now) store.old store.new }
-    ensures lasting { S.honest store.new → HaveTree S.Store store.old (tree_of (S.files store.old))
+    ensures durable { S.honest store.new → HaveTree S.Store store.old (tree_of (S.files store.old))
         → OnOk result (IsSynced S.Store store.new) }
     ensures device { IsErrOf result Cause.Device → S.failures store.old < S.failures store.new }
     ensures written { S.written store.new ≤ S.written store.old + length text.now }

@@ -1,10 +1,13 @@
 //! What a session remembers of the journal: its entries' labels, and not their changes.
-ghost use Rattle.std.specs.Prelude.{◌≡◌, ◌<◌, ◌≤◌, ◌+◌, ◌*◌, ◌++◌, ◌∷◌, [], Option, None, Some, List, IfOk, length, map, not, reverse, take_while, ◌==◌, true, false};
+ghost use Rattle.std.specs.Prelude.{◌≡◌, ◌<◌, ◌≤◌, ◌+◌, ◌*◌, ◌++◌, ◌∷◌, [], Option, None, Some, List, IfOk, length};
+ghost use Rattle.std.specs.Prelude.{map, not, reverse, take_while, ◌==◌, true, false};
 ghost use Rattle.std.specs.Option.{option_copied};
 ghost use Rattle.reuse_tree.specs.Head.{head_text, IsGoodHead, IsSoundHead};
-ghost use Rattle.reuse_journal.specs.History.{Memory, head_listing, row_listing, rows_listing, remember_run, entries_ahead, remember_moved, numbers_after};
+ghost use Rattle.reuse_journal.specs.History.{Memory, head_listing, row_listing, rows_listing, remember_run};
+ghost use Rattle.reuse_journal.specs.History.{entries_ahead, remember_moved, numbers_after};
 ghost use Rattle.reuse_journal.specs.Labels.{is_full};
-ghost use Rattle.reuse_journal.specs.Numbered.{all_numbers, entries_besides, first_unlisted, is_listed, is_one_of, memory_besides};
+ghost use Rattle.reuse_journal.specs.Numbered.{all_numbers, entries_besides, first_unlisted, is_listed, is_one_of};
+ghost use Rattle.reuse_journal.specs.Numbered.{memory_besides};
 ghost use Rattle.reuse_journal.specs.Numbered.{entry_of, row_in};
 ghost use Rattle.reuse_journal.specs.Numbered.{lists};
 ghost use Rattle.reuse_change.specs.declared.layout.TheConstants.{LAST_NUMBER};
@@ -229,7 +232,8 @@ fn entry_of(entries: &[ListedEntry], number: u32) -> Option<&ListedEntry>
 
 // How many entries are behind the last of this number.
 fn count_after(entries: &[ListedEntry], number: u32) -> usize
-    ensures count { result ≡ length (take_while (λ (entry : ListedEntry). not (entry.number == number)) (reverse entries.now)) }
+    ensures count { result ≡ length
+        (take_while (λ (entry : ListedEntry). not (entry.number == number)) (reverse entries.now)) }
     ensures room { result ≤ length entries.now }
 {
     entries
@@ -241,7 +245,8 @@ fn count_after(entries: &[ListedEntry], number: u32) -> usize
 
 // The numbers of the entries, from the last on back.
 fn numbers_back(alloc: Global, entries: &[ListedEntry]) -> Result<Vec<u32>, AllocError>
-    ensures { IfOk result (λ numbers. numbers.items ≡ map (λ (entry : ListedEntry). entry.number) (reverse entries.now)) }
+    ensures { IfOk result
+        (λ numbers. numbers.items ≡ map (λ (entry : ListedEntry). entry.number) (reverse entries.now)) }
 {
     let mut numbers = Vec::with_capacity(alloc, entries.len())?;
     for entry in entries.iter().rev() {

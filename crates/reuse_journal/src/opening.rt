@@ -1,19 +1,24 @@
 //! Opens the journal of a store: reads the head and each entry that it names, and rolls back what
 //! is pending.
-ghost use Rattle.std.specs.Prelude.{◌≡◌, ◌≢◌, ◌⊎◌, ◌<◌, ◌≤◌, ◌+◌, ℕ, List, IfOk, IfErr, OnOk, IsSome, IsTrue, Some, None, length, MatchResult};
+ghost use Rattle.std.specs.Prelude.{◌≡◌, ◌≢◌, ◌⊎◌, ◌<◌, ◌≤◌, ◌+◌, ℕ, List, IfOk, IfErr, OnOk, IsSome, IsTrue, Some};
+ghost use Rattle.std.specs.Prelude.{None, length, MatchResult};
 ghost use Rattle.std.specs.FinMap as map;
 ghost use Rattle.std.specs.List.{All, AllZip};
 ghost use Rattle.reuse_change.specs.Layout.{above_journal};
 ghost use Rattle.reuse_change.specs.Path.{is_path, journal_folder};
-ghost use Rattle.reuse_command.specs.Answer.{HasCause, IsEarly, IsNoClash, IsFailure, IsReadRefusal, IsOpenRefusal, RefusedAsRead};
+ghost use Rattle.reuse_command.specs.Answer.{HasCause, IsEarly, IsNoClash, IsFailure, IsReadRefusal, IsOpenRefusal};
+ghost use Rattle.reuse_command.specs.Answer.{RefusedAsRead};
 ghost use Rattle.reuse_tree.specs.Head.{listed, IsSoundHead};
 ghost use Rattle.reuse_tree.specs.declared.journal.head.Head.{Head};
 ghost use Rattle.reuse_journal.specs.Journal.{Recorded, Journal, State};
 ghost use Rattle.reuse_journal.specs.JournalFiles.{head_path, entry_path, number_of, HeadSays, EntrySays};
-ghost use Rattle.reuse_journal.specs.Opening.{least, listed_entry, named, IsReadable, IsListedIn, IsFoundAt, IsLeastFound, NoFileAbove, IsFirstUnreadable, IsFirstBad, IsRead, IsSettled, IsStuckAt, MutationsToOpen, MutationsFor, OpensOn, StopsOpening};
+ghost use Rattle.reuse_journal.specs.Opening.{least, listed_entry, named, IsReadable, IsListedIn, IsFoundAt};
+ghost use Rattle.reuse_journal.specs.Opening.{IsLeastFound, NoFileAbove, IsFirstUnreadable, IsFirstBad, IsRead};
+ghost use Rattle.reuse_journal.specs.Opening.{IsSettled, IsStuckAt, MutationsToOpen, MutationsFor, OpensOn};
+ghost use Rattle.reuse_journal.specs.Opening.{StopsOpening};
 ghost use Rattle.reuse_journal.specs.Remembered.{head_room, listed_count, HasHeadText, IsSameBut, Remembers};
-ghost use Rattle.reuse_journal.specs.Standing.{IsStanding, IsUnderWay, InDoubt};
-ghost use Rattle.reuse_journal.specs.Losses.{AreSafeOn, AreInDoubt, Earlier, beyond};
+ghost use Rattle.reuse_journal.specs.CommittedState.{IsCommittedState, IsPending, BetweenStates};
+ghost use Rattle.reuse_journal.specs.Losses.{AllRecoverToTree, AreBetweenStates, Earlier, beyond};
 ghost use Rattle.reuse_change.specs.Tree.{undo_folder_of};
 ghost use Rattle.reuse_store.specs.declared.cause.Cause.{Cause};
 ghost use Rattle.reuse_store.specs.declared.cause.Cause.TheVariants as causes;
@@ -41,22 +46,25 @@ pub fn open_journal<S: Store>(alloc: Global, store: &mut S) -> Result<History, R
         → IsFirstBad (S.files store.old) path }
     ensures moved { S.honest store.new → (path : List ℕ) → result ≡ Err (Refusal.Moved path)
         → IsStuckAt (S.files store.old) path }
-    // It stops only where a step was under way, which is still, or is rolled back.
+    // It stops only where a step was pending, which is still, or is rolled back.
     ensures interrupted { S.honest store.new → (cause : Cause)
         → result ≡ Err (Refusal.Failed (failures.Interrupted cause))
         → StopsOpening (S.files store.old) (S.files store.new) }
-    // Of files in doubt it makes one of the two standings, or leaves them in doubt where it fails.
-    ensures recovers { S.honest store.new → (first second : State) → InDoubt first second (S.files store.old)
-        → MatchResult result (λ memory. (IsStanding (S.files store.new) first × Remembers memory first.journal)
-        ⊎ (IsStanding (S.files store.new) second × Remembers memory second.journal))
-        (λ refusal. IsFailure refusal × InDoubt first second (S.files store.new)) }
-    // Where all that a loss of power may leave is in doubt too, it is safe on that standing then,
-    // or still in doubt.
-    ensures survives { S.honest store.new → (earlier : Earlier) → (held next : State) → AreInDoubt S.Store earlier held next store.old
-        → MatchResult result (λ memory. (IsStanding (S.files store.new) held × Remembers memory held.journal
-        × AreSafeOn S.Store earlier held store.new)
-        ⊎ (IsStanding (S.files store.new) next × Remembers memory next.journal × AreSafeOn S.Store (beyond earlier held) next store.new))
-        (λ refusal. AreInDoubt S.Store earlier held next store.new) }
+    // Of files in doubt it makes one of the two committed states, or leaves them in doubt where it
+    // fails.
+    ensures recovers { S.honest store.new → (first second : State) → BetweenStates first second (S.files store.old)
+        → MatchResult result (λ memory. (IsCommittedState (S.files store.new) first × Remembers memory first.journal)
+        ⊎ (IsCommittedState (S.files store.new) second × Remembers memory second.journal))
+        (λ refusal. IsFailure refusal × BetweenStates first second (S.files store.new)) }
+    // Where all that a loss of power may leave is in doubt too, it is safe on that committed state
+    // then, or still in doubt.
+    ensures survives { S.honest store.new → (earlier : Earlier) → (held next : State)
+        → AreBetweenStates S.Store earlier held next store.old
+        → MatchResult result (λ memory. (IsCommittedState (S.files store.new) held × Remembers memory held.journal
+        × AllRecoverToTree S.Store earlier held store.new)
+        ⊎ (IsCommittedState (S.files store.new) next × Remembers memory next.journal
+        × AllRecoverToTree S.Store (beyond earlier held) next store.new))
+        (λ refusal. AreBetweenStates S.Store earlier held next store.new) }
     // Where a step was rolled back the head is the very text of what is remembered.
     ensures texts { S.honest store.new
         → IfOk result (λ memory. (S.files store.new ≡ S.files store.old) ⊎ HasHeadText memory (S.files store.new)) }
@@ -70,7 +78,7 @@ pub fn open_journal<S: Store>(alloc: Global, store: &mut S) -> Result<History, R
     ensures early { IfErr result (λ refusal. IsEarly refusal → OnlyReads S.Store store.old store.new) }
     ensures late { (cause : Cause) → result ≡ Err (Refusal.Failed (failures.Interrupted cause)) → cause ≢ causes.Moved
         → S.mutations store.old < S.mutations store.new }
-    ensures quiet { S.honest store.new → (held : State) → IsStanding (S.files store.old) held
+    ensures quiet { S.honest store.new → (held : State) → IsCommittedState (S.files store.old) held
         → OnlyReads S.Store store.old store.new }
     ensures folder { S.honest store.new
         → IsSameBut head_path (undo_folder_of (S.files store.old)) (undo_folder_of (S.files store.new)) }
@@ -125,15 +133,16 @@ fn recover_pending<S: Store>(
     ensures recovers { S.honest store.new → (journal : Journal)
         → IsRead (S.files store.old) (Some pending) history.now journal
         → (step : Recorded) → (first : State) → number_of step ≡ pending.entry
-        → IsUnderWay pending.direction step first (S.files store.old)
-        → MatchResult result (λ done. IsStanding (S.files store.new) first)
+        → IsPending pending.direction step first (S.files store.old)
+        → MatchResult result (λ done. IsCommittedState (S.files store.new) first)
         (λ refusal. IsFailure refusal
-        × (IsStanding (S.files store.new) first ⊎ IsUnderWay pending.direction step first (S.files store.new))) }
+        × (IsCommittedState (S.files store.new) first ⊎ IsPending pending.direction step first (S.files store.new))) }
     ensures survives { S.honest store.new → (journal : Journal)
         → IsRead (S.files store.old) (Some pending) history.now journal
-        → (earlier : Earlier) → (held next : State) → AreInDoubt S.Store earlier held next store.old
-        → MatchResult result (λ done. IsStanding (S.files store.new) held
-        × AreSafeOn S.Store earlier held store.new) (λ refusal. AreInDoubt S.Store earlier held next store.new) }
+        → (earlier : Earlier) → (held next : State) → AreBetweenStates S.Store earlier held next store.old
+        → MatchResult result (λ done. IsCommittedState (S.files store.new) held
+        × AllRecoverToTree S.Store earlier held store.new)
+        (λ refusal. AreBetweenStates S.Store earlier held next store.new) }
     ensures interrupted { S.honest store.new → (journal : Journal)
         → IsRead (S.files store.old) (Some pending) history.now journal
         → (cause : Cause) → result ≡ Err (Refusal.Failed (failures.Interrupted cause))
@@ -153,7 +162,8 @@ fn recover_pending<S: Store>(
     ensures written { S.honest store.new → (journal : Journal)
         → IsRead (S.files store.old) (Some pending) history.now journal
         → S.written store.new ≤ S.written store.old + head_room (listed_count history.now) }
-    ensures mutations { S.honest store.new → MutationsFor S.Store (EntrySays (map.get (undo_folder_of (S.files store.old)) (entry_path pending.entry))) store.old store.new }
+    ensures mutations { S.honest store.new → MutationsFor S.Store
+        (EntrySays (map.get (undo_folder_of (S.files store.old)) (entry_path pending.entry))) store.old store.new }
     ensures refusal { IfErr result IsOpenRefusal }
     ensures clash { S.honest store.new → (journal : Journal)
         → IsRead (S.files store.old) (Some pending) history.now journal → IfErr result IsNoClash }

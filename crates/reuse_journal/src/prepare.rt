@@ -29,7 +29,7 @@ pub fn paths_of(alloc: Global, changes: &[Change]) -> Result<Paths, AllocError>
 
 /// What each change of an entry is tested for, this way.
 #[derive(Clone, Copy)]
-pub enum Aim {
+pub enum Check {
     /// It can be made.
     Go,
     /// It isn't made, or can be taken back.
@@ -42,18 +42,18 @@ pub fn test_each<S: Store>(
     store: &mut S,
     changes: &[Change],
     direction: Direction,
-    aim: Aim,
+    check: Check,
 ) -> Result<(), Refusal>
     ensures ready { S.honest store.new → IsEntry changes.now
-        → OnOk result (All (Passes aim direction (tree_of (S.files store.old))) changes.now) }
+        → OnOk result (All (Passes check direction (tree_of (S.files store.old))) changes.now) }
     ensures moved { S.honest store.new → IsEntry changes.now → (path : List ℕ) → result ≡ Err (Refusal.Moved path)
-        → IsFirstWithout (Passes aim direction (tree_of (S.files store.old))) changes.now path }
+        → IsFirstWithout (Passes check direction (tree_of (S.files store.old))) changes.now path }
     ensures refusal { IfErr result IsTestRefusal }
     ensures fails { RefusedAsRead S.Store store.old store.new result }
     ensures reads { OnlyReads S.Store store.old store.new }
 {
     for change in changes {
-        if !passes(alloc, store, change, direction, aim)? {
+        if !passes(alloc, store, change, direction, check)? {
             return Err(Refusal::Moved(change.path().try_clone(alloc)?));
         }
     }
@@ -66,16 +66,16 @@ fn passes<S: Store>(
     store: &mut S,
     change: &Change,
     direction: Direction,
-    aim: Aim,
+    check: Check,
 ) -> Result<bool, StoreFault>
     ensures ok { S.honest store.new → IsProper change.now → IsSmall change.now → is_of_tree (path_of change.now) ≡ true
-        → IfOk result (λ yes. IsTrue yes ↔ Passes aim direction (tree_of (S.files store.old)) change.now) }
+        → IfOk result (λ yes. IsTrue yes ↔ Passes check direction (tree_of (S.files store.old)) change.now) }
     ensures fails { FailsAsRead S.Store store.old store.new result }
     ensures reads { OnlyReads S.Store store.old store.new }
 {
-    match aim {
-        Aim::Go => can_be_made(alloc, store, change, direction),
-        Aim::RollingBack => {
+    match check {
+        Check::Go => can_be_made(alloc, store, change, direction),
+        Check::RollingBack => {
             if can_apply(alloc, store, change, direction)? {
                 return Ok(true);
             }
@@ -100,6 +100,6 @@ pub fn prepare<S: Store>(
     ensures fails { RefusedAsRead S.Store store.old store.new result }
     ensures reads { OnlyReads S.Store store.old store.new }
 {
-    test_each(alloc, store, changes, direction, Aim::Go)?;
+    test_each(alloc, store, changes, direction, Check::Go)?;
     Ok(paths_of(alloc, changes)?)
 }

@@ -3,7 +3,8 @@
 //!
 //! It walks as an opening does, over the changes that can be rolled back alone. The others are
 //! found first, and nothing is put before all are.
-ghost use Rattle.std.specs.Prelude.{◌≡◌, ◌≢◌, ◌<◌, ◌⊎◌, ◌∷◌, [], ℕ, List, not, true, false, Some, None, IfOk, IfErr, OnOk, MatchResult};
+ghost use Rattle.std.specs.Prelude.{◌≡◌, ◌≢◌, ◌<◌, ◌⊎◌, ◌∷◌, [], ℕ, List, not, true, false, Some, None, IfOk, IfErr};
+ghost use Rattle.std.specs.Prelude.{OnOk, MatchResult};
 ghost use Rattle.std.specs.FinMap as map;
 ghost use Rattle.reuse_store.specs.Asked.{OnlyReads, IsLater, IsSynced, Leaves};
 ghost use Rattle.reuse_change.specs.Change.{path_of, IsProper};
@@ -15,23 +16,26 @@ ghost use Rattle.reuse_change.specs.Tree.{is_of_tree, undo_folder_of, Sets};
 ghost use Rattle.reuse_store.specs.declared.cause.Cause.{Cause};
 ghost use Rattle.reuse_store.specs.declared.cause.Cause.TheVariants as causes;
 ghost use Rattle.reuse_tree.specs.declared.journal.head.PendingDirection.{PendingDirection};
-ghost use Rattle.reuse_command.specs.Answer.{HasCause, IsEarly, IsFailure, IsRollBackRefusal, IsNoClash, IsOpenRefusal, IsTestRefusal, RefusedAsRead, TellsNoFault, IsEarlyFailure};
+ghost use Rattle.reuse_command.specs.Answer.{HasCause, IsEarly, IsFailure, IsRollBackRefusal, IsNoClash, IsOpenRefusal};
+ghost use Rattle.reuse_command.specs.Answer.{IsTestRefusal, RefusedAsRead, DidNotFail, IsEarlyFailure};
 ghost use Rattle.reuse_journal.specs.Carried.{IsRolledBack, StopsBack};
 ghost use Rattle.reuse_journal.specs.Journal.{Journal, Recorded, State};
 ghost use Rattle.reuse_journal.specs.JournalFiles.{head_path};
-ghost use Rattle.reuse_journal.specs.Losses.{AreInDoubt, AwaitsRecovery, Earlier, SurvivesInDoubt, SurvivesRecovery};
+ghost use Rattle.reuse_journal.specs.Losses.{AreBetweenStates, AwaitsRecovery, Earlier, SurvivesBetweenStates};
+ghost use Rattle.reuse_journal.specs.Losses.{SurvivesRecovery};
 ghost use Rattle.reuse_journal.specs.Losses.{HaveTree, MayHaveHead, StopsBackWithDoubt};
 ghost use Rattle.reuse_journal.specs.Opening.{IsFirstBad, IsStuckAt, IsRead};
-ghost use Rattle.reuse_journal.specs.Recovery.{ArePart, HasNonePending, RecoversFiles, StopsRecovering, RefusesRecovery, FindsNext, AreFound, changes_besides};
+ghost use Rattle.reuse_journal.specs.Recovery.{ArePart, HasNonePending, RecoversFiles, StopsRecovering};
+ghost use Rattle.reuse_journal.specs.Recovery.{RefusesRecovery, FindsNext, AreFound, changes_besides};
 ghost use Rattle.reuse_journal.specs.Remembered.{IsSameBut};
-ghost use Rattle.reuse_journal.specs.Standing.{IsStanding, InDoubt};
+ghost use Rattle.reuse_journal.specs.CommittedState.{IsCommittedState, BetweenStates};
 ghost use Rattle.reuse_command.specs.declared.failure.Fault.{Fault};
 ghost use Rattle.reuse_command.specs.declared.failure.Failure.TheVariants as failures;
 
 use crate::files::{HeadPath, NewHead, put_head, read_entry};
 use crate::history::History;
 use crate::opening::read_journal;
-use crate::roll_back::{roll_back, told};
+use crate::roll_back::{refusal_for, roll_back};
 use reuse_change::{Change, Direction, PathText, is_among};
 use reuse_command::reply::{Paths, Recovered, Refusal};
 use reuse_store::Store;
@@ -62,7 +66,7 @@ pub fn recover<S: Store>(
     // Unless it reports an I/O error or an allocation failure, it is refused as `BadJournal`
     // exactly at the first path at fault, and as `Moved` exactly at the first path that is stuck,
     // where none is to be skipped.
-    ensures exact { S.honest result.0 → TellsNoFault result.1 → RefusesRecovery skip_moved (S.files store) result.1 }
+    ensures exact { S.honest result.0 → DidNotFail result.1 → RefusesRecovery skip_moved (S.files store) result.1 }
 
     // It stops only where a step is pending: that is recovered, or each of its paths is as it was
     // or as recovering leaves it.
@@ -80,19 +84,21 @@ pub fn recover<S: Store>(
     ensures folder { S.honest result.0
         → IsSameBut head_path (undo_folder_of (S.files store)) (undo_folder_of (S.files result.0)) }
 
-    // Of files in doubt between two standings it makes what an opening makes: one of the two. Where
-    // it fails they are in doubt still.
-    ensures recovers { S.honest result.0 → (first second : State) → InDoubt first second (S.files store)
-        → MatchResult result.1 (λ recovered. IsStanding (S.files result.0) first ⊎ IsStanding (S.files result.0) second)
-        (λ refusal. IsFailure refusal × InDoubt first second (S.files result.0)) }
+    // Of files in doubt between two committed states it makes what an opening makes: one of the
+    // two. Where it fails they are in doubt still.
+    ensures recovers { S.honest result.0 → (first second : State) → BetweenStates first second (S.files store)
+        → MatchResult result.1
+        (λ recovered. IsCommittedState (S.files result.0) first ⊎ IsCommittedState (S.files result.0) second)
+        (λ refusal. IsFailure refusal × BetweenStates first second (S.files result.0)) }
 
     // If all that a loss of power may leave is in doubt between two committed states too, it is
     // safe then on the one that recovering leaves. If that fails, it is still in doubt.
-    ensures survives { S.honest result.0 → (earlier : Earlier) → (held next : State) → AreInDoubt S.Store earlier held next store
-        → SurvivesInDoubt S.Store earlier held next result.1 result.0 }
+    ensures survives { S.honest result.0 → (earlier : Earlier) → (held next : State)
+        → AreBetweenStates S.Store earlier held next store
+        → SurvivesBetweenStates S.Store earlier held next result.1 result.0 }
     // The same of a step of which some paths can't be rolled back. Once it is recovered, a loss of
     // power leaves what is there. If that stops, recovering what is left leads to the same files.
-    ensures lasting { S.honest result.0 → (direction : PendingDirection) → (step : Recorded) → (held : State)
+    ensures durable { S.honest result.0 → (direction : PendingDirection) → (step : Recorded) → (held : State)
         → AwaitsRecovery S.Store direction step held store
         → SurvivesRecovery S.Store direction step held result.1 result.0 }
     ensures refusal { IfErr result.1 IsOpenRefusal }
@@ -127,9 +133,10 @@ fn recover_journal<S: Store>(
         → OnlyReads S.Store store.old store.new }
     ensures folder { S.honest store.new
         → IsSameBut head_path (undo_folder_of (S.files store.old)) (undo_folder_of (S.files store.new)) }
-    ensures survives { S.honest store.new → (earlier : Earlier) → (held next : State) → AreInDoubt S.Store earlier held next store.old
-        → SurvivesInDoubt S.Store earlier held next result store.new }
-    ensures lasting { S.honest store.new → (direction : PendingDirection) → (step : Recorded) → (held : State)
+    ensures survives { S.honest store.new → (earlier : Earlier) → (held next : State)
+        → AreBetweenStates S.Store earlier held next store.old
+        → SurvivesBetweenStates S.Store earlier held next result store.new }
+    ensures durable { S.honest store.new → (direction : PendingDirection) → (step : Recorded) → (held : State)
         → AwaitsRecovery S.Store direction step held store.old
         → SurvivesRecovery S.Store direction step held result store.new }
     ensures refusal { IfErr result IsOpenRefusal }
@@ -172,7 +179,7 @@ fn recover_step<S: Store>(
     ensures folder { S.honest store.new → (journal : Journal)
         → IsRead (S.files store.old) (Some pending) history.now journal
         → IsSameBut head_path (undo_folder_of (S.files store.old)) (undo_folder_of (S.files store.new)) }
-    ensures lasting { S.honest store.new
+    ensures durable { S.honest store.new
         → (journal : Journal) → IsRead (S.files store.old) (Some pending) history.now journal
         → (direction : PendingDirection) → (step : Recorded) → (held : State)
         → AwaitsRecovery S.Store direction step held store.old
@@ -217,7 +224,7 @@ fn roll_back_part<S: Store>(
         → StopsBack direction changes.now head.now.text.now (S.files store.old) (S.files store.new) }
     // What a loss of power may leave, if each tree that might be left before is the start with some
     // of the changes made.
-    ensures lasting { S.honest store.new → ArePart changes.now
+    ensures durable { S.honest store.new → ArePart changes.now
         → (start : Files) → ArePartlyMade direction changes.now start (tree_of (S.files store.old))
         → Leaves S.Store store.old (λ kept. SomeMade direction changes.now start (tree_of kept))
         → OnOk result (IsSynced S.Store store.new) }
@@ -254,7 +261,7 @@ fn clear_head<S: Store>(alloc: Global, store: &mut S, head: &NewHead<'_>) -> Res
     ensures stopped { S.honest store.new → (cause : Cause) → result ≡ Err (Refusal.Failed (failures.Interrupted cause))
         → (S.files store.new ≡ S.files store.old)
         ⊎ Sets head_path (Some head.now.text.now) (S.files store.old) (S.files store.new) }
-    ensures lasting { S.honest store.new → HaveTree S.Store store.old (tree_of (S.files store.old))
+    ensures durable { S.honest store.new → HaveTree S.Store store.old (tree_of (S.files store.old))
         → OnOk result (IsSynced S.Store store.new) }
     ensures left { S.honest store.new → HaveTree S.Store store.old (tree_of (S.files store.old))
         → (cause : Cause) → result ≡ Err (Refusal.Failed (failures.Interrupted cause))
@@ -271,7 +278,7 @@ fn clear_head<S: Store>(alloc: Global, store: &mut S, head: &NewHead<'_>) -> Res
     store.sync(alloc, &[])?;
     match put_head(alloc, store, head.path, head.text) {
         Ok(()) => Ok(()),
-        Err(cause) => Err(told(true, cause)),
+        Err(cause) => Err(refusal_for(true, cause)),
     }
 }
 
@@ -290,7 +297,8 @@ fn find_each<S: Store>(
     changes: &[Change],
     direction: Direction,
 ) -> Result<Found, Refusal>
-    ensures found { S.honest store.new → IsEntry changes.now → IfOk result (λ found. AreFound direction (tree_of (S.files store.old)) changes.now found.changed.items found.skipped.items) }
+    ensures found { S.honest store.new → IsEntry changes.now → IfOk result (λ found. AreFound direction
+        (tree_of (S.files store.old)) changes.now found.changed.items found.skipped.items) }
     ensures refusal { IfErr result IsEarlyFailure }
     ensures fails { RefusedAsRead S.Store store.old store.new result }
     ensures reads { OnlyReads S.Store store.old store.new }
@@ -315,7 +323,8 @@ fn find_next<S: Store>(
 ) -> Result<(), Refusal>
     ensures adds { S.honest store.new → IsProper change.now → IsSmall change.now
         → is_of_tree (path_of change.now) ≡ true
-        → OnOk result (FindsNext direction (tree_of (S.files store.old)) change.now found.old.changed.items found.new.changed.items found.old.skipped.items found.new.skipped.items) }
+        → OnOk result (FindsNext direction (tree_of (S.files store.old)) change.now found.old.changed.items
+        found.new.changed.items found.old.skipped.items found.new.skipped.items) }
     ensures refusal { IfErr result IsEarlyFailure }
     ensures fails { RefusedAsRead S.Store store.old store.new result }
     ensures reads { OnlyReads S.Store store.old store.new }

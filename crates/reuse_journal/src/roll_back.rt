@@ -2,7 +2,7 @@
 ghost use Rattle.std.specs.Prelude.{◌≡◌, ◌≢◌, ◌<◌, ◌≤◌, ◌+◌, ℕ, List, IfErr, OnOk, OnErr, IsErrOf, length, true, false};
 ghost use Rattle.std.specs.List.{All};
 ghost use Rattle.reuse_change.specs.Files.{Files, AreFiles, Clashes, tree_of};
-ghost use Rattle.reuse_command.specs.Answer.{told_of, HasCause, IsEarly, IsNoClash, IsRollBackRefusal};
+ghost use Rattle.reuse_command.specs.Answer.{reported_of, HasCause, IsEarly, IsNoClash, IsRollBackRefusal};
 ghost use Rattle.reuse_journal.specs.Carried.{IsRolledBack, StopsBack, StopsRollingBack};
 ghost use Rattle.reuse_store.specs.Apply.{NotesMutations};
 ghost use Rattle.reuse_change.specs.Entry.{IsEntry, SomeMade, ArePartlyMade, CanBeRolledBack, IsFirstWithout};
@@ -13,11 +13,11 @@ ghost use Rattle.reuse_store.specs.declared.cause.Cause.{Cause};
 ghost use Rattle.reuse_command.specs.declared.failure.Failure.TheVariants as failures;
 ghost use Rattle.reuse_command.specs.declared.reply.Refusal.TheVariants as refusals;
 ghost use Rattle.reuse_store.specs.Asked.{OnlyReads, IsLater, IsSynced, Leaves};
-ghost use Rattle.reuse_store.specs.Lasting.{IsMidway};
+ghost use Rattle.reuse_store.specs.Durable.{IsMidway};
 ghost use Rattle.reuse_journal.specs.Losses.{StopsBackWithDoubt};
 
 use crate::files::{NewHead, put_head};
-use crate::prepare::{Aim, test_each};
+use crate::prepare::{Check, test_each};
 use reuse_change::{Change, Direction};
 use reuse_command::failure::{Failure, Fault};
 use reuse_command::reply::Refusal;
@@ -29,7 +29,7 @@ use std::alloc::Global;
 /// where it is made. Then takes back those that are made, and puts the head. It is refused as
 /// `Moved` at the first path where that can't be.
 ///
-/// A barrier stands before the first change that is taken back, so that the pending head is lasting
+/// A barrier stands before the first change that is taken back, so that the pending head is durable
 /// then; one stands behind the last change, before the head is put; and one behind the head.
 pub fn roll_back<S: Store>(
     alloc: Global,
@@ -54,7 +54,7 @@ pub fn roll_back<S: Store>(
     // A loss of power leaves what is there once it is done. Where it stops, some of the changes are
     // still made, or the last head is put or not. That holds if each tree that might be left before
     // is the start with some of the changes made.
-    ensures lasting { S.honest store.new → IsEntry changes.now → (start : Files)
+    ensures durable { S.honest store.new → IsEntry changes.now → (start : Files)
         → ArePartlyMade direction changes.now start (tree_of (S.files store.old))
         → Leaves S.Store store.old (λ kept. SomeMade direction changes.now start (tree_of kept))
         → OnOk result (IsSynced S.Store store.new) }
@@ -86,18 +86,18 @@ pub fn roll_back<S: Store>(
     ensures mutations { S.mutations store.new ≤ S.mutations store.old + length changes.now + 1 }
     ensures later { IsLater S.Store store.old store.new }
 {
-    test_each(alloc, store, changes, direction, Aim::RollingBack)?;
+    test_each(alloc, store, changes, direction, Check::RollingBack)?;
     store.sync(alloc, &[])?;
     let mut started = false;
     match roll_back_changes(alloc, store, changes, direction, head, &mut started) {
         Ok(()) => Ok(()),
-        Err(cause) => Err(told(started, cause)),
+        Err(cause) => Err(refusal_for(started, cause)),
     }
 }
 
 /// The refusal of a cause: a stop once a put or a removal has started.
-pub fn told(started: bool, cause: Cause) -> Refusal
-    ensures { result ≡ told_of started cause }
+pub fn refusal_for(started: bool, cause: Cause) -> Refusal
+    ensures { result ≡ reported_of started cause }
 {
     Refusal::Failed(match (started, cause) {
         (false, Cause::Device) => Failure::Fault(Fault::Device),
@@ -121,15 +121,17 @@ fn roll_back_changes<S: Store>(
         → OnOk result (IsRolledBack direction changes.now head.now.text.now (S.files store.old) (S.files store.new)) }
     ensures stopped { S.honest store.new → IsEntry changes.now → (start : Files)
         → ArePartlyMade direction changes.now start (tree_of (S.files store.old))
-        → OnErr result (StopsRollingBack direction changes.now head.now.text.now start (S.files store.old) (S.files store.new)) }
-    ensures lasting { S.honest store.new → IsEntry changes.now → (start : Files)
+        → OnErr result
+        (StopsRollingBack direction changes.now head.now.text.now start (S.files store.old) (S.files store.new)) }
+    ensures durable { S.honest store.new → IsEntry changes.now → (start : Files)
         → ArePartlyMade direction changes.now start (tree_of (S.files store.old))
         → Leaves S.Store store.old (IsMidway direction changes.now start (undo_folder_of (S.files store.old)))
         → OnOk result (IsSynced S.Store store.new) }
     ensures left { S.honest store.new → IsEntry changes.now → (start : Files)
         → ArePartlyMade direction changes.now start (tree_of (S.files store.old))
         → Leaves S.Store store.old (IsMidway direction changes.now start (undo_folder_of (S.files store.old)))
-        → OnErr result (StopsBackWithDoubt S.Store direction changes.now head.now.text.now start (S.files store.old) store.new) }
+        → OnErr result
+        (StopsBackWithDoubt S.Store direction changes.now head.now.text.now start (S.files store.old) store.new) }
     ensures back { S.honest store.new → IsEntry changes.now
         → OnErr result (StopsBack direction changes.now head.now.text.now (S.files store.old) (S.files store.new)) }
     ensures cause { S.honest store.new → IsEntry changes.now

@@ -36,17 +36,19 @@ pub fn commit_step<S: Store>(
     heads: &StepHeads<'_>,
 ) -> Result<(), Cause>
     requires { S.honest store.now → CanGo direction (tree_of (S.files store.now)) changes.now }
-    ensures done { S.honest store.new → IsEntry changes.now → OnOk result (IsCarriedOut direction changes.now heads.now.settled.now (S.files store.old) (S.files store.new)) }
+    ensures done { S.honest store.new → IsEntry changes.now → OnOk result
+        (IsCarriedOut direction changes.now heads.now.settled.now (S.files store.old) (S.files store.new)) }
     ensures stopped { S.honest store.new → IsEntry changes.now → OnErr result ((S.files store.new ≡ S.files store.old)
         ⊎ IsStopped direction changes.now heads.now.pending.now (S.files store.old) (S.files store.new)
         ⊎ IsCarriedOut direction changes.now heads.now.settled.now (S.files store.old) (S.files store.new)) }
     // After a loss of power, if nothing but the journal was in doubt before: what is there, once it
     // is done; and where it stops, what was there with the pending head, or with some changes too,
     // or with all and the last head.
-    ensures lasting { S.honest store.new → IsEntry changes.now
+    ensures durable { S.honest store.new → IsEntry changes.now
         → HaveTree S.Store store.old (tree_of (S.files store.old)) → OnOk result (IsSynced S.Store store.new) }
     ensures doubt { S.honest store.new → IsEntry changes.now → HaveTree S.Store store.old (tree_of (S.files store.old))
-        → OnErr result (StopsWithDoubt S.Store direction changes.now heads.now.pending.now heads.now.settled.now store.old store.new) }
+        → OnErr result
+        (StopsWithDoubt S.Store direction changes.now heads.now.pending.now heads.now.settled.now store.old store.new) }
     // Where each change can be made, no file has moved, and a clash is that of the head.
     ensures moved { S.honest store.new → IsEntry changes.now
         → All (CanBeMade direction (tree_of (S.files store.old))) changes.now

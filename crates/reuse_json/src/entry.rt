@@ -1,8 +1,8 @@
 //! An entry of the journal.
-use reuse_change::{Change, CommandName, Items, Moment};
+use reuse_change::{Change, CommandName, FixedList, Moment};
 
 /// Changes, in order.
-pub type Changes = Items<Change>;
+pub type Changes = FixedList<Change>;
 
 /// What one command changed.
 #[derive(Debug, Drop)]

@@ -13,7 +13,7 @@ ghost use Rattle.reuse_json.specs.Trimmed.{if_few, one_more, trim, ReadsItems, R
 
 use crate::fault::DecodeFault;
 use crate::json_number::number_value;
-use crate::room::Room;
+use crate::length_limit::LengthLimit;
 use json::{Reader, Scratch, Token};
 use serde_json::{Map, Value};
 use std::alloc::{AllocError, Global};
@@ -22,7 +22,7 @@ use std::alloc::{AllocError, Global};
 pub const DEEPEST: usize = 127;
 
 /// The value that the text is, trimmed.
-pub fn parse_trimmed(alloc: Global, text: &[u8], room: Room) -> Result<Value, DecodeFault>
+pub fn parse_trimmed(alloc: Global, text: &[u8], room: LengthLimit) -> Result<Value, DecodeFault>
     ensures ok { IfOk result (λ v. (d : Data) × IsJson text.now d × (view v ≡ trim room d)) }
     ensures refused { result ≡ Err DecodeFault.NotGood → (d : Data) → IsJson text.now d → ⊥ }
 {
@@ -44,7 +44,7 @@ pub fn read(
     alloc: Global,
     reader: &mut Reader<'_>,
     depth: usize,
-    room: Room,
+    room: LengthLimit,
 ) -> Result<Value, DecodeFault>
     ensures ok { IfOk result (ReadsValue depth room reader.old reader.new) }
     ensures shorter { OnOk result (length reader.new < length reader.old) }
@@ -61,7 +61,7 @@ pub fn read_from(
     token: Token<'_>,
     reader: &mut Reader<'_>,
     depth: usize,
-    room: Room,
+    room: LengthLimit,
 ) -> Result<Value, DecodeFault>
     ensures ok { IfOk result (ReadsValue depth room (token_of token.entry ∷ reader.old) reader.new) }
     ensures shorter { OnOk result (length reader.new ≤ length reader.old) }
@@ -97,7 +97,7 @@ fn read_items(
     alloc: Global,
     reader: &mut Reader<'_>,
     depth: usize,
-    room: Room,
+    room: LengthLimit,
 ) -> Result<Value, DecodeFault>
     ensures ok { IfOk result (ReadsItems depth room reader.old reader.new) }
     ensures shorter { OnOk result (length reader.new < length reader.old) }
@@ -118,7 +118,7 @@ fn read_members(
     alloc: Global,
     reader: &mut Reader<'_>,
     depth: usize,
-    room: Room,
+    room: LengthLimit,
 ) -> Result<Value, DecodeFault>
     ensures ok { IfOk result (ReadsMembers depth room reader.old reader.new) }
     ensures shorter { OnOk result (length reader.new < length reader.old) }
@@ -136,7 +136,7 @@ fn read_members(
 }
 
 // Puts an item behind those that were found, unless there are too many.
-fn keep_item(found: &mut Vec<Value>, item: Value, room: Room) -> Result<(), AllocError>
+fn keep_item(found: &mut Vec<Value>, item: Value, room: LengthLimit) -> Result<(), AllocError>
     ensures { OnOk result (found.new.items ≡ one_more room (found.old.items ++ item ∷ []) found.old.items) }
 {
     if found.len() <= room.most() {
@@ -150,7 +150,7 @@ fn keep_member(
     found: &mut Map<String, Value>,
     key: String,
     member: Value,
-    room: Room,
+    room: LengthLimit,
 ) -> Result<(), AllocError>
     ensures { OnOk result (found.new.entries
         ≡ one_more room (insert_entry string_cmp found.old.entries key member) found.old.entries) }
@@ -162,7 +162,7 @@ fn keep_member(
 }
 
 // The items as an array, unless there are too many.
-fn array_of(found: Vec<Value>, room: Room) -> Value
+fn array_of(found: Vec<Value>, room: LengthLimit) -> Value
     ensures { view result ≡ if_few room (length found.items) (array (items_view found.items)) }
 {
     if found.len() <= room.most() {
@@ -173,7 +173,7 @@ fn array_of(found: Vec<Value>, room: Room) -> Value
 }
 
 // The members as an object, unless there are too many.
-fn object_of(found: Map<String, Value>, room: Room) -> Value
+fn object_of(found: Map<String, Value>, room: LengthLimit) -> Value
     ensures { view result ≡ if_few room (length found.entries) (object (members_view found.entries)) }
 {
     if found.len() <= room.most() {

@@ -10,8 +10,8 @@ use Rattle.reuse_lock.specs.LockCall.{LockCall}
 use Rattle.reuse_lock.specs.LockCall.LockCall.{PathCall}
 use Rattle.reuse_lock.specs.Locks.{folder_of, AreKept, AreLockedAbove, AreLockedAt, HasNoSlash, IsAbove, IsCutAtLast}
 use Rattle.reuse_lock.specs.Locks.{IsGranted, IsLocked, WasAsked}
-use Rattle.reuse_lock.specs.declared.record.Hold.{Hold}
-use Rattle.reuse_lock.specs.declared.record.Hold.TheVariants.{Exclusive, Shared}
+use Rattle.reuse_lock.specs.declared.record.LockMode.{LockMode}
+use Rattle.reuse_lock.specs.declared.record.LockMode.TheVariants.{Exclusive, Shared}
 
 -- ---- the last slash
 
@@ -61,9 +61,9 @@ on_ok (Ok value) also is = also is
 on_ok (Err error) also is = tt
 
 -- a lock that was granted is so after more calls
-granted_still : (folder : List ℕ) (hold : Hold) (before after : List LockCall) → AreKept before after
-    → IsGranted folder hold before → IsGranted folder hold after
-granted_still folder hold before after kept was = (was.0, was.1, kept _ was.2)
+granted_still : (folder : List ℕ) (mode : LockMode) (before after : List LockCall) → AreKept before after
+    → IsGranted folder mode before → IsGranted folder mode after
+granted_still folder mode before after kept was = (was.0, was.1, kept _ was.2)
 
 -- a folder is locked at each slash before the last one, and then at that
 pub locked_at : (path front : List ℕ) (before after : List LockCall) → IsCutAtLast path front → AreLockedAt front before
@@ -87,19 +87,19 @@ pub locked_above : (path : List ℕ) (calls : List LockCall) → AreLockedAt pat
 locked_above path calls at folder above =
     subst (λ f. IsGranted f Shared calls) (sym above.4) (at above.1 above.2 above.3)
 
--- where the root lies was told
-pub told_above : (root path : List ℕ) (told : Option (List ℕ)) (earlier before after : List LockCall)
-    → before ≡ PathCall root told ∷ earlier → told ≡ Some path → AreKept before after
+-- where the root lies was reported
+pub reported_above : (root path : List ℕ) (reported : Option (List ℕ)) (earlier before after : List LockCall)
+    → before ≡ PathCall root reported ∷ earlier → reported ≡ Some path → AreKept before after
     → ((folder : List ℕ) → IsAbove path folder → IsGranted folder Shared after) → AreLockedAbove root after
-told_above root path told earlier before after noted e kept above = (
-  told,
-  kept (PathCall root told) (subst (WasAsked (PathCall root told)) (sym noted) (inl refl)),
+reported_above root path reported earlier before after noted e kept above = (
+  reported,
+  kept (PathCall root reported) (subst (WasAsked (PathCall root reported)) (sym noted) (inl refl)),
   subst (λ t. IfSome t (λ path. (folder : List ℕ) → IsAbove path folder → IsGranted folder Shared after)) (sym e) above,
 )
 
-above_still : (told : Option (List ℕ)) (before after : List LockCall) → AreKept before after
-    → IfSome told (λ path. (folder : List ℕ) → IsAbove path folder → IsGranted folder Shared before)
-    → IfSome told (λ path. (folder : List ℕ) → IsAbove path folder → IsGranted folder Shared after)
+above_still : (reported : Option (List ℕ)) (before after : List LockCall) → AreKept before after
+    → IfSome reported (λ path. (folder : List ℕ) → IsAbove path folder → IsGranted folder Shared before)
+    → IfSome reported (λ path. (folder : List ℕ) → IsAbove path folder → IsGranted folder Shared after)
 above_still None before after kept above = tt
 above_still (Some path) before after kept above =
     λ folder is. granted_still folder Shared before after kept (above folder is)
@@ -107,7 +107,7 @@ above_still (Some path) before after kept above =
 pub all_locked : (root : List ℕ) (before after : List LockCall) → AreLockedAbove root before → AreKept before after
     → IsGranted root Exclusive after → IsLocked root after
 all_locked root before after above kept itself = record {
-  told = above.0;
+  reported = above.0;
   asked = kept _ above.1;
   above = above_still above.0 before after kept above.2;
   itself = itself;

@@ -1,8 +1,8 @@
 -- The locks that a run asks for, and what of them it holds.
 use Rattle.std.specs.Prelude.{◌≡◌, ◌≢◌, ◌⊎◌, ℕ, ◌+◌, ◌<◌, List, [], ◌∷◌, ◌++◌, length, Option, IfSome, slice_index}
 use Rattle.reuse_lock.specs.declared.LockedFolders.{LockedFolders}
-use Rattle.reuse_lock.specs.declared.record.Hold.{Hold}
-use Rattle.reuse_lock.specs.declared.record.Hold.TheVariants.{Exclusive, Shared}
+use Rattle.reuse_lock.specs.declared.record.LockMode.{LockMode}
+use Rattle.reuse_lock.specs.declared.record.LockMode.TheVariants.{Exclusive, Shared}
 use Rattle.reuse_lock.specs.declared.record.LockAnswer.{LockAnswer}
 use Rattle.reuse_lock.specs.declared.record.LockAnswer.TheVariants.{Granted, HeldByAnother, NoLocks}
 use Rattle.reuse_lock.specs.LockCall.{LockCall}
@@ -14,9 +14,9 @@ WasAsked call [] = ⊥
 WasAsked call (one ∷ calls) = (call ≡ one) ⊎ WasAsked call calls
 
 -- the folder was asked for so, and the answer wasn't that another run holds it
-abbrev pub IsGranted : List ℕ → Hold → List LockCall → Type 0
-IsGranted folder hold calls =
-    (answer : LockAnswer) × (answer ≢ HeldByAnother) × WasAsked (TryCall folder hold answer) calls
+abbrev pub IsGranted : List ℕ → LockMode → List LockCall → Type 0
+IsGranted folder mode calls =
+    (answer : LockAnswer) × (answer ≢ HeldByAnother) × WasAsked (TryCall folder mode answer) calls
 
 -- the folder that such a front of an absolute path names, which is the root of the file system where it is empty
 abbrev pub folder_of : List ℕ → List ℕ
@@ -28,12 +28,12 @@ abbrev pub IsAbove : List ℕ → List ℕ → Type 0
 IsAbove path folder = (path ≢ 47 ∷ []) × (front : List ℕ) × (rest : List ℕ) × (path ≡ front ++ 47 ∷ rest)
     × (folder ≡ folder_of front)
 
--- The root is locked: the system was asked where it lies; each folder above what it told was asked for, to be shared
--- with other runs, and the root, to be held by this one alone; and no other run held them.
+-- The root is locked: the system was asked where it lies; each folder above what it reported was asked for, to be
+-- shared with other runs, and the root, to be held by this one alone; and no other run held them.
 pub record IsLocked (root : List ℕ) (calls : List LockCall) : Type 0 where
-  pub told : Option (List ℕ)
-  pub asked : WasAsked (PathCall root told) calls
-  pub above : IfSome told (λ path. (folder : List ℕ) → IsAbove path folder → IsGranted folder Shared calls)
+  pub reported : Option (List ℕ)
+  pub asked : WasAsked (PathCall root reported) calls
+  pub above : IfSome reported (λ path. (folder : List ℕ) → IsAbove path folder → IsGranted folder Shared calls)
   pub itself : IsGranted root Exclusive calls
 
 -- what was asked for these
@@ -43,8 +43,8 @@ calls_of held = held.asked.calls
 -- how many of the folders that were asked for could be opened and weren't held by another run
 abbrev pub opened_in : List LockCall → ℕ
 opened_in [] = 0
-opened_in (TryCall folder hold Granted ∷ calls) = opened_in calls + 1
-opened_in (TryCall folder hold NoLocks ∷ calls) = opened_in calls + 1
+opened_in (TryCall folder mode Granted ∷ calls) = opened_in calls + 1
+opened_in (TryCall folder mode NoLocks ∷ calls) = opened_in calls + 1
 opened_in (call ∷ calls) = opened_in calls
 
 -- as many are kept open, and so their locks are held
@@ -69,7 +69,7 @@ IsCutAtLast text front = (rest : List ℕ) × (text ≡ front ++ 47 ∷ rest) ×
 abbrev pub AreLockedAt : List ℕ → List LockCall → Type 0
 AreLockedAt path calls = (front rest : List ℕ) → path ≡ front ++ 47 ∷ rest → IsGranted (folder_of front) Shared calls
 
--- where the system told where the root lies, the folders above that are locked
+-- where the system reported where the root lies, the folders above that are locked
 abbrev pub AreLockedAbove : List ℕ → List LockCall → Type 0
-AreLockedAbove root calls = (told : Option (List ℕ)) × WasAsked (PathCall root told) calls
-    × IfSome told (λ path. (folder : List ℕ) → IsAbove path folder → IsGranted folder Shared calls)
+AreLockedAbove root calls = (reported : Option (List ℕ)) × WasAsked (PathCall root reported) calls
+    × IfSome reported (λ path. (folder : List ℕ) → IsAbove path folder → IsGranted folder Shared calls)

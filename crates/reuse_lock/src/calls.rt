@@ -5,14 +5,14 @@ ghost use Rattle.std.specs.Option.{option_map};
 ghost use Rattle.std.specs.Path.{path_buf_bytes};
 ghost use Rattle.reuse_lock.specs.LockCall.LockCall.{PathCall, TryCall};
 
-use crate::record::{Hold, LockAnswer, LockRecord};
+use crate::record::{LockAnswer, LockMode, LockRecord};
 use std::alloc::Global;
 use std::fs::{self, File, TryLockError};
 use std::io;
 use std::path::PathBuf;
 use std::rt::Files;
 
-/// Where the root lies, as an absolute path without links, if the system tells that.
+/// Where the root lies, as an absolute path without links, if the system reports that.
 pub fn absolute_path<R: Files<File = File> + AllocGlobal>(
     rt: &R,
     root: &str,
@@ -20,9 +20,9 @@ pub fn absolute_path<R: Files<File = File> + AllocGlobal>(
 ) -> Option<PathBuf<Global>>
     ensures { noted.new.calls ≡ PathCall root.now (option_map path_buf_bytes result) ∷ noted.old.calls }
 {
-    let told = fs::canonicalize(rt, root).ok();
-    noted.note(&(root, &told));
-    told
+    let reported = fs::canonicalize(rt, root).ok();
+    noted.note(&(root, &reported));
+    reported
 }
 
 /// The folder at this path, if it is one that may be read. Anything else, as a pipe, isn't opened.
@@ -65,34 +65,34 @@ pub struct AskedFolder {
 }
 
 /// Notes that the lock on the folder at this path was asked for.
-fn note_lock(noted: &mut LockRecord, path: &str, hold: Hold, answer: LockAnswer)
-    ensures { noted.new.calls ≡ TryCall path.now hold answer ∷ noted.old.calls }
+fn note_lock(noted: &mut LockRecord, path: &str, mode: LockMode, answer: LockAnswer)
+    ensures { noted.new.calls ≡ TryCall path.now mode answer ∷ noted.old.calls }
 {
-    noted.note(&(path, hold, answer));
+    noted.note(&(path, mode, answer));
 }
 
 /// Opens the folder at this path, if that can be done, and asks for the lock on it.
 pub fn try_lock<R: Files<File = File>>(
     rt: &R,
     path: &str,
-    hold: Hold,
+    mode: LockMode,
     noted: &mut LockRecord,
 ) -> (Option<AskedFolder>, LockAnswer)
-    ensures noted { noted.new.calls ≡ TryCall path.now hold result.1 ∷ noted.old.calls }
+    ensures noted { noted.new.calls ≡ TryCall path.now mode result.1 ∷ noted.old.calls }
     ensures opened { MatchOption result.0 (result.1 ≡ LockAnswer.NotOpened)
         (λ folder. result.1 ≢ LockAnswer.NotOpened) }
 {
     let Some(folder) = open_folder(rt, path).unwrap_or(None) else {
-        note_lock(noted, path, hold, LockAnswer::NotOpened);
+        note_lock(noted, path, mode, LockAnswer::NotOpened);
         return (None, LockAnswer::NotOpened);
     };
-    let tried = match hold {
-        Hold::Exclusive => folder.try_lock(),
-        Hold::Shared => folder.try_lock_shared(),
+    let tried = match mode {
+        LockMode::Exclusive => folder.try_lock(),
+        LockMode::Shared => folder.try_lock_shared(),
     };
     let error = error_of(&tried);
     let answer = answer_of(tried);
-    note_lock(noted, path, hold, answer);
+    note_lock(noted, path, mode, answer);
     let folder = AskedFolder {
         _folder: folder,
         error,

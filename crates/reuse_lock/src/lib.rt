@@ -13,7 +13,7 @@ mod record;
 
 use calls::{AskedFolder, absolute_path, try_lock};
 pub use fault::LockFault;
-use record::{Hold, LockAnswer, LockRecord};
+use record::{LockAnswer, LockMode, LockRecord};
 use reuse_record::Record;
 use std::alloc::Global;
 use std::fs::File;
@@ -86,15 +86,15 @@ fn granted(answer: LockAnswer) -> Result<(), LockFault>
 fn lock_folder<R: Files<File = File>>(
     rt: &R,
     path: &str,
-    hold: Hold,
+    mode: LockMode,
     held: &mut LockedFolders,
 ) -> Result<(), LockFault>
-    ensures granted { OnOk result (IsGranted path.now hold (calls_of held.new)) }
+    ensures granted { OnOk result (IsGranted path.now mode (calls_of held.new)) }
     ensures open { AreOpen held.old → OnOk result (AreOpen held.new) }
     ensures kept { AreKept (calls_of held.old) (calls_of held.new) }
     ensures fault { IfErr result (λ fault. (fault ≡ InUse) ⊎ (fault ≡ Memory)) }
 {
-    let (folder, answer) = try_lock(rt, path, hold, &mut held.asked);
+    let (folder, answer) = try_lock(rt, path, mode, &mut held.asked);
     granted(answer)?;
     match folder {
         Some(folder) => keep_open(folder, held),
@@ -145,7 +145,7 @@ fn lock_at_slashes<R: Files<File = File>>(
     match before_last_slash(path) {
         Some(front) => {
             lock_at_slashes(rt, front, held)?;
-            lock_folder(rt, folder_of(front), Hold::Shared, held)
+            lock_folder(rt, folder_of(front), LockMode::Shared, held)
         }
         None => Ok(()),
     }
@@ -158,7 +158,7 @@ fn lock_above<R: Files<File = File>>(
     held: &mut LockedFolders,
 ) -> Result<(), LockFault>
     ensures locked { OnOk result
-        ((folder : List ℕ) → IsAbove path.now folder → IsGranted folder Hold.Shared (calls_of held.new)) }
+        ((folder : List ℕ) → IsAbove path.now folder → IsGranted folder LockMode.Shared (calls_of held.new)) }
     ensures open { AreOpen held.old → OnOk result (AreOpen held.new) }
     ensures kept { AreKept (calls_of held.old) (calls_of held.new) }
     ensures fault { IfErr result (λ fault. (fault ≡ InUse) ⊎ (fault ≡ Memory)) }
@@ -170,7 +170,7 @@ fn lock_above<R: Files<File = File>>(
     }
 }
 
-/// Locks the folders above the root, if the system tells where it lies.
+/// Locks the folders above the root, if the system reports where it lies.
 fn lock_above_root<R: Files<File = File> + AllocGlobal>(
     rt: &R,
     root: &str,
@@ -201,7 +201,7 @@ pub fn lock_root<R: Files<File = File> + AllocGlobal>(
 {
     let mut held = LockedFolders::new(alloc);
     lock_above_root(rt, root, &mut held)?;
-    lock_folder(rt, root, Hold::Exclusive, &mut held)?;
+    lock_folder(rt, root, LockMode::Exclusive, &mut held)?;
     Ok(RootLock {
         root: String::from_str(alloc, root)?,
         held,

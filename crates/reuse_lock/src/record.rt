@@ -8,7 +8,7 @@ use std::marker::{Model, PhantomData};
 
 /// How a folder is locked.
 #[derive(Clone, Copy)]
-pub enum Hold {
+pub enum LockMode {
     /// By one run alone.
     Exclusive,
     /// By any number of runs, none of them exclusively.
@@ -27,7 +27,7 @@ pub enum LockAnswer {
     NotOpened,
 }
 
-/// The calls with their answers, the newest first, as a record of them tells.
+/// The calls with their answers, the newest first, as a record of them reports.
 pub struct LockCalls {
     marker: PhantomData<u8>,
     pub ghost calls: { List LockCall },

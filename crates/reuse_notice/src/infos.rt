@@ -78,7 +78,8 @@ impl Info {
         contributors: TextSet,
         licences: TextSet,
     ) -> Result<Info, AllocError>
-        ensures { IfOk result (λ info. info ≡ record { notices = notices; contributors = contributors; licences = licences; free = self.now.free }) }
+        ensures { IfOk result (λ info. info
+            ≡ record { notices = notices; contributors = contributors; licences = licences; free = self.now.free }) }
     {
         Ok(Info {
             notices,

@@ -1,5 +1,6 @@
 -- Where amend is accepted on a tree.
-use Rattle.std.proofs.Common.{◌≡◌, ◌↔◌, inl, inr, ℕ, Bool, true, false, cond, not, ◌&&◌, nat_lt, List, length, Option, Some, None, Result, Ok, Err, refl, sym, ap, subst, ◌∙◌, IsOk, bytes_eq}
+use Rattle.std.proofs.Common.{◌≡◌, ◌↔◌, inl, inr, ℕ, Bool, true, false, cond, not, ◌&&◌, nat_lt, List, length, Option}
+use Rattle.std.proofs.Common.{Some, None, Result, Ok, Err, refl, sym, ap, subst, ◌∙◌, IsOk, bytes_eq}
 use Rattle.reuse_command.specs.Reading.{get, Files}
 use Rattle.std.proofs.lemmas.Bool.{false≢true, ltb-false, le-ltb}
 use Rattle.std.proofs.lemmas.Option.{none-some, same_Some}
@@ -15,9 +16,12 @@ use Rattle.reuse_header.specs.Amendment.{amended_file, amendment_of, neighbour_a
 use Rattle.reuse_header.specs.Names.{kind_in}
 use Rattle.reuse_header.specs.Neighbour.{is_text}
 use Rattle.reuse_change.specs.Listing.{is_folder}
-use Rattle.reuse_plan.specs.Accepted.{CanNeighbourBeAmended, CanFileBeAmended, CanBeAmended, CanAmend, FitsEntry, CanTableBeAmended, CanCoveredBeAmended}
-use Rattle.reuse_plan.specs.Amend.{style_or_named, style_for, amendment_edit, amend_neighbour, amend_inside, amend_covered, amended_where, amended_at, table_edit, table_amendment, amended_table, amend_table}
-use Rattle.reuse_plan.specs.AmendmentPlan.{Due}
+use Rattle.reuse_plan.specs.Accepted.{CanNeighbourBeAmended, CanFileBeAmended, CanBeAmended, CanAmend, FitsEntry}
+use Rattle.reuse_plan.specs.Accepted.{CanTableBeAmended, CanCoveredBeAmended}
+use Rattle.reuse_plan.specs.Amend.{style_or_named, style_for, amendment_edit, amend_neighbour, amend_inside}
+use Rattle.reuse_plan.specs.Amend.{amend_covered, amended_where, amended_at, table_edit, table_amendment, amended_table}
+use Rattle.reuse_plan.specs.Amend.{amend_table}
+use Rattle.reuse_plan.specs.AmendmentPlan.{Expected}
 use Rattle.reuse_plan.specs.Annotate.{neighbour_of}
 use Rattle.reuse_plan.specs.Annotated.{IsStyleOf}
 use Rattle.reuse_command.specs.Command.{has_root}
@@ -50,28 +54,34 @@ not_false false e = absurd (false≢true (sym e))
 -- ---- one place
 
 -- what the rules accept is done, and what is done they accept
-amendment_done : (path at bytes : List ℕ) (due : Due) → IsOk (amended_file bytes due) → IsDone (amendment_edit path at bytes due)
+amendment_done : (path at bytes : List ℕ) (expected : Expected) → IsOk (amended_file bytes expected)
+    → IsDone (amendment_edit path at bytes expected)
 amendment_done path at bytes (Ok None) is = (None, refl)
 amendment_done path at bytes (Ok (Some edit)) is = done_by path at bytes (Ok edit) refl
 amendment_done path at bytes (Err refusal) is = absurd (false≢true is)
 
-amendment_accepted : (path at bytes : List ℕ) (due : Due) (given : Option Edit) → amendment_edit path at bytes due ≡ Ok given → IsOk (amended_file bytes due)
+amendment_accepted : (path at bytes : List ℕ) (expected : Expected) (given : Option Edit)
+    → amendment_edit path at bytes expected ≡ Ok given → IsOk (amended_file bytes expected)
 amendment_accepted path at bytes (Ok None) given h = refl
 amendment_accepted path at bytes (Ok (Some edit)) given h = refl
 amendment_accepted path at bytes (Err refusal) given h = absurd (cc)
 
 -- the style of a file is one of these words
-style_is : (scope : Scope) (own : OwnNames) (path : List ℕ) (style : Style) → IsStyleOf scope own path style → style_for scope own path ≡ Some style
+style_is : (scope : Scope) (own : OwnNames) (path : List ℕ) (style : Style) → IsStyleOf scope own path style
+    → style_for scope own path ≡ Some style
 style_is scope own path style (inl asked) = ap (λ o. style_or_named o (kind_in own path)) asked
-style_is scope own path style (inr named) = ap (λ o. style_or_named o (kind_in own path)) named.0 ∙ ap (style_or_named None) named.1
+style_is scope own path style (inr named) =
+    ap (λ o. style_or_named o (kind_in own path)) named.0 ∙ ap (style_or_named None) named.1
 
 -- the `REUSE.toml`: what the rules accept is done, and what is done they accept
-table_done : (path bytes : List ℕ) (due : Result (Option TomlSplice) AmendTomlRefusal) → IsOk (amended_table bytes due) → IsDone (table_amendment path bytes due)
+table_done : (path bytes : List ℕ) (expected : Result (Option TomlSplice) AmendTomlRefusal)
+    → IsOk (amended_table bytes expected) → IsDone (table_amendment path bytes expected)
 table_done path bytes (Ok None) is = (None, refl)
 table_done path bytes (Ok (Some change)) is = (Some (table_edit path bytes change), refl)
 table_done path bytes (Err refusal) is = absurd (false≢true is)
 
-table_accepted : (path bytes : List ℕ) (due : Result (Option TomlSplice) AmendTomlRefusal) (given : Option Edit) → table_amendment path bytes due ≡ Ok given → IsOk (amended_table bytes due)
+table_accepted : (path bytes : List ℕ) (expected : Result (Option TomlSplice) AmendTomlRefusal) (given : Option Edit)
+    → table_amendment path bytes expected ≡ Ok given → IsOk (amended_table bytes expected)
 table_accepted path bytes (Ok None) given h = refl
 table_accepted path bytes (Ok (Some change)) given h = refl
 table_accepted path bytes (Err refusal) given h = absurd (cc)
@@ -79,43 +89,67 @@ table_accepted path bytes (Err refusal) given h = absurd (cc)
 module _ (amendments : Amendments) (scope : Scope) (own : OwnNames) (tree : Files) (path : List ℕ) where
   -- the `REUSE.toml`, or another file
   abbrev by_path : List ℕ → Bool → Result (Option Edit) Refusal
-  by_path bytes table = cond table (amend_table amendments path bytes) (cond (not (is_covered path)) (Err (refusals.NotCovered path)) (amend_covered amendments scope own path bytes (get tree (neighbour_of path))))
+  by_path bytes table = cond table (amend_table amendments path bytes) (cond (not (is_covered path))
+      (Err (refusals.NotCovered path)) (amend_covered amendments scope own path bytes (get tree (neighbour_of path))))
 
   -- ---- what is accepted is done
 
-  beside_done : (beside : List ℕ) → CanNeighbourBeAmended amendments path beside → IsDone (amend_neighbour amendments path beside)
+  beside_done : (beside : List ℕ) → CanNeighbourBeAmended amendments path beside
+      → IsDone (amend_neighbour amendments path beside)
   beside_done beside can =
       done_rest _ _ _ (le-ltb 4096 (length (neighbour_of path)) can.short_path)
-      (done_rest _ _ _ (le-ltb LONGEST_FILE (length beside) can.short) (amendment_done path (neighbour_of path) beside (neighbour_amendment_of amendments beside) can.accepted))
+      (done_rest _ _ _ (le-ltb LONGEST_FILE (length beside) can.short)
+      (amendment_done path (neighbour_of path) beside (neighbour_amendment_of amendments beside) can.accepted))
 
-  inside_done : (bytes : List ℕ) (found : Option Style) → ((style : Style) → found ≡ Some style → CanFileBeAmended amendments style bytes) → IsDone (amend_inside amendments path bytes found)
+  inside_done : (bytes : List ℕ) (found : Option Style)
+      → ((style : Style) → found ≡ Some style → CanFileBeAmended amendments style bytes)
+      → IsDone (amend_inside amendments path bytes found)
   inside_done bytes None can = (None, refl)
-  inside_done bytes (Some style) can = done_rest _ _ _ (le-ltb LONGEST_FILE (length bytes) (can style refl).short) (by_text (is_text bytes) refl)
+  inside_done bytes (Some style) can =
+      done_rest _ _ _ (le-ltb LONGEST_FILE (length bytes) (can style refl).short) (by_text (is_text bytes) refl)
     where
-      by_text : (text : Bool) → is_text bytes ≡ text → IsDone (cond (not (is_text bytes)) (done None) (amendment_edit path path bytes (amendment_of style amendments bytes)))
+      by_text : (text : Bool) → is_text bytes ≡ text → IsDone (cond (not (is_text bytes)) (done None)
+          (amendment_edit path path bytes (amendment_of style amendments bytes)))
       by_text false e = done_nothing _ _ (ap not e)
-      by_text true e = done_rest _ _ _ (ap not e) (amendment_done path path bytes (amendment_of style amendments bytes) ((can style refl).accepted e))
+      by_text true e = done_rest _ _ _ (ap not e)
+          (amendment_done path path bytes (amendment_of style amendments bytes) ((can style refl).accepted e))
 
-  table_is_done : path ≡ toml_path → CanTableBeAmended amendments tree → IsDone (amended_at amendments scope own tree path)
+  table_is_done : path ≡ toml_path → CanTableBeAmended amendments tree
+      → IsDone (amended_at amendments scope own tree path)
   table_is_done same can =
-      let here = done_rest (nat_lt LONGEST_FILE (length can.bytes)) (Err (refusals.TooLong path)) (table_amendment path can.bytes (toml_amendment_of amendments can.bytes)) (le-ltb LONGEST_FILE (length can.bytes) can.short) (table_done path can.bytes (toml_amendment_of amendments can.bytes) can.accepted) in
-      (here.0, ap (amended_where amendments scope own tree path) (ap (get tree) same ∙ can.there) ∙ ap (by_path can.bytes) (is_table path same) ∙ here.1)
+      let here = done_rest (nat_lt LONGEST_FILE (length can.bytes)) (Err (refusals.TooLong path))
+      (table_amendment path can.bytes (toml_amendment_of amendments can.bytes)) (le-ltb LONGEST_FILE
+      (length can.bytes) can.short)
+      (table_done path can.bytes (toml_amendment_of amendments can.bytes) can.accepted) in (
+        here.0,
+        ap (amended_where amendments scope own tree path) (ap (get tree) same ∙ can.there)
+            ∙ ap (by_path can.bytes) (is_table path same) ∙ here.1,
+      )
 
-  covered_is_done : CanCoveredBeAmended amendments scope own tree path → IsDone (amended_at amendments scope own tree path)
+  covered_is_done : CanCoveredBeAmended amendments scope own tree path
+      → IsDone (amended_at amendments scope own tree path)
   covered_is_done can =
-      let here = by_neighbour (get tree (neighbour_of path)) refl in
-      (here.0, ap (amended_where amendments scope own tree path) can.there ∙ ap (by_path can.bytes) (not_table path can.covered) ∙ ap (λ b. cond (not b) (Err (refusals.NotCovered path)) (amend_covered amendments scope own path can.bytes (get tree (neighbour_of path)))) can.covered ∙ here.1)
+      let here = by_neighbour (get tree (neighbour_of path)) refl in (
+        here.0,
+        ap (amended_where amendments scope own tree path) can.there ∙ ap (by_path can.bytes)
+            (not_table path can.covered) ∙ ap (λ b. cond (not b) (Err (refusals.NotCovered path))
+            (amend_covered amendments scope own path can.bytes (get tree (neighbour_of path)))) can.covered ∙ here.1,
+      )
     where
-      by_neighbour : (beside : Option (List ℕ)) → get tree (neighbour_of path) ≡ beside → IsDone (amend_covered amendments scope own path can.bytes beside)
+      by_neighbour : (beside : Option (List ℕ)) → get tree (neighbour_of path) ≡ beside
+          → IsDone (amend_covered amendments scope own path can.bytes beside)
       by_neighbour (Some beside) is = beside_done beside (can.by_neighbour beside is)
-      by_neighbour None is = inside_done can.bytes (style_for scope own path) (λ style styled. can.by_file is style (style_reason scope own path scope.style (kind_in own path) style refl refl styled))
+      by_neighbour None is = inside_done can.bytes (style_for scope own path) (λ style styled. can.by_file is style
+          (style_reason scope own path scope.style (kind_in own path) style refl refl styled))
 
-  pub amendable_is_done : CanBeAmended amendments scope own tree path → IsDone (amended_at amendments scope own tree path)
+  pub amendable_is_done : CanBeAmended amendments scope own tree path
+      → IsDone (amended_at amendments scope own tree path)
   amendable_is_done can = elim can [ inl table ↦ table_is_done table.0 table.1 | inr covered ↦ covered_is_done covered ]
 
   -- ---- what is done is accepted
 
-  table_can : (bytes : List ℕ) (given : Option Edit) → get tree path ≡ Some bytes → path ≡ toml_path → amend_table amendments path bytes ≡ Ok given → CanTableBeAmended amendments tree
+  table_can : (bytes : List ℕ) (given : Option Edit) → get tree path ≡ Some bytes → path ≡ toml_path
+      → amend_table amendments path bytes ≡ Ok given → CanTableBeAmended amendments tree
   table_can bytes given here same h =
       let short = err_or (nat_lt LONGEST_FILE (length bytes)) (refusals.TooLong path) _ given h in
       record {
@@ -125,35 +159,42 @@ module _ (amendments : Amendments) (scope : Scope) (own : OwnNames) (tree : File
         accepted = table_accepted path bytes (toml_amendment_of amendments bytes) given short.1;
       }
 
-  neighbour_can : (beside : List ℕ) (given : Option Edit) → amend_neighbour amendments path beside ≡ Ok given → CanNeighbourBeAmended amendments path beside
+  neighbour_can : (beside : List ℕ) (given : Option Edit) → amend_neighbour amendments path beside ≡ Ok given
+      → CanNeighbourBeAmended amendments path beside
   neighbour_can beside given h =
       let few = err_or (nat_lt 4096 (length (neighbour_of path))) (refusals.TooLong path) _ given h in
       let short = err_or (nat_lt LONGEST_FILE (length beside)) (refusals.TooLong path) _ given few.1 in
       record {
         short_path = ltb-false 4096 (length (neighbour_of path)) few.0;
         short = ltb-false LONGEST_FILE (length beside) short.0;
-        accepted = amendment_accepted path (neighbour_of path) beside (neighbour_amendment_of amendments beside) given short.1;
+        accepted =
+            amendment_accepted path (neighbour_of path) beside (neighbour_amendment_of amendments beside) given short.1;
       }
 
-  file_can : (bytes : List ℕ) (style : Style) (given : Option Edit) → amend_inside amendments path bytes (Some style) ≡ Ok given → CanFileBeAmended amendments style bytes
+  file_can : (bytes : List ℕ) (style : Style) (given : Option Edit)
+      → amend_inside amendments path bytes (Some style) ≡ Ok given → CanFileBeAmended amendments style bytes
   file_can bytes style given h =
       let short = err_or (nat_lt LONGEST_FILE (length bytes)) (refusals.TooLong path) _ given h in
       record {
         short = ltb-false LONGEST_FILE (length bytes) short.0;
         accepted = λ text. amendment_accepted path path bytes (amendment_of style amendments bytes) given
-            (sym (ap (λ b. cond (not b) (done None) (amendment_edit path path bytes (amendment_of style amendments bytes))) text) ∙ short.1);
+            (sym (ap (λ b. cond (not b) (done None)
+            (amendment_edit path path bytes (amendment_of style amendments bytes))) text) ∙ short.1);
       }
 
-  pub done_is_amendable : IsDone (amended_at amendments scope own tree path) → CanBeAmended amendments scope own tree path
+  pub done_is_amendable : IsDone (amended_at amendments scope own tree path)
+      → CanBeAmended amendments scope own tree path
   done_is_amendable (given, h) = of_file (get tree path) refl h
     where
-      of_neighbour : (bytes : List ℕ) (beside : Option (List ℕ)) → get tree path ≡ Some bytes → is_covered path ≡ true → get tree (neighbour_of path) ≡ beside → amend_covered amendments scope own path bytes beside ≡ Ok given
+      of_neighbour : (bytes : List ℕ) (beside : Option (List ℕ)) → get tree path ≡ Some bytes → is_covered path ≡ true
+          → get tree (neighbour_of path) ≡ beside → amend_covered amendments scope own path bytes beside ≡ Ok given
           → CanCoveredBeAmended amendments scope own tree path
       of_neighbour bytes (Some there) here covered is e = record {
         bytes = bytes;
         there = here;
         covered = covered;
-        by_neighbour = λ other too. subst (CanNeighbourBeAmended amendments path) (same_Some there other (sym is ∙ too)) (neighbour_can there given e);
+        by_neighbour = λ other too. subst (CanNeighbourBeAmended amendments path) (same_Some there other (sym is ∙ too))
+            (neighbour_can there given e);
         by_file = λ none style styled. absurd (none-some there (sym none ∙ is));
       }
       of_neighbour bytes None here covered is e = record {
@@ -161,19 +202,24 @@ module _ (amendments : Amendments) (scope : Scope) (own : OwnNames) (tree : File
         there = here;
         covered = covered;
         by_neighbour = λ other too. absurd (none-some other (sym is ∙ too));
-        by_file = λ none style styled. file_can bytes style given (sym (ap (amend_inside amendments path bytes) (style_is scope own path style styled)) ∙ e);
+        by_file = λ none style styled. file_can bytes style given
+            (sym (ap (amend_inside amendments path bytes) (style_is scope own path style styled)) ∙ e);
       }
 
       of_path : (bytes : List ℕ) → get tree path ≡ Some bytes → (b : Bool) → bytes_eq path toml_path ≡ b
-          → cond b (amend_table amendments path bytes) (cond (not (is_covered path)) (Err (refusals.NotCovered path)) (amend_covered amendments scope own path bytes (get tree (neighbour_of path)))) ≡ Ok given
+          → cond b (amend_table amendments path bytes) (cond (not (is_covered path)) (Err (refusals.NotCovered path))
+          (amend_covered amendments scope own path bytes (get tree (neighbour_of path)))) ≡ Ok given
           → CanBeAmended amendments scope own tree path
-      of_path bytes is true t e = let same = (bytes_eq-Decides path toml_path).0 t in inl (same, table_can bytes given is same e)
+      of_path bytes is true t e = let same = (bytes_eq-Decides path toml_path).0 t in
+          inl (same, table_can bytes given is same e)
       of_path bytes is false t e =
           let k = err_or (not (is_covered path)) (refusals.NotCovered path) _ given e in
           inr (of_neighbour bytes (get tree (neighbour_of path)) is (not_false (is_covered path) k.0) refl k.1)
 
-      of_file : (file : Option (List ℕ)) → get tree path ≡ file → amended_where amendments scope own tree path file ≡ Ok given → CanBeAmended amendments scope own tree path
-      of_file None is e = absurd (both_err (is_folder tree path) (refusals.IsFolder (place.Path path)) (refusals.NoSuchPath path) given e)
+      of_file : (file : Option (List ℕ)) → get tree path ≡ file
+          → amended_where amendments scope own tree path file ≡ Ok given → CanBeAmended amendments scope own tree path
+      of_file None is e = absurd
+          (both_err (is_folder tree path) (refusals.IsFolder (place.Path path)) (refusals.NoSuchPath path) given e)
       of_file (Some bytes) is e = of_path bytes is (bytes_eq path toml_path) refl e
 
 -- ---- the tree
@@ -182,33 +228,48 @@ module _ (places : List Place) (amendments : Amendments) (scope : Scope) (tree :
   abbrev by_names : Result OwnNames Refusal → Result (List Edit) Refusal
   by_names styles = amendments_by_names (with_table scope places tree) amendments scope tree styles
 
-  accepts : KeepsBlock → KeepsNeighbour → (edits : List Edit) (styles : Result OwnNames Refusal) → styles_in tree ≡ styles → by_names styles ≡ Ok edits → FitsEntry (Amend places amendments scope) tree
+  accepts : KeepsBlock → KeepsNeighbour → (edits : List Edit) (styles : Result OwnNames Refusal)
+      → styles_in tree ≡ styles → by_names styles ≡ Ok edits → FitsEntry (Amend places amendments scope) tree
       → CanAmend places amendments scope tree
   accepts keeps_block keeps_neighbour edits (Err refusal) is h fits = absurd (cc)
   accepts keeps_block keeps_neighbour edits (Ok own) is h fits =
       let at = amended_at amendments scope own tree in
       let paths = amended_paths scope places tree in
-      let parts = err_or (not scope.recursive && has_root (with_table scope places tree)) (refusals.IsFolder place.Root) (edits_at at paths) edits h in
+      let parts = err_or (not scope.recursive && has_root (with_table scope places tree)) (refusals.IsFolder place.Root)
+      (edits_at at paths) edits h in
       record {
         own = own;
         styles = is;
-        root = root_from_test scope.recursive (has_root places) (ap (λ b. not scope.recursive && b) (sym (same_root scope places tree)) ∙ parts.0);
-        each = λ path there. done_is_amendable amendments scope own tree path (each_done keeps_block keeps_neighbour amendments scope own tree paths edits parts.1 path (In-from_contains paths path there));
+        root = root_from_test scope.recursive (has_root places)
+            (ap (λ b. not scope.recursive && b) (sym (same_root scope places tree)) ∙ parts.0);
+        each = λ path there. done_is_amendable amendments scope own tree path (each_done keeps_block keeps_neighbour
+            amendments scope own tree paths edits parts.1 path (In-from_contains paths path there));
         fits = fits;
       }
 
-  comes : CanAmend places amendments scope tree → (edits : List Edit) × (amendment_edits places amendments scope tree ≡ Ok edits)
+  comes : CanAmend places amendments scope tree
+      → (edits : List Edit) × (amendment_edits places amendments scope tree ≡ Ok edits)
   comes can =
       let at = amended_at amendments scope can.own tree in
       let paths = amended_paths scope places tree in
-      let all = all_at at paths (λ path there. amendable_is_done amendments scope can.own tree path (can.each path (Contains-from_in paths path there))) in
-      (all.0, ap by_names can.styles ∙ ap (λ b. cond b (Err (refusals.IsFolder place.Root)) (edits_at at paths)) (ap (λ b. not scope.recursive && b) (same_root scope places tree) ∙ test_from_root scope.recursive (has_root places) can.root) ∙ all.1)
+      let all = all_at at paths (λ path there. amendable_is_done amendments scope can.own tree path
+      (can.each path (Contains-from_in paths path there))) in (
+        all.0,
+        ap by_names can.styles ∙ ap (λ b. cond b (Err (refusals.IsFolder place.Root)) (edits_at at paths))
+            (ap (λ b. not scope.recursive && b) (same_root scope places tree)
+            ∙ test_from_root scope.recursive (has_root places) can.root) ∙ all.1,
+      )
 
-  pub amend_accepted : KeepsBlock → KeepsNeighbour → ((after : Files) × (outcome_of (Amend places amendments scope) tree ≡ Ok after)) ↔ CanAmend places amendments scope tree
+  pub amend_accepted : KeepsBlock → KeepsNeighbour
+      → ((after : Files) × (outcome_of (Amend places amendments scope) tree ≡ Ok after))
+      ↔ CanAmend places amendments scope tree
   unfolding outcome_of
   amend_accepted keeps_block keeps_neighbour = (
     λ given.
         let of_tree = edits_of_tree tree given.0 (edits_of (Amend places amendments scope) tree) given.1 in
-        accepts keeps_block keeps_neighbour of_tree.0 (styles_in tree) refl (sym (of_amendment places amendments scope tree) ∙ of_tree.1) (held tree given.0 (edits_of (Amend places amendments scope) tree) given.1),
-    λ can. let edits = comes can in tree_comes tree (edits_of (Amend places amendments scope) tree) edits.0 (of_amendment places amendments scope tree ∙ edits.1) can.fits,
+        accepts keeps_block keeps_neighbour of_tree.0 (styles_in tree) refl
+        (sym (of_amendment places amendments scope tree) ∙ of_tree.1)
+        (held tree given.0 (edits_of (Amend places amendments scope) tree) given.1),
+    λ can. let edits = comes can in tree_comes tree (edits_of (Amend places amendments scope) tree) edits.0
+        (of_amendment places amendments scope tree ∙ edits.1) can.fits,
   )

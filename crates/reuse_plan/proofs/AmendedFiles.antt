@@ -1,5 +1,6 @@
 -- Where amend isn't refused at a path, its file and the neighbour become what the rules say of them.
-use Rattle.std.proofs.Common.{◌≡◌, ◌⊎◌, inl, inr, ℕ, Bool, true, false, cond, not, nat_lt, List, ◌++◌, length, take, drop, Option, Some, None, Ok, Err, refl, sym, ap, ap₂, subst, ◌∙◌, Result, bytes_eq}
+use Rattle.std.proofs.Common.{◌≡◌, ◌⊎◌, inl, inr, ℕ, Bool, true, false, cond, not, nat_lt, List, ◌++◌, length, take}
+use Rattle.std.proofs.Common.{drop, Option, Some, None, Ok, Err, refl, sym, ap, ap₂, subst, ◌∙◌, Result, bytes_eq}
 use Rattle.std.specs.Option.{option_map, option_map_or}
 use Rattle.reuse_command.specs.Reading.{get, Files}
 use Rattle.std.proofs.lemmas.Bool.{not-false}
@@ -22,9 +23,12 @@ use Rattle.reuse_header.specs.Header.{HeaderSpan, header_of, span_in}
 use Rattle.reuse_header.specs.Names.{kind_in}
 use Rattle.reuse_header.specs.Neighbour.{is_text, neighbour_end}
 use Rattle.reuse_change.specs.Listing.{is_folder}
-use Rattle.reuse_plan.specs.Amend.{style_or_named, style_for, amendment_edit, amend_neighbour, amend_inside, amend_covered, table_edit, table_amendment, amended_table, amend_table, amended_where, amended_at}
-use Rattle.reuse_plan.specs.Amended.{KeepsOutsideBlock, IsNeighbourAmended, IsFileAmended, HasNoPlace, IsTableAmended, IsAmended}
-use Rattle.reuse_plan.specs.AmendmentPlan.{Due}
+use Rattle.reuse_plan.specs.Amend.{style_or_named, style_for, amendment_edit, amend_neighbour, amend_inside}
+use Rattle.reuse_plan.specs.Amend.{amend_covered, table_edit, table_amendment, amended_table, amend_table}
+use Rattle.reuse_plan.specs.Amend.{amended_where, amended_at}
+use Rattle.reuse_plan.specs.Amended.{KeepsOutsideBlock, IsNeighbourAmended, IsFileAmended, HasNoPlace, IsTableAmended}
+use Rattle.reuse_plan.specs.Amended.{IsAmended}
+use Rattle.reuse_plan.specs.AmendmentPlan.{Expected}
 use Rattle.reuse_plan.specs.Annotate.{neighbour_of}
 use Rattle.reuse_plan.specs.Annotated.{IsSameAround, IsStyleOf, HasKind, pair_at}
 use Rattle.reuse_plan.specs.Conversion.{toml_path}
@@ -43,21 +47,24 @@ use Rattle.reuse_plan.proofs.TableLemmas.{table_differs}
 -- ---- what is known of each amendment
 
 abbrev pub KeepsBlock : Type 0
-KeepsBlock = (style : Style) (a : Amendments) (file : List ℕ) (edit : header.Edit) (span : HeaderSpan) → amendment_of style a file ≡ Ok (Some edit)
-    → option_map (span_in file) (header_of style file) ≡ Some span → header.edited file edit ≡ take span.start file ++ edit.text ++ drop span.end file
+KeepsBlock = (style : Style) (a : Amendments) (file : List ℕ) (edit : header.Edit) (span : HeaderSpan)
+    → amendment_of style a file ≡ Ok (Some edit)
+    → option_map (span_in file) (header_of style file) ≡ Some span
+    → header.edited file edit ≡ take span.start file ++ edit.text ++ drop span.end file
 
 abbrev pub KeepsNeighbour : Type 0
 KeepsNeighbour = (a : Amendments) (file : List ℕ) (edit : header.Edit) → neighbour_amendment_of a file ≡ Ok (Some edit)
     → header.edited file edit ≡ take (mark_len_of file) file ++ edit.text ++ drop (neighbour_end file) file
 
 -- what is made at a place: the bytes that were there, or those that an edit makes
-pub record Makes (at bytes : List ℕ) (due : Due) (given : Option Edit) : Type 0 where
+pub record Makes (at bytes : List ℕ) (expected : Expected) (given : Option Edit) : Type 0 where
   pub made : List ℕ
-  pub by_rules : amended_file bytes due ≡ Ok made
+  pub by_rules : amended_file bytes expected ≡ Ok made
   pub makes : IsEditTo at bytes made given
-  pub kept : (made ≡ bytes) ⊎ ((edit : header.Edit) × (due ≡ Ok (Some edit)) × (made ≡ header.edited bytes edit))
+  pub kept : (made ≡ bytes) ⊎ ((edit : header.Edit) × (expected ≡ Ok (Some edit)) × (made ≡ header.edited bytes edit))
 
-amendment_makes : (path at bytes : List ℕ) (due : Due) (given : Option Edit) → amendment_edit path at bytes due ≡ Ok given → Makes at bytes due given
+amendment_makes : (path at bytes : List ℕ) (expected : Expected) (given : Option Edit)
+    → amendment_edit path at bytes expected ≡ Ok given → Makes at bytes expected given
 amendment_makes path at bytes (Ok None) given h = record {
   made = bytes;
   by_rules = refl;
@@ -85,38 +92,50 @@ record MakesTable (amendments : Amendments) (at bytes : List ℕ) (given : Optio
   reads : IsAmendedText amendments bytes made
   keeps : (made ≡ bytes) ⊎ DiffersInStrings bytes made
 
-table_makes : (amendments : Amendments) (path bytes : List ℕ) (given : Option Edit) → table_amendment path bytes (toml_amendment_of amendments bytes) ≡ Ok given → MakesTable amendments path bytes given
-table_makes amendments path bytes given h = by_due (toml_amendment_of amendments bytes) refl h
+table_makes : (amendments : Amendments) (path bytes : List ℕ) (given : Option Edit) → table_amendment path bytes
+    (toml_amendment_of amendments bytes) ≡ Ok given → MakesTable amendments path bytes given
+table_makes amendments path bytes given h = by_expected (toml_amendment_of amendments bytes) refl h
   where
-    by_due : (due : Result (Option TomlSplice) AmendTomlRefusal) → toml_amendment_of amendments bytes ≡ due → table_amendment path bytes due ≡ Ok given → MakesTable amendments path bytes given
-    by_due (Ok None) is e = record {
+    by_expected : (expected : Result (Option TomlSplice) AmendTomlRefusal)
+        → toml_amendment_of amendments bytes ≡ expected → table_amendment path bytes expected ≡ Ok given
+        → MakesTable amendments path bytes given
+    by_expected (Ok None) is e = record {
       made = bytes;
       by_rules = ap (amended_table bytes) is;
       makes = subst (IsEditTo path bytes bytes) (same_Ok None given e) refl;
       reads = toml.unchanged amendments bytes is;
       keeps = inl refl;
     }
-    by_due (Ok (Some change)) is e =
+    by_expected (Ok (Some change)) is e =
         let text = toml.changed amendments bytes change is in
         record {
           made = spliced bytes change.at change.old change.new;
           by_rules = ap (amended_table bytes) is;
-          makes = subst (IsEditTo path bytes (spliced bytes change.at change.old change.new)) (same_Ok (Some (table_edit path bytes change)) given e) (refl, refl, table_differs amendments bytes change is);
-          reads = record { old = text.old; new = text.new; read = text.read; read_new = text.read_new; amended = text.amended };
+          makes = subst (IsEditTo path bytes (spliced bytes change.at change.old change.new)) (same_Ok
+              (Some (table_edit path bytes change)) given e) (refl, refl, table_differs amendments bytes change is);
+          reads = record {
+            old = text.old;
+            new = text.new;
+            read = text.read;
+            read_new = text.read_new;
+            amended = text.amended;
+          };
           keeps = inr (toml.differing amendments bytes change is);
         }
-    by_due (Err refusal) is e = absurd (cc)
+    by_expected (Err refusal) is e = absurd (cc)
 
 -- ---- styles
 
 module _ (scope : Scope) (own : OwnNames) (path : List ℕ) where
-  pub style_reason : (asked : Option Style) (named : Kind) (style : Style) → scope.style ≡ asked → kind_in own path ≡ named → style_or_named asked named ≡ Some style → IsStyleOf scope own path style
+  pub style_reason : (asked : Option Style) (named : Kind) (style : Style) → scope.style ≡ asked
+      → kind_in own path ≡ named → style_or_named asked named ≡ Some style → IsStyleOf scope own path style
   style_reason (Some other) named style is of_name e = inl (is ∙ e)
   style_reason None (kind.Style other) style is of_name e = inr (is, of_name ∙ ap kind.Style (same_Some other style e))
   style_reason None kind.Uncommentable style is of_name e = absurd (cc)
   style_reason None kind.Unknown style is of_name e = absurd (cc)
 
-  none_reason : (asked : Option Style) (named : Kind) → scope.style ≡ asked → kind_in own path ≡ named → style_or_named asked named ≡ None
+  none_reason : (asked : Option Style) (named : Kind) → scope.style ≡ asked → kind_in own path ≡ named
+      → style_or_named asked named ≡ None
       → HasKind scope own path kind.Uncommentable ⊎ HasKind scope own path kind.Unknown
   none_reason (Some other) named is of_name e = absurd (cc)
   none_reason None (kind.Style other) is of_name e = absurd (cc)
@@ -126,53 +145,66 @@ module _ (scope : Scope) (own : OwnNames) (path : List ℕ) where
 -- ---- one file
 
 module _ (keeps_block : KeepsBlock) (keeps_neighbour : KeepsNeighbour) where
-  block_kept : (style : Style) (a : Amendments) (bytes : List ℕ) (edit : header.Edit) → amendment_of style a bytes ≡ Ok (Some edit) → KeepsOutsideBlock style bytes (header.edited bytes edit)
+  block_kept : (style : Style) (a : Amendments) (bytes : List ℕ) (edit : header.Edit)
+      → amendment_of style a bytes ≡ Ok (Some edit) → KeepsOutsideBlock style bytes (header.edited bytes edit)
   block_kept style a bytes edit h = of_block (option_map (span_in bytes) (header_of style bytes)) refl h
     where
-      of_block : (found : Option HeaderSpan) → option_map (span_in bytes) (header_of style bytes) ≡ found → option_map_or (block_amendment style a bytes) found (Ok None) ≡ Ok (Some edit)
+      of_block : (found : Option HeaderSpan) → option_map (span_in bytes) (header_of style bytes) ≡ found
+          → option_map_or (block_amendment style a bytes) found (Ok None) ≡ Ok (Some edit)
           → KeepsOutsideBlock style bytes (header.edited bytes edit)
       of_block None is e = absurd (cc)
       of_block (Some span) is e = (span, is, (edit.text, keeps_block style a bytes edit span h is))
 
-  file_kept : (style : Style) (a : Amendments) (bytes : List ℕ) (given : Option Edit) (at : List ℕ) → (m : Makes at bytes (amendment_of style a bytes) given)
+  file_kept : (style : Style) (a : Amendments) (bytes : List ℕ) (given : Option Edit) (at : List ℕ)
+      → (m : Makes at bytes (amendment_of style a bytes) given)
       → (m.made ≡ bytes) ⊎ KeepsOutsideBlock style bytes m.made
   file_kept style a bytes given at m = elim m.kept [
     | inl same ↦ inl same
     | inr by ↦ inr (subst (KeepsOutsideBlock style bytes) (sym by.2) (block_kept style a bytes by.0 by.1))
   ]
 
-  neighbour_kept : (a : Amendments) (bytes : List ℕ) (given : Option Edit) (at : List ℕ) → (m : Makes at bytes (neighbour_amendment_of a bytes) given)
+  neighbour_kept : (a : Amendments) (bytes : List ℕ) (given : Option Edit) (at : List ℕ)
+      → (m : Makes at bytes (neighbour_amendment_of a bytes) given)
       → (m.made ≡ bytes) ⊎ IsSameAround (mark_len_of bytes) (neighbour_end bytes) bytes m.made
   neighbour_kept a bytes given at m = elim m.kept [
     | inl same ↦ inl same
-    | inr by ↦ inr (subst (IsSameAround (mark_len_of bytes) (neighbour_end bytes) bytes) (sym by.2) (by.0.text, keeps_neighbour a bytes by.0 by.1))
+    | inr by ↦ inr (subst (IsSameAround (mark_len_of bytes) (neighbour_end bytes) bytes) (sym by.2)
+        (by.0.text, keeps_neighbour a bytes by.0 by.1))
   ]
 
-  module _ (amendments : Amendments) (scope : Scope) (own : OwnNames) (tree : Files) (path : List ℕ) (given : Option Edit) where
+  module _ (amendments : Amendments) (scope : Scope) (own : OwnNames) (tree : Files) (path : List ℕ)
+      (given : Option Edit) where
     abbrev Becomes : List ℕ → Type 0
-    Becomes bytes = (HasNoPlace scope own path bytes (pair_at tree path) × (pair_then tree given path ≡ pair_at tree path))
+    Becomes bytes =
+        (HasNoPlace scope own path bytes (pair_at tree path) × (pair_then tree given path ≡ pair_at tree path))
         ⊎ IsFileAmended amendments scope own path bytes (pair_at tree path) (pair_then tree given path)
         ⊎ IsNeighbourAmended amendments (pair_at tree path) (pair_then tree given path)
 
-    unchanged : (bytes : List ℕ) → done None ≡ done given → HasNoPlace scope own path bytes (pair_at tree path) → Becomes bytes
+    unchanged : (bytes : List ℕ) → done None ≡ done given
+        → HasNoPlace scope own path bytes (pair_at tree path) → Becomes bytes
     unchanged bytes h none = inl (none, ap (λ g. pair_then tree g path) (sym (same_Ok None given h)))
 
-    beside : (bytes there : List ℕ) → get tree (neighbour_of path) ≡ Some there → amend_neighbour amendments path there ≡ Ok given → Becomes bytes
+    beside : (bytes there : List ℕ) → get tree (neighbour_of path) ≡ Some there
+        → amend_neighbour amendments path there ≡ Ok given → Becomes bytes
     beside bytes there is h =
         let few = err_or (nat_lt 4096 (length (neighbour_of path))) (refusals.TooLong path) _ given h in
         let short = err_or (nat_lt LONGEST_FILE (length there)) (refusals.TooLong path) _ given few.1 in
-        let m = amendment_makes path (neighbour_of path) there (neighbour_amendment_of amendments there) given short.1 in
+        let m =
+        amendment_makes path (neighbour_of path) there (neighbour_amendment_of amendments there) given short.1 in
         inr (inr (record {
           beside = there;
           there = is;
           made = m.made;
           by_rules = m.by_rules;
-          holds = ap₂ pair (then_other tree (neighbour_of path) there m.made given path m.makes (apart path)) (then_here tree (neighbour_of path) there m.made given m.makes is);
+          holds = ap₂ pair (then_other tree (neighbour_of path) there m.made given path m.makes (apart path))
+              (then_here tree (neighbour_of path) there m.made given m.makes is);
           keeps = neighbour_kept amendments there given (neighbour_of path) m;
         }))
 
-    inside_text : (bytes : List ℕ) (style : Style) (text : Bool) → get tree path ≡ Some bytes → get tree (neighbour_of path) ≡ None → style_for scope own path ≡ Some style → is_text bytes ≡ text
-        → cond (not text) (done None) (amendment_edit path path bytes (amendment_of style amendments bytes)) ≡ Ok given → Becomes bytes
+    inside_text : (bytes : List ℕ) (style : Style) (text : Bool) → get tree path ≡ Some bytes
+        → get tree (neighbour_of path) ≡ None → style_for scope own path ≡ Some style → is_text bytes ≡ text
+        → cond (not text) (done None)
+        (amendment_edit path path bytes (amendment_of style amendments bytes)) ≡ Ok given → Becomes bytes
     inside_text bytes style false here alone of_style text h = unchanged bytes h (alone, inl text)
     inside_text bytes style true here alone of_style text h =
         let m = amendment_makes path path bytes (amendment_of style amendments bytes) given h in
@@ -183,44 +215,64 @@ module _ (keeps_block : KeepsBlock) (keeps_neighbour : KeepsNeighbour) where
           of_style = style_reason scope own path scope.style (kind_in own path) style refl refl of_style;
           made = m.made;
           by_rules = m.by_rules;
-          holds = ap₂ pair (then_here tree path bytes m.made given m.makes here) (then_other tree path bytes m.made given (neighbour_of path) m.makes (λ same. apart path (sym same)) ∙ alone);
+          holds = ap₂ pair (then_here tree path bytes m.made given m.makes here) (then_other tree path bytes m.made
+              given (neighbour_of path) m.makes (λ same. apart path (sym same)) ∙ alone);
           keeps = file_kept style amendments bytes given path m;
         }))
 
-    inside : (bytes : List ℕ) (style : Option Style) → get tree path ≡ Some bytes → get tree (neighbour_of path) ≡ None → style_for scope own path ≡ style → amend_inside amendments path bytes style ≡ Ok given → Becomes bytes
-    inside bytes None here alone of_style h = unchanged bytes h (alone, inr (none_reason scope own path scope.style (kind_in own path) refl refl of_style))
+    inside : (bytes : List ℕ) (style : Option Style) → get tree path ≡ Some bytes → get tree (neighbour_of path) ≡ None
+        → style_for scope own path ≡ style → amend_inside amendments path bytes style ≡ Ok given → Becomes bytes
+    inside bytes None here alone of_style h =
+        unchanged bytes h (alone, inr (none_reason scope own path scope.style (kind_in own path) refl refl of_style))
     inside bytes (Some style) here alone of_style h =
         let short = err_or (nat_lt LONGEST_FILE (length bytes)) (refusals.TooLong path) _ given h in
         inside_text bytes style (is_text bytes) here alone of_style refl short.1
 
-    by_neighbour : (bytes : List ℕ) (there : Option (List ℕ)) → get tree path ≡ Some bytes → get tree (neighbour_of path) ≡ there → amend_covered amendments scope own path bytes there ≡ Ok given → Becomes bytes
+    by_neighbour : (bytes : List ℕ) (there : Option (List ℕ)) → get tree path ≡ Some bytes → get tree
+        (neighbour_of path) ≡ there → amend_covered amendments scope own path bytes there ≡ Ok given → Becomes bytes
     by_neighbour bytes (Some there) here is h = beside bytes there is h
     by_neighbour bytes None here is h = inside bytes (style_for scope own path) here is refl h
 
-    table : (bytes : List ℕ) → get tree path ≡ Some bytes → amend_table amendments path bytes ≡ Ok given → IsTableAmended amendments (pair_at tree path) (pair_then tree given path)
+    table : (bytes : List ℕ) → get tree path ≡ Some bytes → amend_table amendments path bytes ≡ Ok given
+        → IsTableAmended amendments (pair_at tree path) (pair_then tree given path)
     table bytes here h =
-        let short = err_or (nat_lt LONGEST_FILE (length bytes)) (refusals.TooLong path) (table_amendment path bytes (toml_amendment_of amendments bytes)) given h in
+        let short = err_or (nat_lt LONGEST_FILE (length bytes)) (refusals.TooLong path)
+        (table_amendment path bytes (toml_amendment_of amendments bytes)) given h in
         let m = table_makes amendments path bytes given short.1 in
         record {
           bytes = bytes;
           there = here;
           made = m.made;
           by_rules = m.by_rules;
-          holds = ap₂ pair (then_here tree path bytes m.made given m.makes here) (then_other tree path bytes m.made given (neighbour_of path) m.makes (λ same. apart path (sym same)));
+          holds = ap₂ pair (then_here tree path bytes m.made given m.makes here)
+              (then_other tree path bytes m.made given (neighbour_of path) m.makes (λ same. apart path (sym same)));
           reads = m.reads;
           keeps = m.keeps;
         }
 
-    of_file : (file : Option (List ℕ)) → get tree path ≡ file → amended_where amendments scope own tree path file ≡ Ok given → IsAmended amendments scope own path (pair_at tree path) (pair_then tree given path)
-    of_file None is h = absurd (both_err (is_folder tree path) (refusals.IsFolder (place.Path path)) (refusals.NoSuchPath path) given h)
+    of_file : (file : Option (List ℕ)) → get tree path ≡ file
+        → amended_where amendments scope own tree path file ≡ Ok given
+        → IsAmended amendments scope own path (pair_at tree path) (pair_then tree given path)
+    of_file None is h =
+        absurd (both_err (is_folder tree path) (refusals.IsFolder (place.Path path)) (refusals.NoSuchPath path) given h)
     of_file (Some bytes) is h = by_path (bytes_eq path toml_path) refl h
       where
-        by_path : (b : Bool) → bytes_eq path toml_path ≡ b → cond b (amend_table amendments path bytes) (cond (not (is_covered path)) (Err (refusals.NotCovered path)) (amend_covered amendments scope own path bytes (get tree (neighbour_of path)))) ≡ Ok given → IsAmended amendments scope own path (pair_at tree path) (pair_then tree given path)
+        by_path : (b : Bool) → bytes_eq path toml_path ≡ b
+            → cond b (amend_table amendments path bytes) (cond (not (is_covered path)) (Err (refusals.NotCovered path))
+            (amend_covered amendments scope own path bytes (get tree (neighbour_of path)))) ≡ Ok given
+            → IsAmended amendments scope own path (pair_at tree path) (pair_then tree given path)
         by_path true t e = inl ((bytes_eq-Decides path toml_path).0 t, table bytes is e)
         by_path false t e =
-            let covered = err_or (not (is_covered path)) (refusals.NotCovered path) (amend_covered amendments scope own path bytes (get tree (neighbour_of path))) given e in
-            inr (record { bytes = bytes; there = is; covered = not-false (is_covered path) covered.0; becomes = by_neighbour bytes (get tree (neighbour_of path)) is refl covered.1 })
+            let covered = err_or (not (is_covered path)) (refusals.NotCovered path)
+            (amend_covered amendments scope own path bytes (get tree (neighbour_of path))) given e in
+            inr (record {
+              bytes = bytes;
+              there = is;
+              covered = not-false (is_covered path) covered.0;
+              becomes = by_neighbour bytes (get tree (neighbour_of path)) is refl covered.1;
+            })
 
     -- what is done at a path
-    pub amended_there : amended_at amendments scope own tree path ≡ Ok given → IsAmended amendments scope own path (pair_at tree path) (pair_then tree given path)
+    pub amended_there : amended_at amendments scope own tree path ≡ Ok given
+        → IsAmended amendments scope own path (pair_at tree path) (pair_then tree given path)
     amended_there h = of_file (get tree path) refl h

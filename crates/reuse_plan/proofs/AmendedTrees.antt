@@ -1,5 +1,7 @@
--- Where an amend isn't refused, each file that is gone through is amended, and all else stays; that is one tree, with the files of the old.
-use Rattle.std.proofs.Common.{◌≡◌, ◌≢◌, ◌⊎◌, inl, inr, ℕ, not, ◌&&◌, List, Option, Some, is_some, Result, Ok, Err, refl, sym, ap, ap₂, subst, ◌∙◌, Contains}
+-- Where an amend isn't refused, each file that is gone through is amended, and all else stays; that is one tree, with
+-- the files of the old.
+use Rattle.std.proofs.Common.{◌≡◌, ◌≢◌, ◌⊎◌, inl, inr, ℕ, not, ◌&&◌, List, Option, Some, is_some, Result, Ok, Err, refl}
+use Rattle.std.proofs.Common.{sym, ap, ap₂, subst, ◌∙◌, Contains}
 use Rattle.reuse_command.specs.Reading.{get, Files}
 use Rattle.reuse_amend.specs.declared.amendments.Amendments.{Amendments}
 use Rattle.reuse_notice.proofs.SetLemmas.{In, In-from_contains, Contains-from_in}
@@ -22,52 +24,70 @@ use Rattle.reuse_plan.proofs.AnnotatedFiles.{pair}
 use Rattle.reuse_plan.proofs.Annotating.{if_not}
 use Rattle.reuse_plan.proofs.Choosing.{selected_ascend}
 use Rattle.reuse_plan.proofs.Fitting.{amendment_placed}
-use Rattle.reuse_plan.proofs.OneAnnotation.{Found, Lacking, sought}
+use Rattle.reuse_plan.proofs.OneAnnotation.{Found, Lacking, searched}
 use Rattle.reuse_plan.proofs.PlacedEdits as placed_edits
 use Rattle.reuse_plan.proofs.PlacedEdits.{IsPlaceOf}
 use Rattle.reuse_plan.proofs.Outcomes.{edits_of_tree}
 use Rattle.reuse_plan.proofs.CommandEdits.{edits_at, amendments_by_names, of_amendment}
 use Rattle.reuse_plan.proofs.TableLemmas.{IsWorkable}
 
-module _ (keeps_block : KeepsBlock) (keeps_neighbour : KeepsNeighbour) (amendments : Amendments) (scope : Scope) (own : OwnNames) (tree : Files) where
+module _ (keeps_block : KeepsBlock) (keeps_neighbour : KeepsNeighbour) (amendments : Amendments) (scope : Scope)
+    (own : OwnNames) (tree : Files) where
   abbrev pub at : List ℕ → Result (Option Edit) Refusal
   at = amended_at amendments scope own tree
 
   placed : (path : List ℕ) (edit : Edit) → at path ≡ Ok (Some edit) → IsPlaceOf path edit.path × IsWorkable path
-  placed path edit h = let is = amendment_placed amendments scope own tree path edit h in (elim is.placed [ inl here ↦ inl here | inr beside ↦ inr beside.0 ], is.workable)
+  placed path edit h = let is = amendment_placed amendments scope own tree path edit h in
+      (elim is.placed [ inl here ↦ inl here | inr beside ↦ inr beside.0 ], is.workable)
 
   workable_of : (path : List ℕ) (given : Option Edit) → at path ≡ Ok given → IsWorkable path
-  workable_of path given h = elim (amended_there keeps_block keeps_neighbour amendments scope own tree path given h) [ inl table ↦ inr table.0 | inr covered ↦ inl covered.covered ]
+  workable_of path given h = elim (amended_there keeps_block keeps_neighbour amendments scope own tree path given h) [
+    | inl table ↦ inr table.0
+    | inr covered ↦ inl covered.covered
+  ]
 
   -- what is done at each of the paths
-  pub each_done : (paths : List (List ℕ)) (edits : List Edit) → edits_at at paths ≡ Ok edits → (path : List ℕ) → In path paths → (given : Option Edit) × (at path ≡ Ok given)
+  pub each_done : (paths : List (List ℕ)) (edits : List Edit) → edits_at at paths ≡ Ok edits → (path : List ℕ)
+      → In path paths → (given : Option Edit) × (at path ≡ Ok given)
   each_done = placed_edits.each_done at tree placed workable_of
 
-  amended_tree : (places : List Place) (edits : List Edit) → styles_in tree ≡ Ok own → edits_at at (amended_paths scope places tree) ≡ Ok edits → Amends places amendments scope tree (edited tree edits)
+  amended_tree : (places : List Place) (edits : List Edit) → styles_in tree ≡ Ok own
+      → edits_at at (amended_paths scope places tree) ≡ Ok edits
+      → Amends places amendments scope tree (edited tree edits)
   amended_tree places edits styles h = record {
     own = own;
     styles = styles;
     selected = λ path there.
-        let is = placed_edits.all_done at tree placed workable_of (amended_paths scope places tree) edits h (selected_ascend scope (with_table scope places tree) tree) path (In-from_contains (amended_paths scope places tree) path there) in
-        subst (IsAmended amendments scope own path (pair_at tree path)) (sym (ap₂ pair (is.2 path (inl refl)) (is.2 (neighbour_of path) (inr refl))))
+        let is = placed_edits.all_done at tree placed workable_of (amended_paths scope places tree) edits h
+        (selected_ascend scope (with_table scope places tree) tree) path
+        (In-from_contains (amended_paths scope places tree) path there) in
+        subst (IsAmended amendments scope own path (pair_at tree path))
+        (sym (ap₂ pair (is.2 path (inl refl)) (is.2 (neighbour_of path) (inr refl))))
         (amended_there keeps_block keeps_neighbour amendments scope own tree path is.0 is.1);
-    others = λ other none. placed_edits.outside at tree placed workable_of (amended_paths scope places tree) edits h other (λ path there.
+    others = λ other none. placed_edits.outside at tree placed workable_of
+        (amended_paths scope places tree) edits h other (λ path there.
         let apart = none path (Contains-from_in (amended_paths scope places tree) path there) in
         λ place. elim place [ inl here ↦ apart.0 here | inr beside ↦ apart.1 beside ]);
   }
 
-module _ (keeps_block : KeepsBlock) (keeps_neighbour : KeepsNeighbour) (places : List Place) (amendments : Amendments) (scope : Scope) (tree : Files) where
-  by_names : (edits : List Edit) (styles : Result OwnNames Refusal) → styles_in tree ≡ styles → amendments_by_names (with_table scope places tree) amendments scope tree styles ≡ Ok edits → Amends places amendments scope tree (edited tree edits)
+module _ (keeps_block : KeepsBlock) (keeps_neighbour : KeepsNeighbour) (places : List Place) (amendments : Amendments)
+    (scope : Scope) (tree : Files) where
+  by_names : (edits : List Edit) (styles : Result OwnNames Refusal) → styles_in tree ≡ styles
+      → amendments_by_names (with_table scope places tree) amendments scope tree styles ≡ Ok edits
+      → Amends places amendments scope tree (edited tree edits)
   by_names edits (Err refusal) is h = absurd (cc)
   by_names edits (Ok own) is h =
       amended_tree keeps_block keeps_neighbour amendments scope own tree places edits is
-      (if_not (not scope.recursive && has_root (with_table scope places tree)) (refusals.IsFolder place.Root) (edits_at (amended_at amendments scope own tree) (amended_paths scope places tree)) edits h)
+      (if_not (not scope.recursive && has_root (with_table scope places tree)) (refusals.IsFolder place.Root)
+      (edits_at (amended_at amendments scope own tree) (amended_paths scope places tree)) edits h)
 
-  pub amends : (after : Files) → outcome_of (Amend places amendments scope) tree ≡ Ok after → Amends places amendments scope tree after
+  pub amends : (after : Files) → outcome_of (Amend places amendments scope) tree ≡ Ok after
+      → Amends places amendments scope tree after
   unfolding outcome_of
   amends after h =
       let given = edits_of_tree tree after (edits_of (Amend places amendments scope) tree) h in
-      subst (Amends places amendments scope tree) given.2 (by_names given.0 (styles_in tree) refl (sym (of_amendment places amendments scope tree) ∙ given.1))
+      subst (Amends places amendments scope tree) given.2
+      (by_names given.0 (styles_in tree) refl (sym (of_amendment places amendments scope tree) ∙ given.1))
 
 -- ---- no file comes or goes
 
@@ -90,18 +110,23 @@ module _ (amendments : Amendments) (scope : Scope) (own : OwnNames) (path : List
   are_there : IsAmended amendments scope own path old new → AreThere new
   are_there is = elim is [ inl table ↦ table_there table.1 | inr covered ↦ covered_there covered ]
 
-module _ (places : List Place) (amendments : Amendments) (scope : Scope) (before after : Files) (is : Amends places amendments scope before after) where
+module _ (places : List Place) (amendments : Amendments) (scope : Scope) (before after : Files)
+    (is : Amends places amendments scope before after) where
   abbrev paths : List (List ℕ)
   paths = amended_paths scope places before
 
   pub same_paths : HaveSamePaths before after
-  same_paths q = by_path (sought (λ path. path) q paths) (sought neighbour_of q paths)
+  same_paths q = by_path (searched (λ path. path) q paths) (searched neighbour_of q paths)
     where
-      by_path : Found (λ path. path) q paths ⊎ Lacking (λ path. path) q paths → Found neighbour_of q paths ⊎ Lacking neighbour_of q paths → is_some (get after q) ≡ is_some (get before q)
+      by_path : Found (λ path. path) q paths ⊎ Lacking (λ path. path) q paths
+          → Found neighbour_of q paths ⊎ Lacking neighbour_of q paths → is_some (get after q) ≡ is_some (get before q)
       by_path (inl found) beside =
-          subst (λ p. is_some (get after p) ≡ is_some (get before p)) (sym found.2) (are_there amendments scope is.own found.0 _ _ (is.selected found.0 (Contains-from_in paths found.0 found.1))).0
+          subst (λ p. is_some (get after p) ≡ is_some (get before p)) (sym found.2) (are_there amendments scope is.own
+          found.0 _ _ (is.selected found.0 (Contains-from_in paths found.0 found.1))).0
       by_path (inr none) (inl found) =
-          subst (λ p. is_some (get after p) ≡ is_some (get before p)) (sym found.2) (are_there amendments scope is.own found.0 _ _ (is.selected found.0 (Contains-from_in paths found.0 found.1))).1
+          subst (λ p. is_some (get after p) ≡ is_some (get before p)) (sym found.2) (are_there amendments scope is.own
+          found.0 _ _ (is.selected found.0 (Contains-from_in paths found.0 found.1))).1
       by_path (inr none) (inr lacking) =
-          let apart : (path : List ℕ) → Contains paths path → (q ≢ path) × (q ≢ neighbour_of path) = λ path there. (none path (In-from_contains paths path there), lacking path (In-from_contains paths path there)) in
+          let apart : (path : List ℕ) → Contains paths path → (q ≢ path) × (q ≢ neighbour_of path) = λ path there.
+          (none path (In-from_contains paths path there), lacking path (In-from_contains paths path there)) in
           ap is_some (is.others q apart)

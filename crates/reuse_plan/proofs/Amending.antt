@@ -1,5 +1,6 @@
 -- The edit of an amendment: it is of a covered file that is there, or of its neighbour that is, or of the `REUSE.toml`.
-use Rattle.std.proofs.Common.{◌≡◌, ◌⊎◌, inl, inr, ℕ, ◌≤◌, Bool, true, false, not, nat_lt, List, length, Option, Some, None, IsSome, is_some, Result, Ok, Err, refl, sym, ap, cond, ◌∙◌, bytes_eq}
+use Rattle.std.proofs.Common.{◌≡◌, ◌⊎◌, inl, inr, ℕ, ◌≤◌, Bool, true, false, not, nat_lt, List, length, Option, Some}
+use Rattle.std.proofs.Common.{None, IsSome, is_some, Result, Ok, Err, refl, sym, ap, cond, ◌∙◌, bytes_eq}
 use Rattle.reuse_command.specs.Reading.{get, Files}
 use Rattle.std.proofs.lemmas.Bool.{false≢true, ltb-false}
 use Rattle.std.proofs.lemmas.Slice.Eq.{bytes_eq-Decides}
@@ -12,7 +13,8 @@ use Rattle.reuse_header.specs.Annotation as header
 use Rattle.reuse_header.specs.Neighbour.{is_text}
 use Rattle.reuse_text.specs.declared.TheConstants.{LONGEST_FILE}
 use Rattle.reuse_change.specs.Listing.{is_folder}
-use Rattle.reuse_plan.specs.Amend.{style_for, amendment_edit, amend_neighbour, amend_inside, amend_covered, table_amendment, amend_table, amended_where, amended_at}
+use Rattle.reuse_plan.specs.Amend.{style_for, amendment_edit, amend_neighbour, amend_inside, amend_covered}
+use Rattle.reuse_plan.specs.Amend.{table_amendment, amend_table, amended_where, amended_at}
 use Rattle.reuse_plan.specs.Annotate.{neighbour_of, edit_by}
 use Rattle.reuse_plan.specs.Conversion.{toml_path}
 use Rattle.reuse_command.specs.Covered.{is_covered}
@@ -31,7 +33,8 @@ not_false true e = refl
 not_false false e = absurd (false≢true (sym e))
 
 -- the header block of the file itself, which has no neighbour and has a style
-pub record IsInside (amendments : Amendments) (scope : Scope) (own : OwnNames) (tree : Files) (path at bytes : List ℕ) (one : header.Edit) : Type 0 where
+pub record IsInside (amendments : Amendments) (scope : Scope) (own : OwnNames) (tree : Files) (path at bytes : List ℕ)
+    (one : header.Edit) : Type 0 where
   pub same : at ≡ path
   pub alone : get tree (neighbour_of path) ≡ None
   pub style : Style
@@ -52,7 +55,8 @@ pub record IsTable (path at : List ℕ) : Type 0 where
   pub same : at ≡ path
   pub table : path ≡ toml_path
 
-pub record AmendsThere (amendments : Amendments) (scope : Scope) (own : OwnNames) (tree : Files) (path : List ℕ) (edit : Edit) : Type 0 where
+pub record AmendsThere (amendments : Amendments) (scope : Scope) (own : OwnNames) (tree : Files) (path : List ℕ)
+    (edit : Edit) : Type 0 where
   pub is_file : IsSome (get tree path)
   pub workable : IsWorkable path
   pub at : List ℕ
@@ -60,24 +64,27 @@ pub record AmendsThere (amendments : Amendments) (scope : Scope) (own : OwnNames
   pub one : header.Edit
   pub here : get tree at ≡ Some bytes
   pub by : edit_by path at bytes (Ok one) ≡ some_edit edit
-  pub placed : IsInside amendments scope own tree path at bytes one ⊎ IsBeside amendments path at bytes one ⊎ IsTable path at
+  pub placed : IsInside amendments scope own tree path at bytes one ⊎ IsBeside amendments path at bytes one
+      ⊎ IsTable path at
 
 module _ (path : List ℕ) (edit : Edit) where
-  of_due : (at bytes : List ℕ) (due : Result (Option header.Edit) AmendHeaderRefusal) → amendment_edit path at bytes due ≡ some_edit edit
-      → (one : header.Edit) × (due ≡ Ok (Some one)) × (edit_by path at bytes (Ok one) ≡ some_edit edit)
-  of_due at bytes (Ok None) e = absurd (cc)
-  of_due at bytes (Ok (Some one)) e = (one, refl, e)
-  of_due at bytes (Err refusal) e = absurd (cc)
+  of_expected : (at bytes : List ℕ) (expected : Result (Option header.Edit) AmendHeaderRefusal)
+      → amendment_edit path at bytes expected ≡ some_edit edit
+      → (one : header.Edit) × (expected ≡ Ok (Some one)) × (edit_by path at bytes (Ok one) ≡ some_edit edit)
+  of_expected at bytes (Ok None) e = absurd (cc)
+  of_expected at bytes (Ok (Some one)) e = (one, refl, e)
+  of_expected at bytes (Err refusal) e = absurd (cc)
 
 module _ (amendments : Amendments) (scope : Scope) (own : OwnNames) (tree : Files) (path : List ℕ) (edit : Edit) where
   abbrev Here : Type 0
   Here = AmendsThere amendments scope own tree path edit
 
-  of_neighbour : (bytes : List ℕ) → IsSome (get tree path) → is_covered path ≡ true → get tree (neighbour_of path) ≡ Some bytes → amend_neighbour amendments path bytes ≡ some_edit edit → Here
+  of_neighbour : (bytes : List ℕ) → IsSome (get tree path) → is_covered path ≡ true
+      → get tree (neighbour_of path) ≡ Some bytes → amend_neighbour amendments path bytes ≡ some_edit edit → Here
   of_neighbour bytes some covered here e =
       let few = err_or (nat_lt 4096 (length (neighbour_of path))) (refusals.TooLong path) _ (Some edit) e in
       let short = err_or (nat_lt LONGEST_FILE (length bytes)) (refusals.TooLong path) _ (Some edit) few.1 in
-      let one = of_due path edit (neighbour_of path) bytes (neighbour_amendment_of amendments bytes) short.1 in
+      let one = of_expected path edit (neighbour_of path) bytes (neighbour_amendment_of amendments bytes) short.1 in
       record {
         is_file = some;
         workable = inl covered;
@@ -86,15 +93,22 @@ module _ (amendments : Amendments) (scope : Scope) (own : OwnNames) (tree : File
         one = one.0;
         here = here;
         by = one.2;
-        placed = inr (inl (record { same = refl; few = ltb-false 4096 (length (neighbour_of path)) few.0; short = short.0; amends = one.1 }));
+        placed = inr (inl (record {
+          same = refl;
+          few = ltb-false 4096 (length (neighbour_of path)) few.0;
+          short = short.0;
+          amends = one.1;
+        }));
       }
 
-  of_inside : (bytes : List ℕ) (style : Option Style) → get tree path ≡ Some bytes → is_covered path ≡ true → get tree (neighbour_of path) ≡ None → style_for scope own path ≡ style → amend_inside amendments path bytes style ≡ some_edit edit → Here
+  of_inside : (bytes : List ℕ) (style : Option Style) → get tree path ≡ Some bytes → is_covered path ≡ true
+      → get tree (neighbour_of path) ≡ None → style_for scope own path ≡ style
+      → amend_inside amendments path bytes style ≡ some_edit edit → Here
   of_inside bytes None here covered alone is e = absurd (cc)
   of_inside bytes (Some style) here covered alone is e =
       let short = err_or (nat_lt LONGEST_FILE (length bytes)) (refusals.TooLong path) _ (Some edit) e in
       let text = unskipped (not (is_text bytes)) _ edit short.1 in
-      let one = of_due path edit path bytes (amendment_of style amendments bytes) text.1 in
+      let one = of_expected path edit path bytes (amendment_of style amendments bytes) text.1 in
       record {
         is_file = ap is_some here;
         workable = inl covered;
@@ -103,16 +117,28 @@ module _ (amendments : Amendments) (scope : Scope) (own : OwnNames) (tree : File
         one = one.0;
         here = here;
         by = one.2;
-        placed = inl (record { same = refl; alone = alone; style = style; of_style = is; short = short.0; text = not_false (is_text bytes) text.0; amends = one.1 });
+        placed = inl (record {
+          same = refl;
+          alone = alone;
+          style = style;
+          of_style = is;
+          short = short.0;
+          text = not_false (is_text bytes) text.0;
+          amends = one.1;
+        });
       }
 
-  of_covered : (bytes : List ℕ) (beside : Option (List ℕ)) → get tree path ≡ Some bytes → is_covered path ≡ true → get tree (neighbour_of path) ≡ beside → amend_covered amendments scope own path bytes beside ≡ some_edit edit → Here
+  of_covered : (bytes : List ℕ) (beside : Option (List ℕ)) → get tree path ≡ Some bytes → is_covered path ≡ true
+      → get tree (neighbour_of path) ≡ beside
+      → amend_covered amendments scope own path bytes beside ≡ some_edit edit → Here
   of_covered bytes (Some beside) here covered is e = of_neighbour beside (ap is_some here) covered is e
   of_covered bytes None here covered is e = of_inside bytes (style_for scope own path) here covered is refl e
 
-  of_table : (bytes : List ℕ) → get tree path ≡ Some bytes → path ≡ toml_path → amend_table amendments path bytes ≡ some_edit edit → Here
+  of_table : (bytes : List ℕ) → get tree path ≡ Some bytes → path ≡ toml_path
+      → amend_table amendments path bytes ≡ some_edit edit → Here
   of_table bytes here table e =
-      let short = err_or (nat_lt LONGEST_FILE (length bytes)) (refusals.TooLong path) (table_amendment path bytes (toml_amendment_of amendments bytes)) (Some edit) e in
+      let short = err_or (nat_lt LONGEST_FILE (length bytes)) (refusals.TooLong path)
+      (table_amendment path bytes (toml_amendment_of amendments bytes)) (Some edit) e in
       let change = of_change path bytes (toml_amendment_of amendments bytes) edit short.1 in
       record {
         is_file = ap is_some here;
@@ -125,15 +151,21 @@ module _ (amendments : Amendments) (scope : Scope) (own : OwnNames) (tree : File
         placed = inr (inr (record { same = refl; table = table }));
       }
 
-  of_file : (file : Option (List ℕ)) → get tree path ≡ file → amended_where amendments scope own tree path file ≡ some_edit edit → Here
-  of_file None is e = absurd (both_err (is_folder tree path) (refusals.IsFolder (place.Path path)) (refusals.NoSuchPath path) (Some edit) e)
+  of_file : (file : Option (List ℕ)) → get tree path ≡ file
+      → amended_where amendments scope own tree path file ≡ some_edit edit → Here
+  of_file None is e = absurd
+      (both_err (is_folder tree path) (refusals.IsFolder (place.Path path)) (refusals.NoSuchPath path) (Some edit) e)
   of_file (Some bytes) is e = by_table (bytes_eq path toml_path) refl e
     where
-      by_table : (table : Bool) → bytes_eq path toml_path ≡ table → cond table (amend_table amendments path bytes) (cond (not (is_covered path)) (Err (refusals.NotCovered path)) (amend_covered amendments scope own path bytes (get tree (neighbour_of path)))) ≡ some_edit edit → Here
+      by_table : (table : Bool) → bytes_eq path toml_path ≡ table → cond table (amend_table amendments path bytes)
+          (cond (not (is_covered path)) (Err (refusals.NotCovered path))
+          (amend_covered amendments scope own path bytes (get tree (neighbour_of path)))) ≡ some_edit edit → Here
       by_table true t h = of_table bytes is ((bytes_eq-Decides path toml_path).0 t) h
       by_table false t h =
-          let k = err_or (not (is_covered path)) (refusals.NotCovered path) (amend_covered amendments scope own path bytes (get tree (neighbour_of path))) (Some edit) h in
+          let k = err_or (not (is_covered path)) (refusals.NotCovered path)
+          (amend_covered amendments scope own path bytes (get tree (neighbour_of path))) (Some edit) h in
           of_covered bytes (get tree (neighbour_of path)) is (not_false (is_covered path) k.0) refl k.1
 
-  pub amends_there : amended_at amendments scope own tree path ≡ some_edit edit → AmendsThere amendments scope own tree path edit
+  pub amends_there : amended_at amendments scope own tree path ≡ some_edit edit
+      → AmendsThere amendments scope own tree path edit
   amends_there e = of_file (get tree path) refl e

@@ -1,19 +1,23 @@
 -- The change of a place, by what an amendment makes of its bytes.
-use Rattle.std.proofs.Common.{◌≡◌, ℕ, ◌+◌, ◌≤◌, Bool, true, false, cond, not, List, length, nat_lt, Option, Some, None, IsSome, Result, Ok, Err, refl, ap, ◌∙◌, bytes_eq}
+use Rattle.std.proofs.Common.{◌≡◌, ℕ, ◌+◌, ◌≤◌, Bool, true, false, cond, not, List, length, nat_lt, Option, Some, None}
+use Rattle.std.proofs.Common.{IsSome, Result, Ok, Err, refl, ap, ◌∙◌, bytes_eq}
 use Rattle.reuse_command.specs.Reading.{get, Files}
 use Rattle.std.proofs.lemmas.Bool.{false≢true}
 use Rattle.reuse_toml.specs.TomlAmending.{toml_amendment_of}
 use Rattle.reuse_header.specs.declared.amendment.AmendHeaderRefusal.{AmendHeaderRefusal}
 use Rattle.reuse_header.specs.declared.amendment.AmendHeaderRefusal.TheVariants.{BadExpression, NothingLeft, Header}
-use Rattle.reuse_header.specs.declared.annotation.HeaderRefusal.TheVariants.{NotText, NoSuchForm, HoldsCloser, TooLong, Unsettled, Memory}
+use Rattle.reuse_header.specs.declared.annotation.HeaderRefusal.TheVariants.{NotText, NoSuchForm, HoldsCloser, TooLong}
+use Rattle.reuse_header.specs.declared.annotation.HeaderRefusal.TheVariants.{Unsettled, Memory}
 use Rattle.reuse_header.specs.declared.annotation.Splice.{Splice}
 use Rattle.reuse_header.specs.declared.style.Style.{Style}
-use Rattle.reuse_header.specs.Amendment.{amendment_of, neighbour_amendment_of, amendment_answer, IsAmendmentDue}
+use Rattle.reuse_header.specs.Amendment.{amendment_of, neighbour_amendment_of, amendment_answer, IsExpectedAmendment}
 use Rattle.reuse_header.specs.Annotation as header
 use Rattle.reuse_header.specs.Neighbour.{is_text}
 use Rattle.reuse_text.specs.declared.TheConstants.{LONGEST_FILE}
-use Rattle.reuse_plan.specs.Amend.{amend_refused_by, amendment_edit, amend_covered, amended_where, amend_table, table_amendment}
-use Rattle.reuse_plan.specs.AmendmentPlan.{Due, Fits, names_of, amended_by, style_by, beside_by, inside_by, table_by}
+use Rattle.reuse_plan.specs.Amend.{amend_refused_by, amendment_edit, amend_covered, amended_where, amend_table}
+use Rattle.reuse_plan.specs.Amend.{table_amendment}
+use Rattle.reuse_plan.specs.AmendmentPlan.{Expected, Fits, names_of, amended_by, style_by, beside_by, inside_by}
+use Rattle.reuse_plan.specs.AmendmentPlan.{table_by}
 use Rattle.reuse_plan.specs.Annotate.{neighbour_of}
 use Rattle.reuse_plan.specs.Conversion.{toml_path}
 use Rattle.reuse_command.specs.Covered.{is_covered}
@@ -26,7 +30,9 @@ use Rattle.reuse_plan.proofs.EditLemmas.{edited_to, refused}
 use Rattle.reuse_plan.proofs.TableLemmas.{not_table}
 
 -- what is known of each edit is known of an amendment
-pub fits_amendment : (bytes : List ℕ) (due : Due) → ((edit : header.Edit) → due ≡ Ok (Some edit) → (edit.start + edit.old_len ≤ length bytes) × (length (header.edited bytes edit) ≤ LONGEST_FILE)) → Fits bytes due
+pub fits_amendment : (bytes : List ℕ) (expected : Expected) → ((edit : header.Edit) → expected ≡ Ok (Some edit)
+    → (edit.start + edit.old_len ≤ length bytes) × (length (header.edited bytes edit) ≤ LONGEST_FILE))
+    → Fits bytes expected
 fits_amendment bytes (Ok (Some edit)) each = each edit refl
 fits_amendment bytes (Ok None) each = tt
 fits_amendment bytes (Err refusal) each = tt
@@ -37,27 +43,32 @@ abbrev answered : Option Splice → Result (Option Splice) AmendHeaderRefusal
 answered splice = Ok splice
 
 -- where it answers one, that is the one of an edit
-pub some_made : (file : List ℕ) (due : Due) (splice : Splice) → amendment_answer file due ≡ answered (Some splice) → (edit : header.Edit) × (due ≡ Ok (Some edit))
+pub some_made : (file : List ℕ) (expected : Expected) (splice : Splice)
+    → amendment_answer file expected ≡ answered (Some splice) → (edit : header.Edit) × (expected ≡ Ok (Some edit))
 some_made file (Ok None) splice e = absurd (cc)
 some_made file (Err refusal) splice e = absurd (cc)
 some_made file (Ok (Some edit)) splice e = (edit, refl)
 
-err_made : (path at file : List ℕ) (due : Due) (refusal : AmendHeaderRefusal) → amendment_answer file due ≡ Err refusal → amendment_edit path at file due ≡ Err (amend_refused_by path refusal)
+err_made : (path at file : List ℕ) (expected : Expected) (refusal : AmendHeaderRefusal)
+    → amendment_answer file expected ≡ Err refusal
+    → amendment_edit path at file expected ≡ Err (amend_refused_by path refusal)
 err_made path at file (Ok None) refusal e = absurd (cc)
 err_made path at file (Ok (Some edit)) refusal e = absurd (cc)
-err_made path at file (Err other) refusal e = let same : other ≡ refusal = cc in ap (λ r. Err (amend_refused_by path r)) same
+err_made path at file (Err other) refusal e = let same : other ≡ refusal = cc in
+    ap (λ r. Err (amend_refused_by path r)) same
 
 -- its refusal is the one of the path
-pub refused_made : (path at file : List ℕ) (due : Due) (refusal : AmendHeaderRefusal) → IsAmendmentDue {X = Option Splice} (amendment_answer file due) (Err refusal)
-    → IsRefusalOf (amendment_edit path at file due) (amend_refused_by path refusal)
-refused_made path at file due BadExpression is = err_made path at file due BadExpression is
-refused_made path at file due NothingLeft is = err_made path at file due NothingLeft is
-refused_made path at file due (Header NotText) is = err_made path at file due (Header NotText) is
-refused_made path at file due (Header NoSuchForm) is = err_made path at file due (Header NoSuchForm) is
-refused_made path at file due (Header HoldsCloser) is = err_made path at file due (Header HoldsCloser) is
-refused_made path at file due (Header TooLong) is = err_made path at file due (Header TooLong) is
-refused_made path at file due (Header Unsettled) is = err_made path at file due (Header Unsettled) is
-refused_made path at file due (Header (Memory e)) is = tt
+pub refused_made : (path at file : List ℕ) (expected : Expected) (refusal : AmendHeaderRefusal)
+    → IsExpectedAmendment {X = Option Splice} (amendment_answer file expected) (Err refusal)
+    → IsRefusalOf (amendment_edit path at file expected) (amend_refused_by path refusal)
+refused_made path at file expected BadExpression is = err_made path at file expected BadExpression is
+refused_made path at file expected NothingLeft is = err_made path at file expected NothingLeft is
+refused_made path at file expected (Header NotText) is = err_made path at file expected (Header NotText) is
+refused_made path at file expected (Header NoSuchForm) is = err_made path at file expected (Header NoSuchForm) is
+refused_made path at file expected (Header HoldsCloser) is = err_made path at file expected (Header HoldsCloser) is
+refused_made path at file expected (Header TooLong) is = err_made path at file expected (Header TooLong) is
+refused_made path at file expected (Header Unsettled) is = err_made path at file expected (Header Unsettled) is
+refused_made path at file expected (Header (Memory e)) is = tt
 
 -- ---- by the tests of the code
 
@@ -66,15 +77,18 @@ module _ (asked : Amendment) (path bytes : List ℕ) where
   by_neighbour = amendment_edit path (neighbour_of path) bytes (neighbour_amendment_of asked.amendments.now bytes)
 
   pub beside_is : nat_lt 4096 (length (neighbour_of path)) ≡ false → nat_lt LONGEST_FILE (length bytes) ≡ false
-      → beside_by asked path bytes ≡ amendment_edit path (neighbour_of path) bytes (neighbour_amendment_of asked.amendments.now bytes)
+      → beside_by asked path bytes ≡ amendment_edit path (neighbour_of path) bytes
+      (neighbour_amendment_of asked.amendments.now bytes)
   beside_is few short =
-      ap (λ b. cond b (refused (refusals.TooLong path)) (cond (nat_lt LONGEST_FILE (length bytes)) (refused (refusals.TooLong path)) by_neighbour)) few
+      ap (λ b. cond b (refused (refusals.TooLong path))
+      (cond (nat_lt LONGEST_FILE (length bytes)) (refused (refusals.TooLong path)) by_neighbour)) few
       ∙ ap (λ b. cond b (refused (refusals.TooLong path)) by_neighbour) short
 
   abbrev by_table : Result (Option Edit) Refusal
   by_table = table_amendment path bytes (toml_amendment_of asked.amendments.now bytes)
 
-  pub table_is : nat_lt LONGEST_FILE (length bytes) ≡ false → table_by asked path bytes ≡ table_amendment path bytes (toml_amendment_of asked.amendments.now bytes)
+  pub table_is : nat_lt LONGEST_FILE (length bytes) ≡ false
+      → table_by asked path bytes ≡ table_amendment path bytes (toml_amendment_of asked.amendments.now bytes)
   table_is short = ap (λ b. cond b (refused (refusals.TooLong path)) by_table) short
 
   module _ (style : Style) where
@@ -82,9 +96,11 @@ module _ (asked : Amendment) (path bytes : List ℕ) where
     by_block = amendment_edit path path bytes (amendment_of style asked.amendments.now bytes)
 
     pub inside_is : (text : Bool) → nat_lt LONGEST_FILE (length bytes) ≡ false → is_text bytes ≡ text
-        → inside_by asked path bytes (Some style) ≡ cond (not text) (edited_to None) (amendment_edit path path bytes (amendment_of style asked.amendments.now bytes))
+        → inside_by asked path bytes (Some style) ≡ cond (not text) (edited_to None)
+        (amendment_edit path path bytes (amendment_of style asked.amendments.now bytes))
     inside_is text short is =
-        ap (λ b. cond b (refused (refusals.TooLong path)) (cond (not (is_text bytes)) (edited_to None) by_block)) short ∙ ap (λ b. cond (not b) (edited_to None) by_block) is
+        ap (λ b. cond b (refused (refusals.TooLong path)) (cond (not (is_text bytes)) (edited_to None) by_block)) short
+        ∙ ap (λ b. cond (not b) (edited_to None) by_block) is
 
 module _ (asked : Amendment) (tree : Files) (path : List ℕ) where
   abbrev covered_by : List ℕ → Option (List ℕ) → Result (Option Edit) Refusal
@@ -92,27 +108,37 @@ module _ (asked : Amendment) (tree : Files) (path : List ℕ) where
 
   -- it is the `REUSE.toml`, or another file
   abbrev by_file : List ℕ → Bool → Result (Option Edit) Refusal
-  by_file bytes table = cond table (amend_table asked.amendments.now path bytes) (cond (not (is_covered path)) (refused (refusals.NotCovered path)) (covered_by bytes (get tree (neighbour_of path))))
+  by_file bytes table = cond table (amend_table asked.amendments.now path bytes) (cond (not (is_covered path))
+      (refused (refusals.NotCovered path)) (covered_by bytes (get tree (neighbour_of path))))
 
-  pub goes_to_table : (bytes : List ℕ) → get tree path ≡ Some bytes → bytes_eq path toml_path ≡ true → amended_by asked tree path ≡ table_by asked path bytes
-  goes_to_table bytes here table = ap (amended_where asked.amendments.now asked.scope.now (names_of asked) tree path) here ∙ ap (by_file bytes) table
+  pub goes_to_table : (bytes : List ℕ) → get tree path ≡ Some bytes → bytes_eq path toml_path ≡ true
+      → amended_by asked tree path ≡ table_by asked path bytes
+  goes_to_table bytes here table =
+      ap (amended_where asked.amendments.now asked.scope.now (names_of asked) tree path) here ∙ ap (by_file bytes) table
 
   pub uncovered_is : (file : Option (List ℕ)) → IsSome file → bytes_eq path toml_path ≡ false → is_covered path ≡ false
-      → amended_where asked.amendments.now asked.scope.now (names_of asked) tree path file ≡ refused (refusals.NotCovered path)
+      → amended_where asked.amendments.now asked.scope.now (names_of asked) tree path file ≡ refused
+      (refusals.NotCovered path)
   uncovered_is None some other e = absurd (false≢true some)
-  uncovered_is (Some bytes) some other e = ap (by_file bytes) other ∙ ap (λ b. cond (not b) (refused (refusals.NotCovered path)) (covered_by bytes (get tree (neighbour_of path)))) e
+  uncovered_is (Some bytes) some other e = ap (by_file bytes) other
+      ∙ ap (λ b. cond (not b) (refused (refusals.NotCovered path)) (covered_by bytes (get tree (neighbour_of path)))) e
 
-  covered_is : (bytes : List ℕ) (beside : Option (List ℕ)) → get tree path ≡ Some bytes → is_covered path ≡ true → get tree (neighbour_of path) ≡ beside → amended_by asked tree path ≡ covered_by bytes beside
+  covered_is : (bytes : List ℕ) (beside : Option (List ℕ)) → get tree path ≡ Some bytes → is_covered path ≡ true
+      → get tree (neighbour_of path) ≡ beside → amended_by asked tree path ≡ covered_by bytes beside
   covered_is bytes beside here covered is =
       ap (amended_where asked.amendments.now asked.scope.now (names_of asked) tree path) here
       ∙ ap (by_file bytes) (not_table path covered)
-      ∙ ap (λ t. cond (not t) (refused (refusals.NotCovered path)) (covered_by bytes (get tree (neighbour_of path)))) covered ∙ ap (covered_by bytes) is
+      ∙ ap (λ t. cond (not t) (refused (refusals.NotCovered path)) (covered_by bytes (get tree (neighbour_of path))))
+      covered ∙ ap (covered_by bytes) is
 
   -- the neighbour is there
-  pub goes_beside : (bytes beside : List ℕ) → get tree path ≡ Some bytes → is_covered path ≡ true → get tree (neighbour_of path) ≡ Some beside → amended_by asked tree path ≡ beside_by asked path beside
-  goes_beside bytes beside here covered is = covered_is bytes (Some beside) here covered is
+  pub goes_to_neighbour : (bytes beside : List ℕ) → get tree path ≡ Some bytes → is_covered path ≡ true
+      → get tree (neighbour_of path) ≡ Some beside → amended_by asked tree path ≡ beside_by asked path beside
+  goes_to_neighbour bytes beside here covered is = covered_is bytes (Some beside) here covered is
 
   -- it isn't
-  pub goes_inside : (bytes : List ℕ) (style : Option Style) → get tree path ≡ Some bytes → is_covered path ≡ true → get tree (neighbour_of path) ≡ None → style_by asked path ≡ style
+  pub goes_inside : (bytes : List ℕ) (style : Option Style) → get tree path ≡ Some bytes → is_covered path ≡ true
+      → get tree (neighbour_of path) ≡ None → style_by asked path ≡ style
       → amended_by asked tree path ≡ inside_by asked path bytes style
-  goes_inside bytes style here covered is styled = covered_is bytes None here covered is ∙ ap (inside_by asked path bytes) styled
+  goes_inside bytes style here covered is styled =
+      covered_is bytes None here covered is ∙ ap (inside_by asked path bytes) styled

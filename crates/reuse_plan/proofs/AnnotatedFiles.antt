@@ -1,5 +1,7 @@
 -- Where the licensing information of a file goes and why, and what annotate writes there.
-use Rattle.std.proofs.Common.{◌≡◌, ◌≢◌, ◌⊎◌, inl, inr, ℕ, Bool, true, false, cond, not, ◌&&◌, nat_lt, List, length, Option, Some, None, is_some, Result, Ok, refl, sym, ap₂, subst, ◌∙◌, [], ◌∷◌, ◌++◌, codes, take, drop, Err, ap, arith, length-append, is_none, unwrap_or, bytes_eq, option_map}
+use Rattle.std.proofs.Common.{◌≡◌, ◌≢◌, ◌⊎◌, inl, inr, ℕ, Bool, true, false, cond, not, ◌&&◌, nat_lt, List, length}
+use Rattle.std.proofs.Common.{Option, Some, None, is_some, Result, Ok, refl, sym, ap₂, subst, ◌∙◌, [], ◌∷◌, ◌++◌, codes}
+use Rattle.std.proofs.Common.{take, drop, Err, ap, arith, length-append, is_none, unwrap_or, bytes_eq, option_map}
 use Rattle.reuse_command.specs.Reading.{get, Files}
 use Rattle.std.proofs.lemmas.Bool.{false≢true, or_cases, or_parts, and_parts, not-false}
 use Rattle.reuse_header.specs.declared.style.Style.{Style}
@@ -9,14 +11,19 @@ use Rattle.reuse_header.specs.Names.{kind_in}
 use Rattle.reuse_header.specs.Neighbour.{is_text, neighbour_annotation_of, neighbour_end}
 use Rattle.reuse_text.specs.declared.TheConstants.{LONGEST_FILE}
 use Rattle.reuse_plan.specs.Accepted.{IsUnread}
-use Rattle.reuse_plan.specs.Annotate.{neighbour_of, is_uncommentable, goes_beside, goes_beside_unread, target_of_unknown, target_by_name, target_by_style, target_by_bytes, neighbour_is_tagged, target_of, edit_by, edit_neighbour, edit_target, annotated_where, annotated_at}
-use Rattle.reuse_plan.specs.Annotated.{pair_at, IsStyleOf, HasKind, TakesComment, TakesNeighbour, IsSameAround, KeepsOthers, block_replaced, part_replaced, Pair, IsCommented, IsAccompanied, IsSkipped, IsAnnotated, file_written}
+use Rattle.reuse_plan.specs.Annotate.{neighbour_of, is_uncommentable, goes_to_neighbour, goes_to_neighbour_unread}
+use Rattle.reuse_plan.specs.Annotate.{target_of_unknown, target_by_name, target_by_style, target_by_bytes}
+use Rattle.reuse_plan.specs.Annotate.{neighbour_is_tagged, target_of, edit_by, edit_neighbour, edit_target}
+use Rattle.reuse_plan.specs.Annotate.{annotated_where, annotated_at}
+use Rattle.reuse_plan.specs.Annotated.{pair_at, IsStyleOf, HasKind, TakesComment, TakesNeighbour, IsSameAround}
+use Rattle.reuse_plan.specs.Annotated.{KeepsOthers, block_replaced, part_replaced, Pair, IsCommented, IsAccompanied}
+use Rattle.reuse_plan.specs.Annotated.{IsSkipped, IsAnnotated, file_written}
 use Rattle.reuse_plan.specs.TreeStyles.{OwnNames}
 use Rattle.reuse_command.specs.declared.command.Scope.{Scope}
 use Rattle.reuse_command.specs.declared.command.Unknown.{Unknown}
 use Rattle.reuse_command.specs.declared.command.Unknown.TheVariants as unknown
 use Rattle.reuse_plan.specs.declared.target.Target.{Target}
-use Rattle.reuse_plan.specs.declared.target.Target.TheVariants.{Inside, Beside, Nowhere}
+use Rattle.reuse_plan.specs.declared.target.Target.TheVariants.{Inside, InNeighbour, Nowhere}
 use Rattle.reuse_command.specs.declared.reply.Refusal.{Refusal}
 use Rattle.reuse_command.specs.declared.reply.Refusal.TheVariants as refusals
 use Rattle.reuse_plan.proofs.Results.{same_Ok, err_or, none_from_test}
@@ -30,7 +37,7 @@ use Rattle.reuse_header.specs.Annotation as header
 use Rattle.reuse_header.specs.Body.{body_lines, place_in}
 use Rattle.reuse_header.specs.Header.{Header, HeaderSpan, header_of, span_in}
 use Rattle.reuse_header.specs.Laws.{IsInsertion}
-use Rattle.reuse_plan.specs.Annotations.{Due}
+use Rattle.reuse_plan.specs.Annotations.{Expected}
 use Rattle.reuse_change.specs.Clash.{is_clash}
 use Rattle.reuse_command.specs.Covered.{is_covered}
 use Rattle.reuse_plan.specs.Edit.{Edit}
@@ -60,40 +67,45 @@ module _ (scope : Scope) (own : OwnNames) (tree : Files) (path bytes : List ℕ)
   -- why the information goes there
   abbrev pub Takes : Target → Type 0
   Takes (Inside style) = TakesComment scope own path bytes (pair_at tree path) style
-  Takes Beside = TakesNeighbour scope own path bytes (pair_at tree path)
-  Takes Nowhere = HasKind scope own path kind.Unknown × (scope.unknown ≡ unknown.Skip) × ¬ (TakesNeighbour scope own path bytes (pair_at tree path))
+  Takes InNeighbour = TakesNeighbour scope own path bytes (pair_at tree path)
+  Takes Nowhere = HasKind scope own path kind.Unknown × (scope.unknown ≡ unknown.Skip)
+      × ¬ (TakesNeighbour scope own path bytes (pair_at tree path))
 
   -- the test that is made without reading the file
-  pub unread : goes_beside scope own tree path ≡ true → IsUnread scope own path (pair_at tree path)
-  unread e = elim (or_cases (is_some (get tree (neighbour_of path))) (goes_beside_unread scope own path) e) [
+  pub unread : goes_to_neighbour scope own tree path ≡ true → IsUnread scope own path (pair_at tree path)
+  unread e = elim (or_cases (is_some (get tree (neighbour_of path))) (goes_to_neighbour_unread scope own path) e) [
     | inl there ↦ inl there
-    | inr called ↦ elim (or_cases scope.force_dot_license (is_none scope.style && is_uncommentable (kind_in own path)) called) [
-      | inl forced ↦ inr (inl forced)
-      | inr plain ↦
-          let parts = and_parts (is_none scope.style) (is_uncommentable (kind_in own path)) plain in
-          inr (inr (no_style scope.style parts.0, uncommentable (kind_in own path) parts.1))
-    ]
+    | inr called ↦
+        elim (or_cases scope.force_dot_license (is_none scope.style && is_uncommentable (kind_in own path)) called) [
+          | inl forced ↦ inr (inl forced)
+          | inr plain ↦
+              let parts = and_parts (is_none scope.style) (is_uncommentable (kind_in own path)) plain in
+              inr (inr (no_style scope.style parts.0, uncommentable (kind_in own path) parts.1))
+        ]
   ]
 
-  unread_takes : IsUnread scope own path (pair_at tree path) → Takes Beside
+  unread_takes : IsUnread scope own path (pair_at tree path) → Takes InNeighbour
   unread_takes (inl there) = inl there
   unread_takes (inr (inl forced)) = inr (inl forced)
   unread_takes (inr (inr plain)) = inr (inr (inr (inl plain)))
 
-  module _ (e : goes_beside scope own tree path ≡ false) where
-    parts : (is_some (get tree (neighbour_of path)) ≡ false) × (goes_beside_unread scope own path ≡ false)
-    parts = or_parts (is_some (get tree (neighbour_of path))) (goes_beside_unread scope own path) e
+  module _ (e : goes_to_neighbour scope own tree path ≡ false) where
+    parts : (is_some (get tree (neighbour_of path)) ≡ false) × (goes_to_neighbour_unread scope own path ≡ false)
+    parts = or_parts (is_some (get tree (neighbour_of path))) (goes_to_neighbour_unread scope own path) e
 
-    unread_parts : (scope.force_dot_license ≡ false) × ((is_none scope.style && is_uncommentable (kind_in own path)) ≡ false)
+    unread_parts : (scope.force_dot_license ≡ false)
+        × ((is_none scope.style && is_uncommentable (kind_in own path)) ≡ false)
     unread_parts = or_parts scope.force_dot_license (is_none scope.style && is_uncommentable (kind_in own path)) parts.1
 
     pub is_read : IsUnread scope own path (pair_at tree path) → ⊥
     is_read (inl there) = false≢true (sym parts.0 ∙ there)
     is_read (inr (inl forced)) = false≢true (sym unread_parts.0 ∙ forced)
-    is_read (inr (inr plain)) = false≢true (sym unread_parts.1 ∙ ap₂ (λ (style : Option Style) (of_name : Kind). is_none style && is_uncommentable of_name) plain.0 plain.1)
+    is_read (inr (inr plain)) = false≢true (sym unread_parts.1
+        ∙ ap₂ (λ (style : Option Style) (of_name : Kind). is_none style && is_uncommentable of_name) plain.0 plain.1)
 
-  module _ (e : goes_beside scope own tree path ≡ false) (text : is_text bytes ≡ true) where
-    comment_takes : (style : Style) → (scope.style ≡ Some style) ⊎ ((scope.style ≡ None) × (kind_in own path ≡ kind.Style style)) → Takes (Inside style)
+  module _ (e : goes_to_neighbour scope own tree path ≡ false) (text : is_text bytes ≡ true) where
+    comment_takes : (style : Style) → (scope.style ≡ Some style)
+        ⊎ ((scope.style ≡ None) × (kind_in own path ≡ kind.Style style)) → Takes (Inside style)
     comment_takes style of_style = record {
       text = text;
       alone = none_from_test (get tree (neighbour_of path)) (parts e).0;
@@ -102,32 +114,45 @@ module _ (scope : Scope) (own : OwnNames) (tree : Files) (path bytes : List ℕ)
     }
 
     -- nothing calls for a neighbour
-    pub no_neighbour : ((style : Style) × IsStyleOf scope own path style) ⊎ ((kind_in own path ≡ kind.Unknown) × (scope.unknown ≢ unknown.Neighbour)) → TakesNeighbour scope own path bytes (pair_at tree path) → ⊥
-    no_neighbour named why = no_call scope own path bytes (pair_at tree path) (none_from_test (get tree (neighbour_of path)) (parts e).0)
+    pub no_neighbour : ((style : Style) × IsStyleOf scope own path style)
+        ⊎ ((kind_in own path ≡ kind.Unknown) × (scope.unknown ≢ unknown.Neighbour))
+        → TakesNeighbour scope own path bytes (pair_at tree path) → ⊥
+    no_neighbour named why =
+        no_call scope own path bytes (pair_at tree path) (none_from_test (get tree (neighbour_of path)) (parts e).0)
         (unread_parts e).0 text named why
 
-    unknown_takes : (asked : Unknown) → scope.unknown ≡ asked → HasKind scope own path kind.Unknown → (target : Target) → target_of_unknown asked path ≡ Ok target → Takes target
+    unknown_takes : (asked : Unknown) → scope.unknown ≡ asked → HasKind scope own path kind.Unknown → (target : Target)
+        → target_of_unknown asked path ≡ Ok target → Takes target
     unknown_takes unknown.Refuse is named target h = absurd (cc)
-    unknown_takes unknown.Neighbour is named target h = subst Takes (same_Ok Beside target h) (inr (inr (inr (inr (named, is)))))
-    unknown_takes unknown.Skip is named target h = subst Takes (same_Ok Nowhere target h) (named, is, no_neighbour (inr (named.1, λ e. skip_or_neighbour (sym is ∙ e))))
+    unknown_takes unknown.Neighbour is named target h =
+        subst Takes (same_Ok InNeighbour target h) (inr (inr (inr (inr (named, is)))))
+    unknown_takes unknown.Skip is named target h = subst Takes (same_Ok Nowhere target h)
+        (named, is, no_neighbour (inr (named.1, λ e. skip_or_neighbour (sym is ∙ e))))
 
-    name_takes : (of_name : Kind) → kind_in own path ≡ of_name → scope.style ≡ None → (target : Target) → target_by_name scope.unknown path of_name ≡ Ok target → Takes target
-    name_takes (kind.Style style) is none target h = subst Takes (same_Ok (Inside style) target h) (comment_takes style (inr (none, is)))
-    name_takes kind.Uncommentable is none target h = subst Takes (same_Ok Beside target h) (inr (inr (inr (inl (none, is)))))
+    name_takes : (of_name : Kind) → kind_in own path ≡ of_name → scope.style ≡ None → (target : Target)
+        → target_by_name scope.unknown path of_name ≡ Ok target → Takes target
+    name_takes (kind.Style style) is none target h =
+        subst Takes (same_Ok (Inside style) target h) (comment_takes style (inr (none, is)))
+    name_takes kind.Uncommentable is none target h =
+        subst Takes (same_Ok InNeighbour target h) (inr (inr (inr (inl (none, is)))))
     name_takes kind.Unknown is none target h = unknown_takes scope.unknown refl (none, is) target h
 
-    style_takes : (style : Option Style) → scope.style ≡ style → (target : Target) → target_by_style scope own path style ≡ Ok target → Takes target
+    style_takes : (style : Option Style) → scope.style ≡ style → (target : Target)
+        → target_by_style scope own path style ≡ Ok target → Takes target
     style_takes (Some style) is target h = subst Takes (same_Ok (Inside style) target h) (comment_takes style (inl is))
     style_takes None is target h = name_takes (kind_in own path) refl is target h
 
-  bytes_take : goes_beside scope own tree path ≡ false → (b : Bool) → is_text bytes ≡ b → (target : Target) → cond (not b) (aimed Beside) (target_by_style scope own path scope.style) ≡ Ok target → Takes target
+  bytes_take : goes_to_neighbour scope own tree path ≡ false → (b : Bool) → is_text bytes ≡ b → (target : Target)
+      → cond (not b) (aimed InNeighbour) (target_by_style scope own path scope.style) ≡ Ok target → Takes target
   bytes_take e true text target h = style_takes e text scope.style refl target h
-  bytes_take e false text target h = subst Takes (same_Ok Beside target h) (inr (inr (inl text)))
+  bytes_take e false text target h = subst Takes (same_Ok InNeighbour target h) (inr (inr (inl text)))
 
-  pub takes : (b : Bool) → goes_beside scope own tree path ≡ b → (target : Target) → cond b (aimed Beside) (target_by_bytes scope own path bytes) ≡ Ok target → Takes target
-  takes true e target h = subst Takes (same_Ok Beside target h) (unread_takes (unread e))
+  pub takes : (b : Bool) → goes_to_neighbour scope own tree path ≡ b → (target : Target)
+      → cond b (aimed InNeighbour) (target_by_bytes scope own path bytes) ≡ Ok target → Takes target
+  takes true e target h = subst Takes (same_Ok InNeighbour target h) (unread_takes (unread e))
   takes false e target h =
-      let short = err_or (nat_lt LONGEST_FILE (length bytes)) (refusals.TooLong path) (cond (not (is_text bytes)) (aimed Beside) (target_by_style scope own path scope.style)) target h in
+      let short = err_or (nat_lt LONGEST_FILE (length bytes)) (refusals.TooLong path)
+      (cond (not (is_text bytes)) (aimed InNeighbour) (target_by_style scope own path scope.style)) target h in
       bytes_take e (is_text bytes) refl target short.1
 
 -- ---- where annotate isn't refused at a path, its file and the neighbour become what the rules say of them
@@ -142,7 +167,10 @@ file_then tree None path = get tree path
 file_then tree (Some edit) path = cond (bytes_eq path edit.path) edit.file (get tree path)
 
 abbrev pub pair_then : Files → Option Edit → List ℕ → Pair
-pair_then tree given path = record { file = file_then tree given path; neighbour = file_then tree given (neighbour_of path) }
+pair_then tree given path = record {
+  file = file_then tree given path;
+  neighbour = file_then tree given (neighbour_of path);
+}
 
 abbrev pub pair : Option (List ℕ) → Option (List ℕ) → Pair
 pair file neighbour = record { file = file; neighbour = neighbour }
@@ -152,33 +180,48 @@ abbrev pub IsEditTo : List ℕ → List ℕ → List ℕ → Option Edit → Typ
 IsEditTo at bytes made None = made ≡ bytes
 IsEditTo at bytes made (Some edit) = (edit.path ≡ at) × (edit.file ≡ Some made) × (bytes_eq made bytes ≡ false)
 
-pub makes_by : (path at bytes : List ℕ) (due : Due) (given : Option Edit) → edit_by path at bytes due ≡ Ok given → (edit : header.Edit) × (due ≡ Ok edit) × IsEditTo at bytes (header.edited bytes edit) given
+pub makes_by : (path at bytes : List ℕ) (expected : Expected) (given : Option Edit)
+    → edit_by path at bytes expected ≡ Ok given
+    → (edit : header.Edit) × (expected ≡ Ok edit) × IsEditTo at bytes (header.edited bytes edit) given
 makes_by path at bytes (Err refusal) given h = absurd (cc)
 makes_by path at bytes (Ok edit) given h = (edit, refl, of_test (bytes_eq (header.edited bytes edit) bytes) refl h)
   where
     it : Edit
-    it = record { path = at; removed = take edit.old_len (drop edit.start bytes); written = header.new_bytes edit; file = Some (header.edited bytes edit) }
+    it = record {
+      path = at;
+      removed = take edit.old_len (drop edit.start bytes);
+      written = header.new_bytes edit;
+      file = Some (header.edited bytes edit);
+    }
 
-    of_test : (b : Bool) → bytes_eq (header.edited bytes edit) bytes ≡ b → cond b (done None) (done (Some it)) ≡ done given → IsEditTo at bytes (header.edited bytes edit) given
-    of_test true e k = subst (IsEditTo at bytes (header.edited bytes edit)) (same_Ok None given k) ((bytes_eq-Decides (header.edited bytes edit) bytes).0 e)
+    of_test : (b : Bool) → bytes_eq (header.edited bytes edit) bytes ≡ b
+        → cond b (done None) (done (Some it)) ≡ done given → IsEditTo at bytes (header.edited bytes edit) given
+    of_test true e k = subst (IsEditTo at bytes (header.edited bytes edit)) (same_Ok None given k)
+        ((bytes_eq-Decides (header.edited bytes edit) bytes).0 e)
     of_test false e k = subst (IsEditTo at bytes (header.edited bytes edit)) (same_Ok (Some it) given k) (refl, refl, e)
 
 module _ (tree : Files) (at bytes made : List ℕ) where
-  pub then_here : (given : Option Edit) → IsEditTo at bytes made given → get tree at ≡ Some bytes → file_then tree given at ≡ Some made
+  pub then_here : (given : Option Edit) → IsEditTo at bytes made given → get tree at ≡ Some bytes
+      → file_then tree given at ≡ Some made
   then_here None makes here = here ∙ ap (λ xs. Some xs) (sym makes)
-  then_here (Some edit) makes here = ap (λ b. cond b edit.file (get tree at)) ((bytes_eq-Decides at edit.path).1 (sym makes.0)) ∙ makes.1
+  then_here (Some edit) makes here =
+      ap (λ b. cond b edit.file (get tree at)) ((bytes_eq-Decides at edit.path).1 (sym makes.0)) ∙ makes.1
 
-  pub then_other : (given : Option Edit) (path : List ℕ) → IsEditTo at bytes made given → path ≢ at → file_then tree given path ≡ get tree path
+  pub then_other : (given : Option Edit) (path : List ℕ) → IsEditTo at bytes made given → path ≢ at
+      → file_then tree given path ≡ get tree path
   then_other None path makes other = refl
-  then_other (Some edit) path makes other = ap (λ b. cond b edit.file (get tree path)) (of_test (bytes_eq path edit.path) refl)
+  then_other (Some edit) path makes other =
+      ap (λ b. cond b edit.file (get tree path)) (of_test (bytes_eq path edit.path) refl)
     where
       of_test : (b : Bool) → bytes_eq path edit.path ≡ b → b ≡ false
       of_test true e = absurd (other ((bytes_eq-Decides path edit.path).0 e ∙ makes.0))
       of_test false e = refl
 
-then_made : (tree : Files) (at made : List ℕ) (given : Option Edit) → IsEditTo at [] made given → get tree at ≡ None → file_then tree given at ≡ file_written None made
+then_made : (tree : Files) (at made : List ℕ) (given : Option Edit) → IsEditTo at [] made given → get tree at ≡ None
+    → file_then tree given at ≡ file_written None made
 then_made tree at made None makes here = here ∙ ap (file_written None) (sym makes)
-then_made tree at made (Some edit) makes here = ap (λ b. cond b edit.file (get tree at)) ((bytes_eq-Decides at edit.path).1 (sym makes.0)) ∙ makes.1 ∙ some_made made makes.2
+then_made tree at made (Some edit) makes here = ap (λ b. cond b edit.file (get tree at))
+    ((bytes_eq-Decides at edit.path).1 (sym makes.0)) ∙ makes.1 ∙ some_made made makes.2
   where
     some_made : (bytes : List ℕ) → bytes_eq bytes [] ≡ false → Some bytes ≡ file_written None bytes
     some_made [] e = absurd (false≢true (sym e))
@@ -191,51 +234,65 @@ apart path same = let size = ap length same in omega (arith, size, length-append
 
 -- what is known of each annotation
 abbrev pub ReplacesBlock : Type 0
-ReplacesBlock = (style : Style) (how : How) (additions : Additions) (file : List ℕ) (edit : header.Edit) (span : HeaderSpan) → how.replace ≡ true
-    → header.annotation_of style how additions file ≡ Ok edit → option_map (span_in file) (header_of style file) ≡ Some span
+ReplacesBlock = (style : Style) (how : How) (additions : Additions) (file : List ℕ) (edit : header.Edit)
+    (span : HeaderSpan) → how.replace ≡ true
+    → header.annotation_of style how additions file ≡ Ok edit
+    → option_map (span_in file) (header_of style file) ≡ Some span
     → header.edited file edit ≡ take span.start file ++ edit.text ++ drop span.end file
 
 abbrev pub InsertsBlock : Type 0
-InsertsBlock = (style : Style) (how : How) (additions : Additions) (file : List ℕ) (edit : header.Edit) → (how.replace ≡ false) ⊎ (header_of style file ≡ None)
-    → header.annotation_of style how additions file ≡ Ok edit → IsInsertion file (place_in file (body_lines style (file_lines file))) edit
+InsertsBlock = (style : Style) (how : How) (additions : Additions) (file : List ℕ) (edit : header.Edit)
+    → (how.replace ≡ false) ⊎ (header_of style file ≡ None)
+    → header.annotation_of style how additions file ≡ Ok edit
+    → IsInsertion file (place_in file (body_lines style (file_lines file))) edit
 
 abbrev pub ReplacesNeighbour : Type 0
-ReplacesNeighbour = (how : How) (additions : Additions) (file : List ℕ) (edit : header.Edit) → how.replace ≡ true → neighbour_annotation_of how additions file ≡ Ok edit
+ReplacesNeighbour = (how : How) (additions : Additions) (file : List ℕ) (edit : header.Edit) → how.replace ≡ true
+    → neighbour_annotation_of how additions file ≡ Ok edit
     → header.edited file edit ≡ take (mark_len_of file) file ++ edit.text ++ drop (neighbour_end file) file
 
 abbrev pub InsertsNeighbour : Type 0
-InsertsNeighbour = (how : How) (additions : Additions) (file : List ℕ) (edit : header.Edit) → how.replace ≡ false → neighbour_annotation_of how additions file ≡ Ok edit
+InsertsNeighbour = (how : How) (additions : Additions) (file : List ℕ) (edit : header.Edit) → how.replace ≡ false
+    → neighbour_annotation_of how additions file ≡ Ok edit
     → IsInsertion file (mark_len_of file) edit
 
 no_span : (file : List ℕ) (found : Option Header) → option_map (span_in file) found ≡ None → found ≡ None
 no_span file None e = refl
 no_span file (Some found) e = absurd (cc)
 
-module _ (replaces : ReplacesBlock) (inserts : InsertsBlock) (replaces_beside : ReplacesNeighbour) (inserts_beside : InsertsNeighbour) where
-  keeps_file : (style : Style) (how : How) (additions : Additions) (file : List ℕ) (edit : header.Edit) → header.annotation_of style how additions file ≡ Ok edit
+module _ (replaces : ReplacesBlock) (inserts : InsertsBlock) (replaces_beside : ReplacesNeighbour)
+    (inserts_beside : InsertsNeighbour) where
+  keeps_file : (style : Style) (how : How) (additions : Additions) (file : List ℕ) (edit : header.Edit)
+      → header.annotation_of style how additions file ≡ Ok edit
       → KeepsOthers (block_replaced how style file) file (header.edited file edit)
-  keeps_file style how additions file edit h = of_block how.replace refl (option_map (span_in file) (header_of style file)) refl
+  keeps_file style how additions file edit h =
+      of_block how.replace refl (option_map (span_in file) (header_of style file)) refl
     where
       put : (how.replace ≡ false) ⊎ (header_of style file ≡ None) → KeepsOthers None file (header.edited file edit)
-      put none = let new = inserts style how additions file edit none h in (place_in file (body_lines style (file_lines file)), (header.new_bytes edit, new.made))
+      put none = let new = inserts style how additions file edit none h in
+          (place_in file (body_lines style (file_lines file)), (header.new_bytes edit, new.made))
 
-      of_block : (b : Bool) → how.replace ≡ b → (found : Option HeaderSpan) → option_map (span_in file) (header_of style file) ≡ found
+      of_block : (b : Bool) → how.replace ≡ b → (found : Option HeaderSpan)
+          → option_map (span_in file) (header_of style file) ≡ found
           → KeepsOthers (cond b found None) file (header.edited file edit)
       of_block false e found k = put (inl e)
       of_block true e None k = put (inr (no_span file (header_of style file) k))
       of_block true e (Some span) k = (edit.text, replaces style how additions file edit span e h k)
 
-  keeps_neighbour : (how : How) (additions : Additions) (file : List ℕ) (edit : header.Edit) → neighbour_annotation_of how additions file ≡ Ok edit
+  keeps_neighbour : (how : How) (additions : Additions) (file : List ℕ) (edit : header.Edit)
+      → neighbour_annotation_of how additions file ≡ Ok edit
       → IsSameAround (mark_len_of file) (part_replaced how file) file (header.edited file edit)
   keeps_neighbour how additions file edit h = of_test how.replace refl
     where
-      of_test : (b : Bool) → how.replace ≡ b → IsSameAround (mark_len_of file) (cond b (neighbour_end file) (mark_len_of file)) file (header.edited file edit)
+      of_test : (b : Bool) → how.replace ≡ b → IsSameAround (mark_len_of file)
+          (cond b (neighbour_end file) (mark_len_of file)) file (header.edited file edit)
       of_test true e = (edit.text, replaces_beside how additions file edit e h)
       of_test false e = (header.new_bytes edit, (inserts_beside how additions file edit e h).made)
 
   -- ---- one file
 
-  module _ (additions : Additions) (how : How) (scope : Scope) (own : OwnNames) (tree : Files) (path bytes : List ℕ) (here : get tree path ≡ Some bytes) where
+  module _ (additions : Additions) (how : How) (scope : Scope) (own : OwnNames) (tree : Files) (path bytes : List ℕ)
+      (here : get tree path ≡ Some bytes) where
     abbrev old : Pair
     old = pair_at tree path
 
@@ -244,14 +301,18 @@ module _ (replaces : ReplacesBlock) (inserts : InsertsBlock) (replaces_beside : 
 
     abbrev Becomes : Pair → Type 0
     Becomes new = (IsSkipped scope own path bytes old × (new ≡ old))
-        ⊎ (¬ (IsSkipped scope own path bytes old) × (IsCommented additions how scope own path bytes old new ⊎ IsAccompanied additions how scope own path bytes old new))
+        ⊎ (¬ (IsSkipped scope own path bytes old) × (IsCommented additions how scope own path bytes old new
+        ⊎ IsAccompanied additions how scope own path bytes old new))
 
-    skipped : (given : Option Edit) → None ≡ given → IsSkipped scope own path bytes old → Becomes (pair_then tree given path)
+    skipped : (given : Option Edit) → None ≡ given → IsSkipped scope own path bytes old
+        → Becomes (pair_then tree given path)
     skipped given none is = subst (λ x. Becomes (pair_then tree x path)) none (inl (is, refl))
 
     -- it is commented, unless it is skipped
-    commented : (style : Style) → TakesTo (Inside style) → (scope.skip_existing && is_some (header_of style bytes)) ≡ false → (given : Option Edit)
-        → edit_by path path bytes (header.annotation_of style how additions bytes) ≡ Ok given → Becomes (pair_then tree given path)
+    commented : (style : Style) → TakesTo (Inside style)
+        → (scope.skip_existing && is_some (header_of style bytes)) ≡ false → (given : Option Edit)
+        → edit_by path path bytes (header.annotation_of style how additions bytes) ≡ Ok given
+        → Becomes (pair_then tree given path)
     commented style reason kept given h =
         let made = makes_by path path bytes (header.annotation_of style how additions bytes) given h in
         inr (
@@ -262,13 +323,16 @@ module _ (replaces : ReplacesBlock) (inserts : InsertsBlock) (replaces_beside : 
             made = header.edited bytes made.0;
             by_rules = ap (header.made_by bytes) made.1;
             holds = ap₂ pair (then_here tree path bytes (header.edited bytes made.0) given made.2 here)
-                (then_other tree path bytes (header.edited bytes made.0) given (neighbour_of path) made.2 (λ same. apart path (sym same)) ∙ reason.alone);
+                (then_other tree path bytes (header.edited bytes made.0) given (neighbour_of path) made.2
+                (λ same. apart path (sym same)) ∙ reason.alone);
             keeps = keeps_file style how additions bytes made.0 made.1;
           }),
         )
 
-    inside : (style : Style) → TakesTo (Inside style) → (b : Bool) → (scope.skip_existing && is_some (header_of style bytes)) ≡ b → (given : Option Edit)
-        → cond b (done None) (edit_by path path bytes (header.annotation_of style how additions bytes)) ≡ Ok given → Becomes (pair_then tree given path)
+    inside : (style : Style) → TakesTo (Inside style) → (b : Bool)
+        → (scope.skip_existing && is_some (header_of style bytes)) ≡ b → (given : Option Edit)
+        → cond b (done None) (edit_by path path bytes (header.annotation_of style how additions bytes)) ≡ Ok given
+        → Becomes (pair_then tree given path)
     inside style reason true e given h =
         let tests = and_parts scope.skip_existing (is_some (header_of style bytes)) e in
         skipped given (same_Ok None given h) (inr (tests.0, inl (style, reason, tests.1)))
@@ -278,64 +342,89 @@ module _ (replaces : ReplacesBlock) (inserts : InsertsBlock) (replaces_beside : 
     abbrev IsBeside : Option (List ℕ) → Pair → Type 0
     IsBeside file new = IsAccompanied additions how scope own path bytes (pair (get tree path) file) new
 
-    accompanied : (file : Option (List ℕ)) → get tree (neighbour_of path) ≡ file → TakesTo Beside → ¬ (IsSkipped scope own path bytes old) → (given : Option Edit) (edit : header.Edit)
-        → neighbour_annotation_of how additions (unwrap_or file []) ≡ Ok edit → IsEditTo (neighbour_of path) (unwrap_or file []) (header.edited (unwrap_or file []) edit) given
-        → file_then tree given (neighbour_of path) ≡ file_written file (header.edited (unwrap_or file []) edit) → Becomes (pair_then tree given path)
-    accompanied file is reason unskipped given edit due makes written = inr (
+    accompanied : (file : Option (List ℕ)) → get tree (neighbour_of path) ≡ file → TakesTo InNeighbour
+        → ¬ (IsSkipped scope own path bytes old) → (given : Option Edit) (edit : header.Edit)
+        → neighbour_annotation_of how additions (unwrap_or file []) ≡ Ok edit
+        → IsEditTo (neighbour_of path) (unwrap_or file []) (header.edited (unwrap_or file []) edit) given
+        → file_then tree given (neighbour_of path) ≡ file_written file (header.edited (unwrap_or file []) edit)
+        → Becomes (pair_then tree given path)
+    accompanied file is reason unskipped given edit expected makes written = inr (
       unskipped,
       inr (subst (λ f. IsBeside f (pair_then tree given path)) (sym is) (record {
         takes = subst (λ f. TakesNeighbour scope own path bytes (pair (get tree path) f)) is reason;
         made = header.edited (unwrap_or file []) edit;
-        by_rules = ap (header.made_by (unwrap_or file [])) due;
-        holds = ap₂ pair (then_other tree (neighbour_of path) (unwrap_or file []) (header.edited (unwrap_or file []) edit) given path makes (apart path)) written;
-        keeps = keeps_neighbour how additions (unwrap_or file []) edit due;
+        by_rules = ap (header.made_by (unwrap_or file [])) expected;
+        holds = ap₂ pair (then_other tree (neighbour_of path) (unwrap_or file [])
+            (header.edited (unwrap_or file []) edit) given path makes (apart path)) written;
+        keeps = keeps_neighbour how additions (unwrap_or file []) edit expected;
       })),
     )
 
-    beside_there : (beside : List ℕ) → get tree (neighbour_of path) ≡ Some beside → TakesTo Beside → (b : Bool) → (scope.skip_existing && neighbour_is_tagged beside) ≡ b → (given : Option Edit)
-        → cond b (done None) (edit_by path (neighbour_of path) beside (neighbour_annotation_of how additions beside)) ≡ Ok given → Becomes (pair_then tree given path)
+    beside_there : (beside : List ℕ) → get tree (neighbour_of path) ≡ Some beside → TakesTo InNeighbour → (b : Bool)
+        → (scope.skip_existing && neighbour_is_tagged beside) ≡ b → (given : Option Edit)
+        → cond b (done None) (edit_by path (neighbour_of path) beside (neighbour_annotation_of how additions beside))
+        ≡ Ok given → Becomes (pair_then tree given path)
     beside_there beside is reason true e given h =
         let tests = and_parts scope.skip_existing (neighbour_is_tagged beside) e in
         skipped given (same_Ok None given h) (inr (tests.0, inr (beside, is, tests.1)))
     beside_there beside is reason false e given h =
         let made = makes_by path (neighbour_of path) beside (neighbour_annotation_of how additions beside) given h in
-        let kept = λ (other : List ℕ) (there : get tree (neighbour_of path) ≡ Some other). subst (λ f. (scope.skip_existing && neighbour_is_tagged f) ≡ false) (same_Some beside other (sym is ∙ there)) e in
-        accompanied (Some beside) is reason (beside_not_skipped scope own path bytes old reason kept) given made.0 made.1 made.2 (then_here tree (neighbour_of path) beside (header.edited beside made.0) given made.2 is)
+        let kept = λ (other : List ℕ) (there : get tree (neighbour_of path) ≡ Some other). subst
+        (λ f. (scope.skip_existing && neighbour_is_tagged f) ≡ false) (same_Some beside other (sym is ∙ there)) e in
+        accompanied (Some beside) is reason (beside_not_skipped scope own path bytes old reason kept) given made.0
+        made.1 made.2 (then_here tree (neighbour_of path) beside (header.edited beside made.0) given made.2 is)
 
-    beside : (file : Option (List ℕ)) → get tree (neighbour_of path) ≡ file → TakesTo Beside → (given : Option Edit) → edit_neighbour how scope additions tree path file ≡ Ok given → Becomes (pair_then tree given path)
+    beside : (file : Option (List ℕ)) → get tree (neighbour_of path) ≡ file → TakesTo InNeighbour
+        → (given : Option Edit) → edit_neighbour how scope additions tree path file ≡ Ok given
+        → Becomes (pair_then tree given path)
     beside None is reason given h =
-        let free = err_or (is_clash tree (neighbour_of path)) (refusals.Clash (neighbour_of path)) (edit_by path (neighbour_of path) [] (neighbour_annotation_of how additions [])) given h in
+        let free = err_or (is_clash tree (neighbour_of path)) (refusals.Clash (neighbour_of path))
+        (edit_by path (neighbour_of path) [] (neighbour_annotation_of how additions [])) given h in
         let made = makes_by path (neighbour_of path) [] (neighbour_annotation_of how additions []) given free.1 in
-        let kept = λ (other : List ℕ) (there : get tree (neighbour_of path) ≡ Some other). absurd (none-some other (sym is ∙ there)) in
-        accompanied None is reason (beside_not_skipped scope own path bytes old reason kept) given made.0 made.1 made.2 (then_made tree (neighbour_of path) (header.edited [] made.0) given made.2 is)
+        let kept = λ (other : List ℕ) (there : get tree (neighbour_of path) ≡ Some other). absurd
+        (none-some other (sym is ∙ there)) in
+        accompanied None is reason (beside_not_skipped scope own path bytes old reason kept) given made.0 made.1 made.2
+        (then_made tree (neighbour_of path) (header.edited [] made.0) given made.2 is)
     beside (Some there) is reason given h =
-        let short = err_or (nat_lt LONGEST_FILE (length there)) (refusals.TooLong path) (cond (scope.skip_existing && neighbour_is_tagged there) (done None) (edit_by path (neighbour_of path) there (neighbour_annotation_of how additions there))) given h in
+        let short = err_or (nat_lt LONGEST_FILE (length there)) (refusals.TooLong path)
+        (cond (scope.skip_existing && neighbour_is_tagged there) (done None)
+        (edit_by path (neighbour_of path) there (neighbour_annotation_of how additions there))) given h in
         beside_there there is reason (scope.skip_existing && neighbour_is_tagged there) refl given short.1
 
-    by_target : (target : Target) → TakesTo target → (given : Option Edit) → edit_target how scope additions tree path bytes (Ok target) ≡ Ok given → Becomes (pair_then tree given path)
-    by_target (Inside style) reason given h = inside style reason (scope.skip_existing && is_some (header_of style bytes)) refl given h
-    by_target Beside reason given h =
-        let short = err_or (nat_lt 4096 (length (neighbour_of path))) (refusals.TooLong path) (edit_neighbour how scope additions tree path (get tree (neighbour_of path))) given h in
+    by_target : (target : Target) → TakesTo target → (given : Option Edit)
+        → edit_target how scope additions tree path bytes (Ok target) ≡ Ok given → Becomes (pair_then tree given path)
+    by_target (Inside style) reason given h =
+        inside style reason (scope.skip_existing && is_some (header_of style bytes)) refl given h
+    by_target InNeighbour reason given h =
+        let short = err_or (nat_lt 4096 (length (neighbour_of path))) (refusals.TooLong path)
+        (edit_neighbour how scope additions tree path (get tree (neighbour_of path))) given h in
         beside (get tree (neighbour_of path)) refl reason given short.1
     by_target Nowhere reason given h = skipped given (same_Ok None given h) (inl reason)
 
-    becomes : (aim : Result Target Refusal) → ((target : Target) → aim ≡ Ok target → TakesTo target) → (given : Option Edit) → edit_target how scope additions tree path bytes aim ≡ Ok given → Becomes (pair_then tree given path)
+    becomes : (aim : Result Target Refusal) → ((target : Target) → aim ≡ Ok target → TakesTo target)
+        → (given : Option Edit) → edit_target how scope additions tree path bytes aim ≡ Ok given
+        → Becomes (pair_then tree given path)
     becomes (Err refusal) reason given h = absurd (cc)
     becomes (Ok target) reason given h = by_target target (reason target refl) given h
 
   -- what is done at a path
-  pub annotated_there : (additions : Additions) (how : How) (scope : Scope) (own : OwnNames) (tree : Files) (path : List ℕ) (given : Option Edit) → annotated_at how scope additions own tree path ≡ Ok given
+  pub annotated_there : (additions : Additions) (how : How) (scope : Scope) (own : OwnNames) (tree : Files)
+      (path : List ℕ) (given : Option Edit) → annotated_at how scope additions own tree path ≡ Ok given
       → IsAnnotated additions how scope own path (pair_at tree path) (pair_then tree given path)
   annotated_there additions how scope own tree path given h = of_file (get tree path) refl h
     where
-      of_file : (file : Option (List ℕ)) → get tree path ≡ file → annotated_where how scope additions own tree path file ≡ Ok given
+      of_file : (file : Option (List ℕ)) → get tree path ≡ file
+          → annotated_where how scope additions own tree path file ≡ Ok given
           → IsAnnotated additions how scope own path (pair_at tree path) (pair_then tree given path)
-      of_file None is k = absurd (both_err (is_folder tree path) (refusals.IsFolder (place.Path path)) (refusals.NoSuchPath path) given k)
+      of_file None is k = absurd
+          (both_err (is_folder tree path) (refusals.IsFolder (place.Path path)) (refusals.NoSuchPath path) given k)
       of_file (Some bytes) is k =
-          let covered = err_or (not (is_covered path)) (refusals.NotCovered path) (edit_target how scope additions tree path bytes (target_of scope own tree path bytes)) given k in
+          let covered = err_or (not (is_covered path)) (refusals.NotCovered path)
+          (edit_target how scope additions tree path bytes (target_of scope own tree path bytes)) given k in
           record {
             bytes = bytes;
             there = is;
             covered = not-false (is_covered path) covered.0;
-            becomes = becomes additions how scope own tree path bytes is (target_of scope own tree path bytes) (takes scope own tree path bytes (goes_beside scope own tree path) refl) given covered.1;
+            becomes = becomes additions how scope own tree path bytes is (target_of scope own tree path bytes)
+                (takes scope own tree path bytes (goes_to_neighbour scope own tree path) refl) given covered.1;
           }

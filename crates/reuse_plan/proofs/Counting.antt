@@ -1,5 +1,6 @@
 -- What a call counts while it plans.
-use Rattle.std.proofs.Common.{◌≡◌, ◌∙◌, suc, Bool, true, false, cond, List, [], ◌∷◌, ◌++◌, map, Result, Ok, Err, OnOk, refl, sym, ap, subst}
+use Rattle.std.proofs.Common.{◌≡◌, ◌∙◌, suc, Bool, true, false, cond, List, [], ◌∷◌, ◌++◌, map, Result, Ok, Err, OnOk}
+use Rattle.std.proofs.Common.{refl, sym, ap, subst}
 use Rattle.reuse_change.specs.Files.{Files}
 use Rattle.reuse_plan.specs.Counted.{skipped_count, skipped_planned}
 use Rattle.reuse_plan.specs.PathOutcomes.{path_outcome_of, path_outcomes_of, limit_path_outcomes}
@@ -33,7 +34,8 @@ none_at_limit (Ok edits) = by_size (is_too_many edits)
     by_size true = refl
     by_size false = refl
 
-none_behind : (path_outcomes others : List PathOutcome) → skipped_count others ≡ 0 → skipped_count (path_outcomes ++ others) ≡ skipped_count path_outcomes
+none_behind : (path_outcomes others : List PathOutcome) → skipped_count others ≡ 0
+    → skipped_count (path_outcomes ++ others) ≡ skipped_count path_outcomes
 none_behind [] others none = none
 none_behind (path_outcome.Changes path ∷ path_outcomes) others none = none_behind path_outcomes others none
 none_behind (path_outcome.Unchanged path ∷ path_outcomes) others none = none_behind path_outcomes others none
@@ -41,12 +43,14 @@ none_behind (path_outcome.Skipped path ∷ path_outcomes) others none = ap suc (
 none_behind (path_outcome.Refused refusal ∷ path_outcomes) others none = none_behind path_outcomes others none
 
 -- the plans of a command skip as many files as its path outcomes say
-pub skips_are : (policy : Policy) (command : Command) (tree : Files) (plans : List PathPlan) → ArePlansOf policy tree (path_edits_of command tree) plans → skipped_planned plans ≡ skipped_count (path_outcomes_of command tree)
+pub skips_are : (policy : Policy) (command : Command) (tree : Files) (plans : List PathPlan) → ArePlansOf policy tree
+    (path_edits_of command tree) plans → skipped_planned plans ≡ skipped_count (path_outcomes_of command tree)
 unfolding path_outcomes_of
 skips_are policy command tree plans are =
     let all = path_edits_of command tree in
     skips_planned plans ∙ ap skipped_count (path_outcomes_are policy tree all plans are)
-    ∙ sym (none_behind (map path_outcome_of all) (limit_path_outcomes (edits_of command tree)) (none_at_limit (edits_of command tree)))
+    ∙ sym (none_behind (map path_outcome_of all) (limit_path_outcomes (edits_of command tree))
+    (none_at_limit (edits_of command tree)))
 
 -- ---- sessions
 
@@ -56,5 +60,6 @@ on_ok (Ok value) Claim is = is
 on_ok (Err refusal) Claim is = tt
 
 -- what is so of an answer that is no refusal
-pub of_ok : {A B : Type 0} (result : Result A B) (value : A) (Claim : Type 0) → result ≡ Ok value → OnOk result Claim → Claim
+pub of_ok : {A B : Type 0} (result : Result A B) (value : A) (Claim : Type 0) → result ≡ Ok value
+    → OnOk result Claim → Claim
 of_ok result value Claim is so = subst (λ r. OnOk r Claim) is so

@@ -1,10 +1,14 @@
 -- The edits of an annotation: each at a file of the tree or its neighbour, of distinct paths, none a folder of another.
-use Rattle.std.proofs.Common.{◌≡◌, ◌⊎◌, inl, inr, ℕ, ◌+◌, ◌-◌, ◌≤◌, Bool, true, false, cond, not, ◌||◌, ◌&&◌, ◌==◌, nat_eq, nat_lt, List, [], ◌∷◌, ◌++◌, codes, length, reverse, take, drop, Less, Option, Some, None, IsSome, is_some, Result, Ok, Err, refl, sym, ap, ap₂, subst, ◌∙◌, arith, length-append, length-drop, drop_at, flat_map, bytes_eq}
+use Rattle.std.proofs.Common.{◌≡◌, ◌⊎◌, inl, inr, ℕ, ◌+◌, ◌-◌, ◌≤◌, Bool, true, false, cond, not, ◌||◌, ◌&&◌, ◌==◌}
+use Rattle.std.proofs.Common.{nat_eq, nat_lt, List, [], ◌∷◌, ◌++◌, codes, length, reverse, take, drop, Less, Option}
+use Rattle.std.proofs.Common.{Some, None, IsSome, is_some, Result, Ok, Err, refl, sym, ap, ap₂, subst, ◌∙◌, arith}
+use Rattle.std.proofs.Common.{length-append, length-drop, drop_at, flat_map, bytes_eq}
 use Rattle.std.specs.Ordering.{nat_cmp}
 use Rattle.std.specs.Cmp.Lexicographic.{slice_cmp, pointwise}
 use Rattle.std.specs.List.{AllByRecursion, IsDistinct, list_any, ends_with, suffix_len, prefix_len}
 use Rattle.std.specs.FinMap.{get}
-use Rattle.std.proofs.lemmas.Bool.{false≢true, false_from_ne_true, not-false, or_cases, or_from, or_parts, or_right, ltb-false}
+use Rattle.std.proofs.lemmas.Bool.{false≢true, false_from_ne_true, not-false, or_cases, or_from, or_parts, or_right}
+use Rattle.std.proofs.lemmas.Bool.{ltb-false}
 use Rattle.std.proofs.lemmas.List.{drop-drop, reverse-append}
 use Rattle.std.proofs.lemmas.List.Sums.{suffix_len-le-length}
 use Rattle.std.proofs.lemmas.Map.Keys.{IsDistinct-cons, sorted_head, sorted_tail}
@@ -21,8 +25,9 @@ use Rattle.reuse_change.specs.Path.{is_path, lies_under, journal_folder}
 use Rattle.reuse_change.specs.Files.{Files, AreFiles}
 use Rattle.reuse_text.specs.declared.TheConstants.{LONGEST_FILE}
 use Rattle.reuse_plan.specs.Amend.{amended_at}
-use Rattle.reuse_plan.specs.Annotate.{neighbour_of, neighbour_is_tagged, target_of, edit_by, edit_inside, edit_neighbour, edit_beside, edit_target, annotated_where, annotated_at}
-use Rattle.reuse_plan.specs.Annotations.{Due}
+use Rattle.reuse_plan.specs.Annotate.{neighbour_of, neighbour_is_tagged, target_of, edit_by, edit_inside}
+use Rattle.reuse_plan.specs.Annotate.{edit_neighbour, edit_of_neighbour, edit_target, annotated_where, annotated_at}
+use Rattle.reuse_plan.specs.Annotations.{Expected}
 use Rattle.reuse_change.specs.Clash.{is_clash}
 use Rattle.reuse_command.specs.Command.{has_root, paths_among, HoldsEntry}
 use Rattle.reuse_command.specs.Covered.{last_part, is_in, is_outside, has_stem, is_covered}
@@ -37,11 +42,12 @@ use Rattle.reuse_command.specs.declared.command.Place.{Place}
 use Rattle.reuse_command.specs.declared.command.Place.TheVariants as place
 use Rattle.reuse_command.specs.declared.command.Scope.{Scope}
 use Rattle.reuse_plan.specs.declared.target.Target.{Target}
-use Rattle.reuse_plan.specs.declared.target.Target.TheVariants.{Inside, Beside, Nowhere}
+use Rattle.reuse_plan.specs.declared.target.Target.TheVariants.{Inside, InNeighbour, Nowhere}
 use Rattle.reuse_command.specs.declared.reply.Refusal.{Refusal}
 use Rattle.reuse_command.specs.declared.reply.Refusal.TheVariants as refusals
 use Rattle.reuse_plan.proofs.Amending.{IsInside, IsBeside, IsTable, AmendsThere, amends_there}
-use Rattle.reuse_plan.proofs.Annotating.{starts_reuse, and_all, covered_of_tree, first_is, no_edits, all_edits, both_err, if_not}
+use Rattle.reuse_plan.proofs.Annotating.{starts_reuse, and_all, covered_of_tree, first_is, no_edits, all_edits}
+use Rattle.reuse_plan.proofs.Annotating.{both_err, if_not}
 use Rattle.reuse_plan.proofs.Converting.{conversion_fits}
 use Rattle.reuse_plan.proofs.Downloading.{download_fits}
 use Rattle.reuse_plan.proofs.EditOrder.{AreFit}
@@ -53,7 +59,8 @@ use Rattle.reuse_store.proofs.Testing.{clashes_keys}
 use Rattle.reuse_plan.proofs.Outcomes.{some_edit, same_edit, unskipped}
 use Rattle.std.proofs.Math.Seq.{take-append_seam}
 use Rattle.reuse_plan.proofs.Results.{err_or}
-use Rattle.reuse_plan.proofs.CommandEdits.{edits_at, edits_by_names, amendments_by_names, of_annotation, of_amendment, of_conversion, of_download, of_revert}
+use Rattle.reuse_plan.proofs.CommandEdits.{edits_at, edits_by_names, amendments_by_names, of_annotation, of_amendment}
+use Rattle.reuse_plan.proofs.CommandEdits.{of_conversion, of_download, of_revert}
 use Rattle.reuse_plan.proofs.TableLemmas.{IsWorkable}
 
 -- ---- names of neighbours
@@ -72,10 +79,13 @@ name_ends path =
     let at = length (path ++ ending) - kept in
     let name = drop at (path ++ ending) in
     let low : kept ≤ length (path ++ ending) = suffix_len-le-length (λ byte. not (is_slash byte)) (path ++ ending) in
-    let some : kept ≡ 1 + (1 + (1 + (1 + (1 + (1 + (1 + (1 + prefix_len (λ byte. not (is_slash byte)) (reverse path)))))))) = ap (prefix_len (λ byte. not (is_slash byte))) (reverse-append path ending) in
+    let some : kept
+    ≡ 1 + (1 + (1 + (1 + (1 + (1 + (1 + (1 + prefix_len (λ byte. not (is_slash byte)) (reverse path)))))))) =
+    ap (prefix_len (λ byte. not (is_slash byte))) (reverse-append path ending) in
     let size = length-append path ending in
     let left : length path ≡ at + (length name - 8) = omega (arith, low, some, size, length-drop at (path ++ ending)) in
-    ap (pointwise nat_eq ending) (drop-drop (length name - 8) at (path ++ ending) ∙ drop_at path ending (at + (length name - 8)) left)
+    ap (pointwise nat_eq ending)
+    (drop-drop (length name - 8) at (path ++ ending) ∙ drop_at path ending (at + (length name - 8)) left)
 
 outer_name : (a b c d e f g : Bool) → b ≡ true → (not a && not (b || c || d || e || f || g)) ≡ false
 outer_name true true c d e f g h = refl
@@ -86,8 +96,10 @@ outer_name a false c d e f g h = absurd (false≢true h)
 pub uncovered_neighbour : (path : List ℕ) → is_covered (path ++ ending) ≡ false
 uncovered_neighbour path =
     let name = last_part (path ++ ending) in
-    outer_name (is_outside (path ++ ending)) (ends_with nat_eq name ending) (ends_with nat_eq name (codes ".spdx")) (bytes_eq name (codes "REUSE.toml"))
-    (has_stem (codes "LICENSE") name) (has_stem (codes "LICENCE") name) (has_stem (codes "COPYING") name) (name_ends path)
+    outer_name (is_outside (path ++ ending)) (ends_with nat_eq name ending) (ends_with nat_eq name (codes ".spdx"))
+    (bytes_eq name (codes "REUSE.toml"))
+    (has_stem (codes "LICENSE") name) (has_stem (codes "LICENCE") name) (has_stem (codes "COPYING") name)
+    (name_ends path)
 
 heads : (x y : ℕ) (xs ys : List ℕ) → x ∷ xs ≡ y ∷ ys → x ≡ y
 heads x y xs ys e = cc
@@ -108,12 +120,14 @@ cut (x ∷ path) (y ∷ folder) rest e =
     (c.0, ap₂ (λ n l. n ∷ l) (heads x y (path ++ ending) (folder ++ 47 ∷ rest) e) c.1)
 
 under_file : (path folder : List ℕ) → lies_under (path ++ ending) folder ≡ true → lies_under path folder ≡ true
-under_file path folder h = let u = under_from_test (path ++ ending) folder h in test_from_under path folder (cut path folder u.0 u.1)
+under_file path folder h = let u = under_from_test (path ++ ending) folder h in
+    test_from_under path folder (cut path folder u.0 u.1)
 
 pub same_file : (path other : List ℕ) → path ++ ending ≡ other ++ ending → path ≡ other
 same_file path other e =
     let size = ap length e in
-    let long : length path ≡ length other = omega (arith, size, length-append path ending, length-append other ending) in
+    let long : length path ≡ length other =
+    omega (arith, size, length-append path ending, length-append other ending) in
     sym (take-append_seam path ending) ∙ ap₂ take long e ∙ take-append_seam other ending
 
 in_reuse : (path rest : List ℕ) → is_covered path ≡ true → path ++ ending ≡ codes ".reuse" ++ 47 ∷ rest → ⊥
@@ -124,12 +138,16 @@ in_reuse path rest covered e =
 -- a covered file's neighbour is of the tree
 pub neighbour_of_tree : (path : List ℕ) → is_covered path ≡ true → is_of_tree (path ++ ending) ≡ true
 neighbour_of_tree path covered =
-    and_all (bytes_eq (path ++ ending) (codes ".reuse")) (bytes_eq (path ++ ending) journal_folder) (lies_under (path ++ ending) journal_folder)
-    (false_from_ne_true _ (λ e. let size = ap length ((bytes_eq-Decides (path ++ ending) (codes ".reuse")).0 e) in omega (arith, size, length-append path ending)))
-    (false_from_ne_true _ (λ e. in_reuse path (codes "undo") covered ((bytes_eq-Decides (path ++ ending) journal_folder).0 e)))
-    (false_from_ne_true _ (λ e. let u = under_from_test (path ++ ending) journal_folder e in in_reuse path (codes "undo" ++ 47 ∷ u.0) covered u.1))
+    and_all (bytes_eq (path ++ ending) (codes ".reuse")) (bytes_eq (path ++ ending) journal_folder)
+    (lies_under (path ++ ending) journal_folder)
+    (false_from_ne_true _ (λ e. let size = ap length ((bytes_eq-Decides (path ++ ending) (codes ".reuse")).0 e) in
+    omega (arith, size, length-append path ending)))
+    (false_from_ne_true _
+    (λ e. in_reuse path (codes "undo") covered ((bytes_eq-Decides (path ++ ending) journal_folder).0 e)))
+    (false_from_ne_true _ (λ e. let u = under_from_test (path ++ ending) journal_folder e in
+    in_reuse path (codes "undo" ++ 47 ∷ u.0) covered u.1))
 
--- ---- the paths that are worked
+-- ---- the paths that are selected
 
 -- they are of the tree, with their neighbours
 workable_of_tree : (path : List ℕ) → IsWorkable path → is_of_tree path ≡ true
@@ -143,37 +161,45 @@ beside_of_tree path (inr table) = ap (λ p. is_of_tree (p ++ ending)) table
 -- and none is a neighbour
 pub no_neighbour : (path other : List ℕ) → IsWorkable path → path ≡ other ++ ending → ⊥
 no_neighbour path other (inl covered) e = false≢true (sym (uncovered_neighbour other) ∙ ap is_covered (sym e) ∙ covered)
-no_neighbour path other (inr table) e = false≢true (ap (λ p. ends_with nat_eq (last_part p) ending) (sym table ∙ e) ∙ name_ends other)
+no_neighbour path other (inr table) e =
+    false≢true (ap (λ p. ends_with nat_eq (last_part p) ending) (sym table ∙ e) ∙ name_ends other)
 
 -- ---- where an edit is
 
--- it is of a file of the tree that is worked, or of that one's neighbour, which clashes with no file if it is made
+-- it is of a file of the tree that is selected, or of that one's neighbour, which clashes with no file if it is made
 pub record IsPlaced (tree : Files) (path : List ℕ) (edit : Edit) : Type 0 where
   pub there : IsSome (get tree path)
   pub workable : IsWorkable path
-  pub placed : (edit.path ≡ path) ⊎ ((edit.path ≡ path ++ ending) × (length edit.path ≤ 4096) × (get tree edit.path ≡ None → is_clash tree edit.path ≡ false))
+  pub placed : (edit.path ≡ path) ⊎ ((edit.path ≡ path ++ ending) × (length edit.path ≤ 4096)
+      × (get tree edit.path ≡ None → is_clash tree edit.path ≡ false))
 
-edit_at : (path at bytes : List ℕ) (due : Due) (edit : Edit) → edit_by path at bytes due ≡ some_edit edit → edit.path ≡ at
+edit_at : (path at bytes : List ℕ) (expected : Expected) (edit : Edit) → edit_by path at bytes expected ≡ some_edit edit
+    → edit.path ≡ at
 edit_at path at bytes (Err refusal) edit e = absurd (cc)
 edit_at path at bytes (Ok one) edit e =
     let made = (unskipped (bytes_eq (header.edited bytes one) bytes) _ edit e).1 in
     ap (λ (x : Edit). x.path) (sym (same_edit _ edit made))
 
 module _ (how : How) (scope : Scope) (additions : Additions) (tree : Files) (path : List ℕ) (edit : Edit) where
-  inside_at : (bytes : List ℕ) (style : Style) → edit_inside how scope additions path bytes style ≡ some_edit edit → edit.path ≡ path
-  inside_at bytes style e = edit_at path path bytes (header.annotation_of style how additions bytes) edit (unskipped (scope.skip_existing && is_some (header_of style bytes)) _ edit e).1
+  inside_at : (bytes : List ℕ) (style : Style) → edit_inside how scope additions path bytes style ≡ some_edit edit
+      → edit.path ≡ path
+  inside_at bytes style e = edit_at path path bytes (header.annotation_of style how additions bytes) edit
+      (unskipped (scope.skip_existing && is_some (header_of style bytes)) _ edit e).1
 
-  neighbour_at : (file : Option (List ℕ)) → edit_neighbour how scope additions tree path file ≡ some_edit edit → (edit.path ≡ neighbour_of path) × (file ≡ None → is_clash tree (neighbour_of path) ≡ false)
+  neighbour_at : (file : Option (List ℕ)) → edit_neighbour how scope additions tree path file ≡ some_edit edit
+      → (edit.path ≡ neighbour_of path) × (file ≡ None → is_clash tree (neighbour_of path) ≡ false)
   neighbour_at None e =
       let h = err_or (is_clash tree (neighbour_of path)) (refusals.Clash (neighbour_of path)) _ (Some edit) e in
       (edit_at path (neighbour_of path) [] (neighbour_annotation_of how additions []) edit h.1, λ none. h.0)
   neighbour_at (Some bytes) e =
       let h = err_or (nat_lt LONGEST_FILE (length bytes)) (refusals.TooLong path) _ (Some edit) e in (
-        edit_at path (neighbour_of path) bytes (neighbour_annotation_of how additions bytes) edit (unskipped (scope.skip_existing && neighbour_is_tagged bytes) _ edit h.1).1,
+        edit_at path (neighbour_of path) bytes (neighbour_annotation_of how additions bytes) edit
+            (unskipped (scope.skip_existing && neighbour_is_tagged bytes) _ edit h.1).1,
         λ none. absurd (cc),
       )
 
-  beside_at : edit_beside how scope additions tree path ≡ some_edit edit → (edit.path ≡ path ++ ending) × (length edit.path ≤ 4096) × (get tree edit.path ≡ None → is_clash tree edit.path ≡ false)
+  beside_at : edit_of_neighbour how scope additions tree path ≡ some_edit edit → (edit.path ≡ path ++ ending)
+      × (length edit.path ≤ 4096) × (get tree edit.path ≡ None → is_clash tree edit.path ≡ false)
   beside_at e =
       let h = err_or (nat_lt 4096 (length (neighbour_of path))) (refusals.TooLong path) _ (Some edit) e in
       let n = neighbour_at (get tree (neighbour_of path)) h.1 in (
@@ -182,37 +208,52 @@ module _ (how : How) (scope : Scope) (additions : Additions) (tree : Files) (pat
         subst (λ p. get tree p ≡ None → is_clash tree p ≡ false) (sym n.0) n.1,
       )
 
-  target_at : (bytes : List ℕ) (target : Result Target Refusal) → edit_target how scope additions tree path bytes target ≡ some_edit edit
-      → (edit.path ≡ path) ⊎ ((edit.path ≡ path ++ ending) × (length edit.path ≤ 4096) × (get tree edit.path ≡ None → is_clash tree edit.path ≡ false))
+  target_at : (bytes : List ℕ) (target : Result Target Refusal)
+      → edit_target how scope additions tree path bytes target ≡ some_edit edit
+      → (edit.path ≡ path) ⊎ ((edit.path ≡ path ++ ending) × (length edit.path ≤ 4096)
+      × (get tree edit.path ≡ None → is_clash tree edit.path ≡ false))
   target_at bytes (Err refusal) e = absurd (cc)
   target_at bytes (Ok Nowhere) e = absurd (cc)
-  target_at bytes (Ok Beside) e = inr (beside_at e)
+  target_at bytes (Ok InNeighbour) e = inr (beside_at e)
   target_at bytes (Ok (Inside style)) e = inl (inside_at bytes style e)
 
-  pub is_placed : (own : OwnNames) → annotated_at how scope additions own tree path ≡ some_edit edit → IsPlaced tree path edit
+  pub is_placed : (own : OwnNames) → annotated_at how scope additions own tree path ≡ some_edit edit
+      → IsPlaced tree path edit
   is_placed own e = of_file (get tree path) refl e
     where
-      of_file : (file : Option (List ℕ)) → get tree path ≡ file → annotated_where how scope additions own tree path file ≡ some_edit edit → IsPlaced tree path edit
-      of_file None is h = absurd (both_err (is_folder tree path) (refusals.IsFolder (place.Path path)) (refusals.NoSuchPath path) (Some edit) h)
+      of_file : (file : Option (List ℕ)) → get tree path ≡ file
+          → annotated_where how scope additions own tree path file ≡ some_edit edit → IsPlaced tree path edit
+      of_file None is h = absurd (both_err (is_folder tree path) (refusals.IsFolder (place.Path path))
+          (refusals.NoSuchPath path) (Some edit) h)
       of_file (Some bytes) is h =
           let k = err_or (not (is_covered path)) (refusals.NotCovered path) _ (Some edit) h in
-          record { there = ap is_some is; workable = inl (not-false (is_covered path) k.0); placed = target_at bytes (target_of scope own tree path bytes) k.1 }
+          record {
+            there = ap is_some is;
+            workable = inl (not-false (is_covered path) k.0);
+            placed = target_at bytes (target_of scope own tree path bytes) k.1;
+          }
 
 -- an amendment is of a file that is there
-pub amendment_placed : (amendments : Amendments) (scope : Scope) (own : OwnNames) (tree : Files) (path : List ℕ) (edit : Edit) → amended_at amendments scope own tree path ≡ some_edit edit → IsPlaced tree path edit
+pub amendment_placed : (amendments : Amendments) (scope : Scope) (own : OwnNames) (tree : Files) (path : List ℕ)
+    (edit : Edit) → amended_at amendments scope own tree path ≡ some_edit edit → IsPlaced tree path edit
 amendment_placed amendments scope own tree path edit e =
     let h = amends_there amendments scope own tree path edit e in
     let same = edit_at path h.at h.bytes (Ok h.one) edit h.by in
     record { there = h.is_file; workable = h.workable; placed = of_place h same h.placed }
   where
-    there : (h : AmendsThere amendments scope own tree path edit) → edit.path ≡ h.at → get tree edit.path ≡ None → is_clash tree edit.path ≡ false
+    there : (h : AmendsThere amendments scope own tree path edit) → edit.path ≡ h.at → get tree edit.path ≡ None
+        → is_clash tree edit.path ≡ false
     there h same none = let no : Some h.bytes ≡ None = sym h.here ∙ ap (get tree) (sym same) ∙ none in absurd (cc)
 
-    of_place : (h : AmendsThere amendments scope own tree path edit) → edit.path ≡ h.at → IsInside amendments scope own tree path h.at h.bytes h.one ⊎ IsBeside amendments path h.at h.bytes h.one ⊎ IsTable path h.at
-        → (edit.path ≡ path) ⊎ ((edit.path ≡ path ++ ending) × (length edit.path ≤ 4096) × (get tree edit.path ≡ None → is_clash tree edit.path ≡ false))
+    of_place : (h : AmendsThere amendments scope own tree path edit) → edit.path ≡ h.at
+        → IsInside amendments scope own tree path h.at h.bytes h.one ⊎ IsBeside amendments path h.at h.bytes h.one
+        ⊎ IsTable path h.at
+        → (edit.path ≡ path) ⊎ ((edit.path ≡ path ++ ending) × (length edit.path ≤ 4096)
+        × (get tree edit.path ≡ None → is_clash tree edit.path ≡ false))
     of_place h same (inl inside) = inl (same ∙ inside.same)
     of_place h same (inr (inr table)) = inl (same ∙ table.same)
-    of_place h same (inr (inl beside)) = inr (same ∙ beside.same, subst (λ p. length p ≤ 4096) (sym (same ∙ beside.same)) beside.few, there h same)
+    of_place h same (inr (inl beside)) =
+        inr (same ∙ beside.same, subst (λ p. length p ≤ 4096) (sym (same ∙ beside.same)) beside.few, there h same)
 
 -- ---- one edit is fit
 
@@ -220,7 +261,8 @@ module _ (tree : Files) (are : AreFiles tree) (path : List ℕ) (edit : Edit) (h
   is_fit : IsFit tree edit
   is_fit = of_place h.placed
     where
-      of_place : (edit.path ≡ path) ⊎ ((edit.path ≡ path ++ ending) × (length edit.path ≤ 4096) × (get tree edit.path ≡ None → is_clash tree edit.path ≡ false)) → IsFit tree edit
+      of_place : (edit.path ≡ path) ⊎ ((edit.path ≡ path ++ ending) × (length edit.path ≤ 4096)
+          × (get tree edit.path ≡ None → is_clash tree edit.path ≡ false)) → IsFit tree edit
       of_place (inl e) = record {
         of_tree = ap is_of_tree e ∙ workable_of_tree path h.workable;
         good_path = ap is_path e ∙ are.are_paths path h.there;
@@ -228,7 +270,8 @@ module _ (tree : Files) (are : AreFiles tree) (path : List ℕ) (edit : Edit) (h
       }
       of_place (inr n) = record {
         of_tree = ap is_of_tree n.0 ∙ beside_of_tree path h.workable;
-        good_path = ap is_path n.0 ∙ good_neighbour path (are.are_paths path h.there) (subst (λ p. length p ≤ 4096) n.0 n.1);
+        good_path =
+            ap is_path n.0 ∙ good_neighbour path (are.are_paths path h.there) (subst (λ p. length p ≤ 4096) n.0 n.1);
         free = λ none some clash. false≢true (sym (n.2 none) ∙ (clashes_keys tree edit.path).1 clash);
       }
 
@@ -236,42 +279,58 @@ module _ (tree : Files) (are : AreFiles tree) (path : List ℕ) (edit : Edit) (h
 
 -- a file of the tree, or a neighbour that is made
 abbrev Stands : Files → List ℕ → Type 0
-Stands tree path = IsSome (get tree path) ⊎ ((of : List ℕ) × IsSome (get tree of) × (path ≡ of ++ ending) × (is_clash tree path ≡ false))
+Stands tree path = IsSome (get tree path)
+    ⊎ ((of : List ℕ) × IsSome (get tree of) × (path ≡ of ++ ending) × (is_clash tree path ≡ false))
 
 stands : (tree : Files) (path : List ℕ) (edit : Edit) → IsPlaced tree path edit → Stands tree edit.path
 stands tree path edit h = of_place h.placed
   where
-    of_file : (file : Option (List ℕ)) → get tree edit.path ≡ file → edit.path ≡ path ++ ending → (get tree edit.path ≡ None → is_clash tree edit.path ≡ false) → Stands tree edit.path
+    of_file : (file : Option (List ℕ)) → get tree edit.path ≡ file → edit.path ≡ path ++ ending
+        → (get tree edit.path ≡ None → is_clash tree edit.path ≡ false) → Stands tree edit.path
     of_file None is e free = inr (path, h.there, e, free is)
     of_file (Some bytes) is e free = inl (ap is_some is)
 
-    of_place : (edit.path ≡ path) ⊎ ((edit.path ≡ path ++ ending) × (length edit.path ≤ 4096) × (get tree edit.path ≡ None → is_clash tree edit.path ≡ false)) → Stands tree edit.path
+    of_place : (edit.path ≡ path) ⊎ ((edit.path ≡ path ++ ending) × (length edit.path ≤ 4096)
+        × (get tree edit.path ≡ None → is_clash tree edit.path ≡ false)) → Stands tree edit.path
     of_place (inl e) = inl (ap (λ p. is_some (get tree p)) e ∙ h.there)
     of_place (inr n) = of_file (get tree edit.path) refl n.0 n.2
 
 module _ (tree : Files) where
-  no_clash : (path other : List ℕ) → is_clash tree path ≡ false → IsSome (get tree other) → (lies_under other path || lies_under path other) ≡ false
-  no_clash path other free some = false_from_ne_true _ (λ nested. false≢true (sym free ∙ (clashes_keys tree path).1 (record { other = other; is_file = some; nested = nested })))
+  no_clash : (path other : List ℕ) → is_clash tree path ≡ false → IsSome (get tree other)
+      → (lies_under other path || lies_under path other) ≡ false
+  no_clash path other free some = false_from_ne_true _ (λ nested. false≢true
+      (sym free ∙ (clashes_keys tree path).1 (record { other = other; is_file = some; nested = nested })))
 
   -- a neighbour that is made doesn't lie under another
-  not_under : (path other of : List ℕ) → is_clash tree path ≡ false → IsSome (get tree of) → other ≡ of ++ ending → lies_under other path ≡ false
+  not_under : (path other of : List ℕ) → is_clash tree path ≡ false → IsSome (get tree of) → other ≡ of ++ ending
+      → lies_under other path ≡ false
   not_under path other of free some is =
-      false_from_ne_true _ (λ under. false≢true (sym (or_parts (lies_under of path) (lies_under path of) (no_clash path of free some)).0 ∙ under_file of path (subst (λ o. lies_under o path ≡ true) is under)))
+      false_from_ne_true _
+      (λ under. false≢true (sym (or_parts (lies_under of path) (lies_under path of) (no_clash path of free some)).0
+      ∙ under_file of path (subst (λ o. lies_under o path ≡ true) is under)))
 
-  are_apart : AreFiles tree → (path other : List ℕ) → Stands tree path → Stands tree other → (lies_under other path || lies_under path other) ≡ false
-  are_apart are path other (inl a) (inl b) = false_from_ne_true _ (λ nested. are.apart path a (record { other = other; is_file = b; nested = nested }))
+  are_apart : AreFiles tree → (path other : List ℕ) → Stands tree path → Stands tree other
+      → (lies_under other path || lies_under path other) ≡ false
+  are_apart are path other (inl a) (inl b) =
+      false_from_ne_true _ (λ nested. are.apart path a (record { other = other; is_file = b; nested = nested }))
   are_apart are path other (inl a) (inr b) =
-      let n = or_parts (lies_under path other) (lies_under other path) (no_clash other path b.3 a) in or_from (lies_under other path) (lies_under path other) n.1 n.0
+      let n = or_parts (lies_under path other) (lies_under other path) (no_clash other path b.3 a) in
+      or_from (lies_under other path) (lies_under path other) n.1 n.0
   are_apart are path other (inr a) (inl b) = no_clash path other a.3 b
-  are_apart are path other (inr a) (inr b) = or_from (lies_under other path) (lies_under path other) (not_under path other b.0 a.3 b.1 b.2) (not_under other path a.0 b.3 a.1 a.2)
+  are_apart are path other (inr a) (inr b) = or_from (lies_under other path) (lies_under path other)
+      (not_under path other b.0 a.3 b.1 b.2) (not_under other path a.0 b.3 a.1 a.2)
 
   -- the edits of two paths are of two paths
-  differ : (path other : List ℕ) (one two : Edit) → IsPlaced tree path one → IsPlaced tree other two → (path ≡ other → ⊥) → bytes_eq one.path two.path ≡ false
-  differ path other one two h k two_paths = false_from_ne_true _ (λ same. by_place ((bytes_eq-Decides one.path two.path).0 same) h.placed k.placed)
+  differ : (path other : List ℕ) (one two : Edit) → IsPlaced tree path one → IsPlaced tree other two
+      → (path ≡ other → ⊥) → bytes_eq one.path two.path ≡ false
+  differ path other one two h k two_paths =
+      false_from_ne_true _ (λ same. by_place ((bytes_eq-Decides one.path two.path).0 same) h.placed k.placed)
     where
       by_place : one.path ≡ two.path
-          → (one.path ≡ path) ⊎ ((one.path ≡ path ++ ending) × (length one.path ≤ 4096) × (get tree one.path ≡ None → is_clash tree one.path ≡ false))
-          → (two.path ≡ other) ⊎ ((two.path ≡ other ++ ending) × (length two.path ≤ 4096) × (get tree two.path ≡ None → is_clash tree two.path ≡ false)) → ⊥
+          → (one.path ≡ path) ⊎ ((one.path ≡ path ++ ending) × (length one.path ≤ 4096)
+          × (get tree one.path ≡ None → is_clash tree one.path ≡ false))
+          → (two.path ≡ other) ⊎ ((two.path ≡ other ++ ending) × (length two.path ≤ 4096)
+          × (get tree two.path ≡ None → is_clash tree two.path ≡ false)) → ⊥
       by_place same (inl a) (inl b) = two_paths (sym a ∙ same ∙ b)
       by_place same (inl a) (inr b) = no_neighbour path other h.workable (sym a ∙ same ∙ b.0)
       by_place same (inr a) (inl b) = no_neighbour other path k.workable (sym b ∙ sym same ∙ a.0)
@@ -281,22 +340,30 @@ distinct_nil : IsDistinct bytes_eq []
 unfolding IsDistinct
 distinct_nil = tt
 
-among_all : (P : List ℕ → Type 0) (edits : List Edit) → AllByRecursion (λ (e : Edit). P e.path) edits → (q : List ℕ) → is_among (paths_at edits) q ≡ true → P q
+among_all : (P : List ℕ → Type 0) (edits : List Edit) → AllByRecursion (λ (e : Edit). P e.path) edits → (q : List ℕ)
+    → is_among (paths_at edits) q ≡ true → P q
 among_all P [] each q h = absurd (false≢true h)
-among_all P (e ∷ edits) each q h = by_case (or_cases (bytes_eq q e.path) (is_among (paths_at edits) q) h) (among_all P edits each.1 q)
+among_all P (e ∷ edits) each q h =
+    by_case (or_cases (bytes_eq q e.path) (is_among (paths_at edits) q) h) (among_all P edits each.1 q)
   where
-    by_case : (bytes_eq q e.path ≡ true) ⊎ (is_among (paths_at edits) q ≡ true) → (is_among (paths_at edits) q ≡ true → P q) → P q
+    by_case : (bytes_eq q e.path ≡ true) ⊎ (is_among (paths_at edits) q ≡ true)
+        → (is_among (paths_at edits) q ≡ true → P q) → P q
     by_case (inl same) rest = subst P (sym ((bytes_eq-Decides q e.path).0 same)) each.0
     by_case (inr later) rest = rest later
 
-module _ (at : List ℕ → Result (Option Edit) Refusal) (tree : Files) (placed : (path : List ℕ) (edit : Edit) → at path ≡ some_edit edit → IsPlaced tree path edit) where
-  others : (path : List ℕ) (edit : Edit) → IsPlaced tree path edit → (ps : List (List ℕ)) (edits : List Edit) → edits_at at ps ≡ Ok edits
-      → AllByRecursion (λ p. slice_cmp nat_cmp path p ≡ Less) ps → AllByRecursion (λ q. bytes_eq edit.path q ≡ false) (paths_at edits)
-  others path edit here [] edits h above = subst (λ es. AllByRecursion (λ q. bytes_eq edit.path q ≡ false) (paths_at es)) (sym (no_edits edits h)) tt
+module _ (at : List ℕ → Result (Option Edit) Refusal) (tree : Files)
+    (placed : (path : List ℕ) (edit : Edit) → at path ≡ some_edit edit → IsPlaced tree path edit) where
+  others : (path : List ℕ) (edit : Edit) → IsPlaced tree path edit → (ps : List (List ℕ)) (edits : List Edit)
+      → edits_at at ps ≡ Ok edits
+      → AllByRecursion (λ p. slice_cmp nat_cmp path p ≡ Less) ps
+      → AllByRecursion (λ q. bytes_eq edit.path q ≡ false) (paths_at edits)
+  others path edit here [] edits h above =
+      subst (λ es. AllByRecursion (λ q. bytes_eq edit.path q ≡ false) (paths_at es)) (sym (no_edits edits h)) tt
   others path edit here (p ∷ ps) edits h above = elim (first_is (at p) (edits_at at ps) edits h) [
     | inl none ↦ others path edit here ps edits none.1 above.1
     | inr some ↦
-        let rest : AllByRecursion (λ q. bytes_eq edit.path q ≡ false) (paths_at some.1) = others path edit here ps some.1 some.3 above.1 in
+        let rest : AllByRecursion (λ q. bytes_eq edit.path q ≡ false) (paths_at some.1) =
+        others path edit here ps some.1 some.3 above.1 in
         subst (λ es. AllByRecursion (λ q. bytes_eq edit.path q ≡ false) (paths_at es)) (sym some.4)
         (differ tree path p edit some.0 here (placed p some.0 some.2) (not_itself path p above.0), rest)
   ]
@@ -307,41 +374,62 @@ module _ (at : List ℕ → Result (Option Edit) Refusal) (tree : Files) (placed
     | inl none ↦ are_distinct ps edits none.1 (sorted_tail (slice_cmp nat_cmp) p ps sorted)
     | inr some ↦
         let rest : AreDistinct some.1 = are_distinct ps some.1 some.3 (sorted_tail (slice_cmp nat_cmp) p ps sorted) in
-        let apart = others p some.0 (placed p some.0 some.2) ps some.1 some.3 (sorted_head (slice_cmp nat_cmp) p ps sorted) in
-        subst (λ es. IsDistinct bytes_eq (paths_at es)) (sym some.4) (IsDistinct-cons bytes_eq some.0.path (paths_at some.1) apart rest)
+        let apart =
+        others p some.0 (placed p some.0 some.2) ps some.1 some.3 (sorted_head (slice_cmp nat_cmp) p ps sorted) in
+        subst (λ es. IsDistinct bytes_eq (paths_at es)) (sym some.4)
+        (IsDistinct-cons bytes_eq some.0.path (paths_at some.1) apart rest)
   ]
 
   -- the edits at paths in byte order
-  pub edits_fit : AreFiles tree → (ps : List (List ℕ)) (edits : List Edit) → edits_at at ps ≡ Ok edits → ArePaths ps → AreFit tree edits
+  pub edits_fit : AreFiles tree → (ps : List (List ℕ)) (edits : List Edit) → edits_at at ps ≡ Ok edits → ArePaths ps
+      → AreFit tree edits
   edits_fit are ps edits h sorted =
-      let all : AllByRecursion (λ (e : Edit). Stands tree e.path) edits = all_edits at (λ (e : Edit). Stands tree e.path) (λ p e k. stands tree p e (placed p e k)) ps edits h in
+      let all : AllByRecursion (λ (e : Edit). Stands tree e.path) edits =
+      all_edits at (λ (e : Edit). Stands tree e.path) (λ p e k. stands tree p e (placed p e k)) ps edits h in
       record {
         distinct = are_distinct ps edits h sorted;
-        apart = λ p q in_p in_q. are_apart tree are p q (among_all (Stands tree) edits all p in_p) (among_all (Stands tree) edits all q in_q);
+        apart = λ p q in_p in_q. are_apart tree are p q (among_all (Stands tree) edits all p in_p)
+            (among_all (Stands tree) edits all q in_q);
         each = all_edits at (IsFit tree) (λ p e k. is_fit tree are p e (placed p e k)) ps edits h;
       }
 
 fit_of : (tree : Files) (edits : List Edit) → AreEdits tree edits → AreFit tree edits
-fit_of tree edits are = record { distinct = distinct_of (paths_at edits) are.ascending; apart = are.apart; each = are.each }
+fit_of tree edits are = record {
+  distinct = distinct_of (paths_at edits) are.ascending;
+  apart = are.apart;
+  each = are.each;
+}
 
 -- the edits of a command
-pub command_fits : (command : Command) (tree : Files) → HoldsEntry command → AreFiles tree → (edits : List Edit) → edits_of command tree ≡ Ok edits → AreFit tree edits
-command_fits (Annotate places additions how scope) tree holds are edits h = by_names (styles_in tree) (sym (of_annotation places additions how scope tree) ∙ h)
+pub command_fits : (command : Command) (tree : Files) → HoldsEntry command → AreFiles tree → (edits : List Edit)
+    → edits_of command tree ≡ Ok edits → AreFit tree edits
+command_fits (Annotate places additions how scope) tree holds are edits h =
+    by_names (styles_in tree) (sym (of_annotation places additions how scope tree) ∙ h)
   where
-    by_names : (styles : Result OwnNames Refusal) → edits_by_names places additions how scope tree styles ≡ Ok edits → AreFit tree edits
+    by_names : (styles : Result OwnNames Refusal) → edits_by_names places additions how scope tree styles ≡ Ok edits
+        → AreFit tree edits
     by_names (Err refusal) e = absurd (cc)
     by_names (Ok own) e =
-        edits_fit (annotated_at how scope additions own tree) tree (λ p e k. is_placed how scope additions tree p e own k) are (selected_paths scope places tree) edits
-        (if_not (not scope.recursive && has_root places) (refusals.IsFolder place.Root) (edits_at (annotated_at how scope additions own tree) (selected_paths scope places tree)) edits e)
+        edits_fit (annotated_at how scope additions own tree) tree
+        (λ p e k. is_placed how scope additions tree p e own k) are (selected_paths scope places tree) edits
+        (if_not (not scope.recursive && has_root places) (refusals.IsFolder place.Root)
+        (edits_at (annotated_at how scope additions own tree) (selected_paths scope places tree)) edits e)
         (sorted-set_of (cond scope.recursive (flat_map (expanded scope tree) places) (paths_among places)))
-command_fits (Amend places amendments scope) tree holds are edits h = by_names (with_table scope places tree) (styles_in tree) (sym (of_amendment places amendments scope tree) ∙ h)
+command_fits (Amend places amendments scope) tree holds are edits h =
+    by_names (with_table scope places tree) (styles_in tree) (sym (of_amendment places amendments scope tree) ∙ h)
   where
-    by_names : (places : List Place) (styles : Result OwnNames Refusal) → amendments_by_names places amendments scope tree styles ≡ Ok edits → AreFit tree edits
+    by_names : (places : List Place) (styles : Result OwnNames Refusal)
+        → amendments_by_names places amendments scope tree styles ≡ Ok edits → AreFit tree edits
     by_names places (Err refusal) e = absurd (cc)
     by_names places (Ok own) e =
-        edits_fit (amended_at amendments scope own tree) tree (amendment_placed amendments scope own tree) are (selected_paths scope places tree) edits
-        (if_not (not scope.recursive && has_root places) (refusals.IsFolder place.Root) (edits_at (amended_at amendments scope own tree) (selected_paths scope places tree)) edits e)
+        edits_fit (amended_at amendments scope own tree) tree (amendment_placed amendments scope own tree) are
+        (selected_paths scope places tree) edits
+        (if_not (not scope.recursive && has_root places) (refusals.IsFolder place.Root)
+        (edits_at (amended_at amendments scope own tree) (selected_paths scope places tree)) edits e)
         (sorted-set_of (cond scope.recursive (flat_map (expanded scope tree) places) (paths_among places)))
-command_fits ConvertDep5 tree holds are edits h = fit_of tree edits (conversion_fits tree edits (sym (of_conversion tree) ∙ h))
-command_fits (Download ids texts) tree holds are edits h = fit_of tree edits (download_fits ids texts tree edits (sym (of_download ids texts tree) ∙ h))
-command_fits (Revert changes touched skip) tree holds are edits h = fit_of tree edits (revert_fits touched tree changes skip edits holds.0 holds.1 (sym (of_revert changes touched skip tree) ∙ h))
+command_fits ConvertDep5 tree holds are edits h =
+    fit_of tree edits (conversion_fits tree edits (sym (of_conversion tree) ∙ h))
+command_fits (Download ids texts) tree holds are edits h =
+    fit_of tree edits (download_fits ids texts tree edits (sym (of_download ids texts tree) ∙ h))
+command_fits (Revert changes touched skip) tree holds are edits h = fit_of tree edits
+    (revert_fits touched tree changes skip edits holds.0 holds.1 (sym (of_revert changes touched skip tree) ∙ h))

@@ -1,5 +1,7 @@
 -- The paths of licences' files: good ones of the tree, and none a folder of another.
-use Rattle.std.proofs.Common.{◌≡◌, ⊎_elim, ℕ, zero, suc, ◌+◌, ◌<◌, ◌≤◌, Bool, true, false, not, ◌&&◌, ◌||◌, ◌==◌, nat_eq, nat_lt, nat_le, List, [], ◌∷◌, ◌++◌, codes, length, length-append, take, drop, refl, sym, ap, ◌∙◌, subst, arith}
+use Rattle.std.proofs.Common.{◌≡◌, ⊎_elim, ℕ, zero, suc, ◌+◌, ◌<◌, ◌≤◌, Bool, true, false, not, ◌&&◌, ◌||◌, ◌==◌}
+use Rattle.std.proofs.Common.{nat_eq, nat_lt, nat_le, List, [], ◌∷◌, ◌++◌, codes, length, length-append, take, drop}
+use Rattle.std.proofs.Common.{refl, sym, ap, ◌∙◌, subst, arith}
 use Rattle.std.specs.Char.{is_ascii_alphanumeric}
 use Rattle.std.specs.Int.{is_in_range}
 use Rattle.std.specs.List.{list_all, slice_split, All}
@@ -51,7 +53,8 @@ id_byte b h = ⊎_elim
     (or_cases (is_ascii_alphanumeric b || b == 46) (b == 45) h)
 
 -- what holds of each byte of an id
-pub all_bytes : (test : ℕ → Bool) → ((b : ℕ) → IsPlainByte b → test b ≡ true) → (id : List ℕ) → list_all is_id_byte id ≡ true → list_all test id ≡ true
+pub all_bytes : (test : ℕ → Bool) → ((b : ℕ) → IsPlainByte b → test b ≡ true) → (id : List ℕ)
+    → list_all is_id_byte id ≡ true → list_all test id ≡ true
 all_bytes test each [] h = refl
 all_bytes test each (b ∷ id) h =
     let parts = and_parts (is_id_byte b) (list_all is_id_byte id) h in
@@ -59,7 +62,8 @@ all_bytes test each (b ∷ id) h =
 
 ascii_bytes : (id : List ℕ) → list_all is_id_byte id ≡ true → IsAscii id
 ascii_bytes [] h i = omega arith
-ascii_bytes (b ∷ id) h zero = let plain = id_byte b (and_parts (is_id_byte b) (list_all is_id_byte id) h).0 in omega arith
+ascii_bytes (b ∷ id) h zero =
+    let plain = id_byte b (and_parts (is_id_byte b) (list_all is_id_byte id) h).0 in omega arith
 ascii_bytes (b ∷ id) h (suc i) = ascii_bytes id (and_parts (is_id_byte b) (list_all is_id_byte id) h).1 i
 
 pub id_bytes : (id : List ℕ) → is_id id ≡ true → list_all is_id_byte id ≡ true
@@ -67,7 +71,8 @@ id_bytes id h = (and_parts (nat_lt 0 (length id) && nat_le (length id) 200) (lis
 
 id_length : (id : List ℕ) → is_id id ≡ true → length id ≤ 200
 id_length id h =
-    let e = (and_parts (nat_lt 0 (length id)) (nat_le (length id) 200) (and_parts (nat_lt 0 (length id) && nat_le (length id) 200) (list_all is_id_byte id) h).0).1 in
+    let e = (and_parts (nat_lt 0 (length id)) (nat_le (length id) 200)
+    (and_parts (nat_lt 0 (length id) && nat_le (length id) 200) (list_all is_id_byte id) h).0).1 in
     grind (arith, nat_tests)
 
 pub id_is_utf8 : (id : List ℕ) → is_id id ≡ true → IsUtf8 id
@@ -92,8 +97,10 @@ id_of_path id =
     let n = name_length id in
     ap (λ k. take k (id ++ codes ".txt")) (omega (arith, n)) ∙ take-append_seam id (codes ".txt")
 
-name_bytes : (test : ℕ → Bool) → ((b : ℕ) → IsPlainByte b → test b ≡ true) → list_all test (codes ".txt") ≡ true → (id : List ℕ) → list_all is_id_byte id ≡ true → list_all test (id ++ codes ".txt") ≡ true
-name_bytes test each txt id h = list_all-append test id (codes ".txt") ∙ and_from (list_all test id) (list_all test (codes ".txt")) (all_bytes test each id h) txt
+name_bytes : (test : ℕ → Bool) → ((b : ℕ) → IsPlainByte b → test b ≡ true) → list_all test (codes ".txt") ≡ true
+    → (id : List ℕ) → list_all is_id_byte id ≡ true → list_all test (id ++ codes ".txt") ≡ true
+name_bytes test each txt id h = list_all-append test id (codes ".txt")
+    ∙ and_from (list_all test id) (list_all test (codes ".txt")) (all_bytes test each id h) txt
 
 not_zero : (b : ℕ) → IsPlainByte b → not (nat_eq b 0) ≡ true
 not_zero b plain = grind (arith, nat_tests)
@@ -124,7 +131,8 @@ name_is_part : (id : List ℕ) → is_part (id ++ codes ".txt") ≡ true
 name_is_part id =
     let n = name_length id in
     and_from _ _ (and_from _ _ (some_bytes (length (id ++ codes ".txt")) (omega (arith, n)))
-    (other_length (id ++ codes ".txt") (codes ".") (omega (arith, n)))) (other_length (id ++ codes ".txt") (codes "..") (omega (arith, n)))
+    (other_length (id ++ codes ".txt") (codes ".") (omega (arith, n))))
+    (other_length (id ++ codes ".txt") (codes "..") (omega (arith, n)))
 
 -- ---- the path
 
@@ -140,19 +148,22 @@ path_has_no_nul id h = name_bytes (λ b. not (b == 0)) not_zero refl id h
 path_has_good_parts : (id : List ℕ) → list_all is_id_byte id ≡ true → has_good_parts (licence_path id) ≡ true
 path_has_good_parts id h =
     let parts : slice_split (λ b. b == 47) (licence_path id) ≡ codes "LICENSES" ∷ (id ++ codes ".txt") ∷ [] =
-    ap (λ (ps : List (List ℕ)). codes "LICENSES" ∷ ps) (slice_split_none (λ b. b == 47) (id ++ codes ".txt") (each_fails (id ++ codes ".txt") (no_slashes id h))) in
+    ap (λ (ps : List (List ℕ)). codes "LICENSES" ∷ ps)
+    (slice_split_none (λ b. b == 47) (id ++ codes ".txt") (each_fails (id ++ codes ".txt") (no_slashes id h))) in
     ap (list_all is_part) parts ∙ ap (λ b. b && true) (name_is_part id)
 
 -- an id makes a good path
 pub path_is_good : (id : List ℕ) → is_id id ≡ true → is_path (licence_path id) ≡ true
 path_is_good id h =
-    and_from _ _ (and_from _ _ (and_from _ _ (path_has_bytes id) (path_is_short id h)) (path_has_no_nul id (id_bytes id h))) (path_has_good_parts id (id_bytes id h))
+    and_from _ _ (and_from _ _ (and_from _ _ (path_has_bytes id) (path_is_short id h))
+    (path_has_no_nul id (id_bytes id h))) (path_has_good_parts id (id_bytes id h))
 
 pub path_of_tree : (id : List ℕ) → is_of_tree (licence_path id) ≡ true
 path_of_tree id = refl
 
 -- no licence's file is a folder of another
-pub paths_apart : (id other : List ℕ) → list_all is_id_byte id ≡ true → lies_under (licence_path id) (licence_path other) ≡ false
+pub paths_apart : (id other : List ℕ) → list_all is_id_byte id ≡ true
+    → lies_under (licence_path id) (licence_path other) ≡ false
 paths_apart id other h = of_test (lies_under (licence_path id) (licence_path other)) refl
   where
     slash : (xs rest : List ℕ) → list_all (λ b. not (b == 47)) (xs ++ 47 ∷ rest) ≡ false
@@ -164,4 +175,5 @@ paths_apart id other h = of_test (lies_under (licence_path id) (licence_path oth
     of_test true e =
         let under = under_from_test (licence_path id) (licence_path other) e in
         let names : id ++ codes ".txt" ≡ (other ++ codes ".txt") ++ 47 ∷ under.0 = ap (drop 9) under.1 in
-        absurd (false≢true (sym (slash (other ++ codes ".txt") under.0) ∙ ap (list_all (λ b. not (b == 47))) (sym names) ∙ no_slashes id h))
+        absurd (false≢true (sym (slash (other ++ codes ".txt") under.0) ∙ ap (list_all (λ b. not (b == 47))) (sym names)
+        ∙ no_slashes id h))

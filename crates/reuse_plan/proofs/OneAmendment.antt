@@ -11,7 +11,8 @@ use Rattle.reuse_header.specs.declared.style.Kind.TheVariants as kind
 use Rattle.reuse_header.specs.declared.style.Style.{Style}
 use Rattle.reuse_header.specs.Amendment.{amended_file, amendment_of, neighbour_amendment_of}
 use Rattle.reuse_change.proofs.FileMaps.{same_files}
-use Rattle.reuse_plan.specs.Amended.{IsNeighbourAmended, IsFileAmended, HasNoPlace, IsTableAmended, IsCoveredAmended, IsAmended, Amends}
+use Rattle.reuse_plan.specs.Amended.{IsNeighbourAmended, IsFileAmended, HasNoPlace, IsTableAmended, IsCoveredAmended}
+use Rattle.reuse_plan.specs.Amended.{IsAmended, Amends}
 use Rattle.reuse_plan.specs.Amend.{amended_table}
 use Rattle.reuse_plan.specs.Annotate.{neighbour_of}
 use Rattle.reuse_plan.specs.Annotated.{IsStyleOf, HasKind, Pair}
@@ -21,14 +22,15 @@ use Rattle.reuse_plan.specs.TreeStyles.{OwnNames}
 use Rattle.reuse_plan.specs.Selected.{amended_paths}
 use Rattle.reuse_command.specs.declared.command.Place.{Place}
 use Rattle.reuse_command.specs.declared.command.Scope.{Scope}
-use Rattle.reuse_plan.proofs.OneAnnotation.{one_style, Found, Lacking, sought}
+use Rattle.reuse_plan.proofs.OneAnnotation.{one_style, Found, Lacking, searched}
 use Rattle.reuse_plan.proofs.Results.{same_Ok}
 
 -- ---- one file
 
 -- a name without a style has none
 module _ (scope : Scope) (own : OwnNames) (path : List ℕ) (style : Style) where
-  styled : (named : Kind) → (kind.Style style ≡ named → ⊥) → IsStyleOf scope own path style → HasKind scope own path named → ⊥
+  styled : (named : Kind) → (kind.Style style ≡ named → ⊥) → IsStyleOf scope own path style
+      → HasKind scope own path named → ⊥
   styled named other (inl asked) has = none-some style (sym has.0 ∙ asked)
   styled named other (inr by_name) has = other (sym by_name.1 ∙ has.1)
 
@@ -39,32 +41,39 @@ module _ (scope : Scope) (own : OwnNames) (path : List ℕ) (style : Style) wher
   unknown e = cc
 
 module _ (amendments : Amendments) (scope : Scope) (own : OwnNames) (path bytes : List ℕ) (old : Pair) where
-  has_place : (new : Pair) → HasNoPlace scope own path bytes old → IsFileAmended amendments scope own path bytes old new → ⊥
+  has_place : (new : Pair) → HasNoPlace scope own path bytes old
+      → IsFileAmended amendments scope own path bytes old new → ⊥
   has_place new none file = elim none.1 [
     | inl binary ↦ false≢true (sym binary ∙ file.text)
     | inr named ↦ elim named [
-      | inl is ↦ styled scope own path file.style kind.Uncommentable (uncommentable scope own path file.style) file.of_style is
+      | inl is ↦
+          styled scope own path file.style kind.Uncommentable (uncommentable scope own path file.style) file.of_style is
       | inr is ↦ styled scope own path file.style kind.Unknown (unknown scope own path file.style) file.of_style is
     ]
   ]
 
-  both_files : (new other : Pair) → IsFileAmended amendments scope own path bytes old new → IsFileAmended amendments scope own path bytes old other → new ≡ other
+  both_files : (new other : Pair) → IsFileAmended amendments scope own path bytes old new
+      → IsFileAmended amendments scope own path bytes old other → new ≡ other
   both_files new other one two =
       let style = one_style scope own path one.style two.style one.of_style two.of_style in
-      let made = same_Ok one.made two.made (sym one.by_rules ∙ ap (λ s. amended_file bytes (amendment_of s amendments bytes)) style ∙ two.by_rules) in
+      let made = same_Ok one.made two.made
+      (sym one.by_rules ∙ ap (λ s. amended_file bytes (amendment_of s amendments bytes)) style ∙ two.by_rules) in
       one.holds ∙ ap (λ (m : List ℕ). record { file = Some m; neighbour = None }) made ∙ sym two.holds
 
-  both_neighbours : (new other : Pair) → IsNeighbourAmended amendments old new → IsNeighbourAmended amendments old other → new ≡ other
+  both_neighbours : (new other : Pair) → IsNeighbourAmended amendments old new
+      → IsNeighbourAmended amendments old other → new ≡ other
   both_neighbours new other one two =
       let beside = same_Some one.beside two.beside (sym one.there ∙ two.there) in
-      let made = same_Ok one.made two.made (sym one.by_rules ∙ ap (λ b. amended_file b (neighbour_amendment_of amendments b)) beside ∙ two.by_rules) in
+      let made = same_Ok one.made two.made
+      (sym one.by_rules ∙ ap (λ b. amended_file b (neighbour_amendment_of amendments b)) beside ∙ two.by_rules) in
       one.holds ∙ ap (λ (m : List ℕ). record { file = old.file; neighbour = Some m }) made ∙ sym two.holds
 
   no_neighbour_there : (new : Pair) → old.neighbour ≡ None → IsNeighbourAmended amendments old new → ⊥
   no_neighbour_there new alone beside = none-some beside.beside (sym alone ∙ beside.there)
 
   abbrev Becomes : Pair → Type 0
-  Becomes new = (HasNoPlace scope own path bytes old × (new ≡ old)) ⊎ IsFileAmended amendments scope own path bytes old new ⊎ IsNeighbourAmended amendments old new
+  Becomes new = (HasNoPlace scope own path bytes old × (new ≡ old))
+      ⊎ IsFileAmended amendments scope own path bytes old new ⊎ IsNeighbourAmended amendments old new
 
   becomes_one : (new other : Pair) → Becomes new → Becomes other → new ≡ other
   becomes_one new other (inl one) (inl two) = one.1 ∙ sym two.1
@@ -77,49 +86,63 @@ module _ (amendments : Amendments) (scope : Scope) (own : OwnNames) (path bytes 
   becomes_one new other (inr (inr one)) (inr (inl two)) = absurd (no_neighbour_there new two.alone one)
   becomes_one new other (inr (inr one)) (inr (inr two)) = both_neighbours new other one two
 
-covered_one : (amendments : Amendments) (scope : Scope) (own : OwnNames) (path : List ℕ) (old new other : Pair) → IsCoveredAmended amendments scope own path old new → IsCoveredAmended amendments scope own path old other → new ≡ other
+covered_one : (amendments : Amendments) (scope : Scope) (own : OwnNames) (path : List ℕ) (old new other : Pair)
+    → IsCoveredAmended amendments scope own path old new
+    → IsCoveredAmended amendments scope own path old other → new ≡ other
 covered_one amendments scope own path old new other one two =
     let same = same_Some two.bytes one.bytes (sym two.there ∙ one.there) in
-    becomes_one amendments scope own path one.bytes old new other one.becomes (subst (λ bytes. Becomes amendments scope own path bytes old other) same two.becomes)
+    becomes_one amendments scope own path one.bytes old new other one.becomes
+    (subst (λ bytes. Becomes amendments scope own path bytes old other) same two.becomes)
 
 -- the `REUSE.toml`
-both_tables : (amendments : Amendments) (old new other : Pair) → IsTableAmended amendments old new → IsTableAmended amendments old other → new ≡ other
+both_tables : (amendments : Amendments) (old new other : Pair) → IsTableAmended amendments old new
+    → IsTableAmended amendments old other → new ≡ other
 both_tables amendments old new other one two =
     let bytes = same_Some one.bytes two.bytes (sym one.there ∙ two.there) in
-    let made = same_Ok one.made two.made (sym one.by_rules ∙ ap (λ b. amended_table b (toml_amendment_of amendments b)) bytes ∙ two.by_rules) in
+    let made = same_Ok one.made two.made
+    (sym one.by_rules ∙ ap (λ b. amended_table b (toml_amendment_of amendments b)) bytes ∙ two.by_rules) in
     one.holds ∙ ap (λ (m : List ℕ). record { file = Some m; neighbour = old.neighbour }) made ∙ sym two.holds
 
 -- it isn't covered
 not_both : (path : List ℕ) → path ≡ toml_path → is_covered path ≡ true → ⊥
 not_both path table covered = false≢true (ap is_covered (sym table) ∙ covered)
 
-amended_one : (amendments : Amendments) (scope : Scope) (own : OwnNames) (path : List ℕ) (old new other : Pair) → IsAmended amendments scope own path old new → IsAmended amendments scope own path old other → new ≡ other
-amended_one amendments scope own path old new other (inl one) (inl two) = both_tables amendments old new other one.1 two.1
+amended_one : (amendments : Amendments) (scope : Scope) (own : OwnNames) (path : List ℕ) (old new other : Pair)
+    → IsAmended amendments scope own path old new → IsAmended amendments scope own path old other → new ≡ other
+amended_one amendments scope own path old new other (inl one) (inl two) =
+    both_tables amendments old new other one.1 two.1
 amended_one amendments scope own path old new other (inl one) (inr two) = absurd (not_both path one.0 two.covered)
 amended_one amendments scope own path old new other (inr one) (inl two) = absurd (not_both path two.0 one.covered)
-amended_one amendments scope own path old new other (inr one) (inr two) = covered_one amendments scope own path old new other one two
+amended_one amendments scope own path old new other (inr one) (inr two) =
+    covered_one amendments scope own path old new other one two
 
 -- ---- the tree
 
-module _ (places : List Place) (amendments : Amendments) (scope : Scope) (before after other : Files) (one : Amends places amendments scope before after) (two : Amends places amendments scope before other) where
+module _ (places : List Place) (amendments : Amendments) (scope : Scope) (before after other : Files)
+    (one : Amends places amendments scope before after) (two : Amends places amendments scope before other) where
   abbrev paths : List (List ℕ)
   paths = amended_paths scope places before
 
-  same_pair : (path : List ℕ) → In path paths → (get after path ≡ get other path) × (get after (neighbour_of path) ≡ get other (neighbour_of path))
+  same_pair : (path : List ℕ) → In path paths
+      → (get after path ≡ get other path) × (get after (neighbour_of path) ≡ get other (neighbour_of path))
   same_pair path there =
       let here = Contains-from_in paths path there in
       let own = same_Ok two.own one.own (sym two.styles ∙ one.styles) in
-      let same = amended_one amendments scope one.own path _ _ _ (one.selected path here) (subst (λ names. IsAmended amendments scope names path _ _) own (two.selected path here)) in
+      let same = amended_one amendments scope one.own path _ _ _ (one.selected path here)
+      (subst (λ names. IsAmended amendments scope names path _ _) own (two.selected path here)) in
       (ap (λ (pair : Pair). pair.file) same, ap (λ (pair : Pair). pair.neighbour) same)
 
   same_at : (q : List ℕ) → get after q ≡ get other q
-  same_at q = by_path (sought (λ path. path) q paths) (sought neighbour_of q paths)
+  same_at q = by_path (searched (λ path. path) q paths) (searched neighbour_of q paths)
     where
-      by_path : Found (λ path. path) q paths ⊎ Lacking (λ path. path) q paths → Found neighbour_of q paths ⊎ Lacking neighbour_of q paths → get after q ≡ get other q
+      by_path : Found (λ path. path) q paths ⊎ Lacking (λ path. path) q paths
+          → Found neighbour_of q paths ⊎ Lacking neighbour_of q paths → get after q ≡ get other q
       by_path (inl found) beside = subst (λ p. get after p ≡ get other p) (sym found.2) (same_pair found.0 found.1).0
-      by_path (inr none) (inl found) = subst (λ p. get after p ≡ get other p) (sym found.2) (same_pair found.0 found.1).1
+      by_path (inr none) (inl found) =
+          subst (λ p. get after p ≡ get other p) (sym found.2) (same_pair found.0 found.1).1
       by_path (inr none) (inr lacking) =
-          let apart : (path : List ℕ) → Contains paths path → (q ≢ path) × (q ≢ neighbour_of path) = λ path there. (none path (In-from_contains paths path there), lacking path (In-from_contains paths path there)) in
+          let apart : (path : List ℕ) → Contains paths path → (q ≢ path) × (q ≢ neighbour_of path) = λ path there.
+          (none path (In-from_contains paths path there), lacking path (In-from_contains paths path there)) in
           one.others q apart ∙ sym (two.others q apart)
 
   pub one_amended : after ≡ other

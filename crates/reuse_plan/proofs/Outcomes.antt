@@ -1,5 +1,6 @@
 -- The tree that a command gives, and the edits that make it.
-use Rattle.std.proofs.Common.{◌≡◌, ◌+◌, ◌≤◌, Bool, true, false, cond, ◌||◌, nat_lt, List, length, Option, Some, None, Result, Ok, Err, refl, sym, ap, ap₂, subst, ◌∙◌, sum_by}
+use Rattle.std.proofs.Common.{◌≡◌, ◌+◌, ◌≤◌, Bool, true, false, cond, ◌||◌, nat_lt, List, length, Option, Some, None}
+use Rattle.std.proofs.Common.{Result, Ok, Err, refl, sym, ap, ap₂, subst, ◌∙◌, sum_by}
 use Rattle.std.proofs.lemmas.Bool.{le-ltb, ltb-false, or_parts}
 use Rattle.reuse_change.specs.Files.{Files}
 use Rattle.reuse_plan.specs.Downloads.{unless_refused}
@@ -21,7 +22,8 @@ some_edit edit = Ok (Some edit)
 pub same_edit : (one other : Edit) → some_edit one ≡ some_edit other → one ≡ other
 same_edit one other e = cc
 
-pub unskipped : (b : Bool) (r : Result (Option Edit) Refusal) (edit : Edit) → cond b no_edit r ≡ some_edit edit → (b ≡ false) × (r ≡ some_edit edit)
+pub unskipped : (b : Bool) (r : Result (Option Edit) Refusal) (edit : Edit) → cond b no_edit r ≡ some_edit edit
+    → (b ≡ false) × (r ≡ some_edit edit)
 unskipped true r edit e = absurd (cc)
 unskipped false r edit e = (refl, e)
 
@@ -32,13 +34,15 @@ abbrev made_tree : Files → Result Files Refusal
 made_tree tree = Ok tree
 
 -- a tree is that of edits which aren't too many
-pub edits_of_tree : (tree after : Files) (given : Result (List Edit) Refusal) → tree_after tree given ≡ Ok after → (edits : List Edit) × (given ≡ Ok edits) × (edited tree edits ≡ after) × (is_too_many edits ≡ false)
+pub edits_of_tree : (tree after : Files) (given : Result (List Edit) Refusal) → tree_after tree given ≡ Ok after
+    → (edits : List Edit) × (given ≡ Ok edits) × (edited tree edits ≡ after) × (is_too_many edits ≡ false)
 edits_of_tree tree after (Err refusal) h = absurd (cc)
 edits_of_tree tree after (Ok edits) h =
     let made = err_or (is_too_many edits) TooMany (made_tree (edited tree edits)) after h in
     (edits, refl, same_Ok (edited tree edits) after made.1, made.0)
 
-pub edits_unless : (refusal : Option Refusal) (edits given : List Edit) → unless_refused refusal edits ≡ Ok given → (refusal ≡ None) × (edits ≡ given)
+pub edits_unless : (refusal : Option Refusal) (edits given : List Edit) → unless_refused refusal edits ≡ Ok given
+    → (refusal ≡ None) × (edits ≡ given)
 edits_unless (Some refusal) edits given h = absurd (cc)
 edits_unless None edits given h = (refl, same_Ok edits given h)
 
@@ -51,13 +55,20 @@ Holds given = (edit_count given ≤ 100_000) × (recorded_size given ≤ 268_435
 pub held : (tree after : Files) (given : Result (List Edit) Refusal) → tree_after tree given ≡ Ok after → Holds given
 held tree after given h =
     let of_tree = edits_of_tree tree after given h in
-    let few = or_parts (nat_lt 100_000 (length of_tree.0)) (nat_lt 268_435_456 (256 + sum_by edit_size of_tree.0)) of_tree.3 in
-    subst Holds (sym of_tree.1) (ltb-false 100_000 (length of_tree.0) few.0, ltb-false 268_435_456 (256 + sum_by edit_size of_tree.0) few.1)
+    let few =
+    or_parts (nat_lt 100_000 (length of_tree.0)) (nat_lt 268_435_456 (256 + sum_by edit_size of_tree.0)) of_tree.3 in
+    subst Holds (sym of_tree.1)
+    (ltb-false 100_000 (length of_tree.0) few.0, ltb-false 268_435_456 (256 + sum_by edit_size of_tree.0) few.1)
 
 pub few_held : (edits : List Edit) → Holds (ok_edits edits) → is_too_many edits ≡ false
-few_held edits holds = ap₂ (λ a b. a || b) (le-ltb 100_000 (length edits) holds.0) (le-ltb 268_435_456 (256 + sum_by edit_size edits) holds.1)
+few_held edits holds = ap₂ (λ a b. a || b) (le-ltb 100_000 (length edits) holds.0)
+    (le-ltb 268_435_456 (256 + sum_by edit_size edits) holds.1)
 
 -- and where there are some that one entry holds, a tree comes out
-pub tree_comes : (tree : Files) (given : Result (List Edit) Refusal) (edits : List Edit) → given ≡ Ok edits → Holds given → (after : Files) × (tree_after tree given ≡ Ok after)
-tree_comes tree given edits is holds =
-    (edited tree edits, ap (tree_after tree) is ∙ ap (λ b. cond b (Err TooMany) (made_tree (edited tree edits))) (few_held edits (subst Holds is holds)))
+pub tree_comes : (tree : Files) (given : Result (List Edit) Refusal) (edits : List Edit) → given ≡ Ok edits
+    → Holds given → (after : Files) × (tree_after tree given ≡ Ok after)
+tree_comes tree given edits is holds = (
+  edited tree edits,
+  ap (tree_after tree) is
+      ∙ ap (λ b. cond b (Err TooMany) (made_tree (edited tree edits))) (few_held edits (subst Holds is holds)),
+)

@@ -7,7 +7,8 @@ pub same_Ok : {A E : Type 0} (x y : A) → ◌≡◌ {A = Result A E} (Ok x) (Ok
 same_Ok x y e = cc
 
 -- a test before the rest refused nothing
-pub err_or : {A : Type 0} (b : Bool) (r : Refusal) (rest : Result A Refusal) (x : A) → cond b (Err r) rest ≡ Ok x → (b ≡ false) × (rest ≡ Ok x)
+pub err_or : {A : Type 0} (b : Bool) (r : Refusal) (rest : Result A Refusal) (x : A) → cond b (Err r) rest ≡ Ok x
+    → (b ≡ false) × (rest ≡ Ok x)
 err_or true r rest x e = absurd (cc)
 err_or false r rest x e = (refl, e)
 

@@ -1,5 +1,6 @@
 -- The change of a file that an annotation's splice is.
-use Rattle.std.proofs.Common.{◌≡◌, ℕ, ◌+◌, ◌-◌, ◌≤◌, false, List, ◌++◌, length, take, drop, Some, refl, sym, ap, ◌∙◌, arith, length-append, append_assoc, length-drop, bytes_eq, option_map}
+use Rattle.std.proofs.Common.{◌≡◌, ℕ, ◌+◌, ◌-◌, ◌≤◌, false, List, ◌++◌, length, take, drop, Some, refl, sym, ap, ◌∙◌}
+use Rattle.std.proofs.Common.{arith, length-append, append_assoc, length-drop, bytes_eq, option_map}
 use Rattle.sha2.specs.Sha256.{sha256}
 use Rattle.reuse_command.specs.Reading.{get, Files}
 use Rattle.std.proofs.lemmas.Bool.{false≢true}
@@ -27,20 +28,39 @@ module _ (bytes : List ℕ) (s n : ℕ) (within : s + n ≤ length bytes) where
   rest_len = omega (arith, old_len, length-drop (s + n) bytes, within)
 
   -- the sealed splice of a file, where it changes something
-  pub makes_splice : (tree : Files) (at new : List ℕ) → get tree at ≡ Some bytes → length bytes ≤ LONGEST_FILE → length (take s bytes ++ new ++ drop (s + n) bytes) ≤ LONGEST_FILE
+  pub makes_splice : (tree : Files) (at new : List ℕ) → get tree at ≡ Some bytes → length bytes ≤ LONGEST_FILE
+      → length (take s bytes ++ new ++ drop (s + n) bytes) ≤ LONGEST_FILE
       → bytes_eq (take s bytes ++ new ++ drop (s + n) bytes) bytes ≡ false
-      → CarriesOutEdit tree (sealed_splice at bytes s (take n (drop s bytes)) new) (record { path = at; removed = take n (drop s bytes); written = new; file = Some (take s bytes ++ new ++ drop (s + n) bytes) })
+      → CarriesOutEdit tree (sealed_splice at bytes s (take n (drop s bytes)) new) (record {
+        path = at;
+        removed = take n (drop s bytes);
+        written = new;
+        file = Some (take s bytes ++ new ++ drop (s + n) bytes);
+      })
   makes_splice tree at new here short fits differs = record {
     path = refl;
     removed = refl;
     written = refl;
-    proper = λ e. false≢true (sym differs ∙ (bytes_eq-Decides _ bytes).1 (ap (λ o. take s bytes ++ o ++ drop (s + n) bytes) (sym e) ∙ sym (three_parts bytes s n)));
+    proper = λ e. false≢true (sym differs ∙ (bytes_eq-Decides _ bytes).1
+        (ap (λ o. take s bytes ++ o ++ drop (s + n) bytes) (sym e) ∙ sym (three_parts bytes s n)));
     small = (
       omega (arith, old_len, rest_len, length-drop (s + n) bytes, within, short),
-      omega (arith, front_len, rest_len, fits, length-append (take s bytes ++ new) (drop (s + n) bytes), length-append (take s bytes) new),
+      omega (
+        arith,
+        front_len,
+        rest_len,
+        fits,
+        length-append (take s bytes ++ new) (drop (s + n) bytes),
+        length-append (take s bytes) new,
+      ),
     );
     applies = record {
-      range = (take s bytes, drop (s + n) bytes, record { whole = here ∙ ap (λ b. Some b) (three_parts bytes s n); before = front_len; behind = sym rest_len }, record { whole = refl; before = front_len; behind = sym rest_len });
+      range = (
+        take s bytes,
+        drop (s + n) bytes,
+        record { whole = here ∙ ap (λ b. Some b) (three_parts bytes s n); before = front_len; behind = sym rest_len },
+        record { whole = refl; before = front_len; behind = sym rest_len },
+      );
       from = ap (option_map sha256) here;
       to = ap (λ m. Some (sha256 (take s bytes ++ new ++ drop (s + m) bytes))) (sym old_len);
     };

@@ -1,5 +1,6 @@
 -- The `REUSE.toml` at the root: its path, and what amending makes of it.
-use Rattle.std.proofs.Common.{◌≡◌, ◌⊎◌, ℕ, ◌≤◌, true, false, cond, List, [], length, take, drop, Option, Some, None, Result, Ok, Err, refl, sym, ap, ◌∙◌, bytes_eq}
+use Rattle.std.proofs.Common.{◌≡◌, ◌⊎◌, ℕ, ◌≤◌, true, false, cond, List, [], length, take, drop, Option, Some, None}
+use Rattle.std.proofs.Common.{Result, Ok, Err, refl, sym, ap, ◌∙◌, bytes_eq}
 use Rattle.reuse_command.specs.Reading.{get, Files}
 use Rattle.std.proofs.lemmas.Bool.{false≢true, false_from_ne_true}
 use Rattle.std.proofs.lemmas.Slice.Eq.{bytes_eq-Decides}
@@ -8,7 +9,8 @@ use Rattle.reuse_text.specs.declared.TheConstants.{LONGEST_FILE}
 use Rattle.reuse_amend.specs.declared.amendments.Amendments.{Amendments}
 use Rattle.reuse_toml.specs.declared.toml_change.TomlSplice.{TomlSplice}
 use Rattle.reuse_toml.specs.declared.toml_values.AmendTomlRefusal.{AmendTomlRefusal}
-use Rattle.reuse_toml.specs.declared.toml_values.AmendTomlRefusal.TheVariants.{BadExpression, CannotBeAmended, TooLong, Memory}
+use Rattle.reuse_toml.specs.declared.toml_values.AmendTomlRefusal.TheVariants.{BadExpression, CannotBeAmended, TooLong}
+use Rattle.reuse_toml.specs.declared.toml_values.AmendTomlRefusal.TheVariants.{Memory}
 use Rattle.reuse_toml.specs.TomlAmending.{toml_amendment_of}
 use Rattle.reuse_toml.specs.TomlAnswers.{IsTomlAnswer}
 use Rattle.reuse_toml.proofs.TomlLawLemmas as toml
@@ -28,12 +30,13 @@ use Rattle.reuse_plan.proofs.SpliceLemmas.{makes_splice}
 
 -- it isn't covered
 pub not_table : (path : List ℕ) → is_covered path ≡ true → bytes_eq path toml_path ≡ false
-not_table path covered = false_from_ne_true (bytes_eq path toml_path) (λ e. false≢true (ap is_covered (sym ((bytes_eq-Decides path toml_path).0 e)) ∙ covered))
+not_table path covered = false_from_ne_true (bytes_eq path toml_path)
+    (λ e. false≢true (ap is_covered (sym ((bytes_eq-Decides path toml_path).0 e)) ∙ covered))
 
 pub is_table : (path : List ℕ) → path ≡ toml_path → bytes_eq path toml_path ≡ true
 is_table path e = (bytes_eq-Decides path toml_path).1 e
 
--- the path of a file that is worked is covered, or that of the `REUSE.toml`
+-- the path of a file that is selected is covered, or that of the `REUSE.toml`
 abbrev pub IsWorkable : List ℕ → Type 0
 IsWorkable path = (is_covered path ≡ true) ⊎ (path ≡ toml_path)
 
@@ -43,40 +46,48 @@ IsWorkable path = (is_covered path ≡ true) ⊎ (path ≡ toml_path)
 abbrev pub as_edit : TomlSplice → header.Edit
 as_edit change = record { start = change.at; old_len = change.old; front = []; text = []; back = change.new }
 
-pub of_change : (path bytes : List ℕ) (due : Result (Option TomlSplice) AmendTomlRefusal) (edit : Edit) → table_amendment path bytes due ≡ some_edit edit
-    → (change : TomlSplice) × (due ≡ Ok (Some change)) × (table_edit path bytes change ≡ edit)
+pub of_change : (path bytes : List ℕ) (expected : Result (Option TomlSplice) AmendTomlRefusal) (edit : Edit)
+    → table_amendment path bytes expected ≡ some_edit edit
+    → (change : TomlSplice) × (expected ≡ Ok (Some change)) × (table_edit path bytes change ≡ edit)
 of_change path bytes (Ok None) edit e = absurd (cc)
 of_change path bytes (Ok (Some change)) edit e = (change, refl, same_edit (table_edit path bytes change) edit e)
 of_change path bytes (Err refusal) edit e = absurd (cc)
 
-module _ (amendments : Amendments) (bytes : List ℕ) (change : TomlSplice) (is : toml_amendment_of amendments bytes ≡ Ok (Some change)) where
+module _ (amendments : Amendments) (bytes : List ℕ) (change : TomlSplice)
+    (is : toml_amendment_of amendments bytes ≡ Ok (Some change)) where
   -- it changes something
   pub table_differs : bytes_eq (spliced bytes change.at change.old change.new) bytes ≡ false
   table_differs = false_from_ne_true (bytes_eq (spliced bytes change.at change.old change.new) bytes) (λ e.
-      toml.another amendments bytes change is ((bytes_eq-Decides (spliced bytes change.at change.old change.new) bytes).0 e))
+      toml.another amendments bytes change is
+      ((bytes_eq-Decides (spliced bytes change.at change.old change.new) bytes).0 e))
 
-  pub as_edit_by : (path : List ℕ) → edit_by path path bytes (Ok (as_edit change)) ≡ some_edit (table_edit path bytes change)
+  pub as_edit_by : (path : List ℕ)
+      → edit_by path path bytes (Ok (as_edit change)) ≡ some_edit (table_edit path bytes change)
   as_edit_by path = ap (λ b. cond b no_edit (some_edit (table_edit path bytes change))) table_differs
 
   -- the change of the file
   pub table_made : (tree : Files) (path : List ℕ) → get tree path ≡ Some bytes → length bytes ≤ LONGEST_FILE
-      → MakesEdit tree (table_amendment path bytes (Ok (Some change))) (Some (sealed_splice path bytes change.at (take change.old (drop change.at bytes)) change.new))
+      → MakesEdit tree (table_amendment path bytes (Ok (Some change)))
+      (Some (sealed_splice path bytes change.at (take change.old (drop change.at bytes)) change.new))
   table_made tree path here short = (
     table_edit path bytes change,
     refl,
-    makes_splice bytes change.at change.old (toml.within amendments bytes change is) tree path change.new here short (toml.fitting amendments bytes change is) table_differs,
+    makes_splice bytes change.at change.old (toml.within amendments bytes change is) tree path change.new here short
+        (toml.fitting amendments bytes change is) table_differs,
   )
 
 -- ---- by what a call answers
 
-pub within_answer : (amendments : Amendments) (bytes : List ℕ) (made : Result (Option TomlSplice) AmendTomlRefusal) → IsTomlAnswer (toml_amendment_of amendments bytes) made → IsWithin bytes made
+pub within_answer : (amendments : Amendments) (bytes : List ℕ) (made : Result (Option TomlSplice) AmendTomlRefusal)
+    → IsTomlAnswer (toml_amendment_of amendments bytes) made → IsWithin bytes made
 within_answer amendments bytes (Ok (Some change)) is = toml.within amendments bytes change is
 within_answer amendments bytes (Ok None) is = tt
 within_answer amendments bytes (Err refusal) is = tt
 
-pub table_refused : (path bytes : List ℕ) (due : Result (Option TomlSplice) AmendTomlRefusal) (refusal : AmendTomlRefusal) → IsTomlAnswer due (Err refusal)
-    → IsRefusalOf (table_amendment path bytes due) (table_refused_by path refusal)
-table_refused path bytes due BadExpression is = ap (table_amendment path bytes) is
-table_refused path bytes due CannotBeAmended is = ap (table_amendment path bytes) is
-table_refused path bytes due TooLong is = ap (table_amendment path bytes) is
-table_refused path bytes due (Memory e) is = tt
+pub table_refused : (path bytes : List ℕ) (expected : Result (Option TomlSplice) AmendTomlRefusal)
+    (refusal : AmendTomlRefusal) → IsTomlAnswer expected (Err refusal)
+    → IsRefusalOf (table_amendment path bytes expected) (table_refused_by path refusal)
+table_refused path bytes expected BadExpression is = ap (table_amendment path bytes) is
+table_refused path bytes expected CannotBeAmended is = ap (table_amendment path bytes) is
+table_refused path bytes expected TooLong is = ap (table_amendment path bytes) is
+table_refused path bytes expected (Memory e) is = tt

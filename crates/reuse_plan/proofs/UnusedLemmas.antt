@@ -1,10 +1,11 @@
 -- What of a choice came to nothing.
-use Rattle.std.proofs.Common.{◌≡◌, Bool, true, false, not, ◌&&◌, List, [], Result, Ok, Err, IfOk, OnOk, refl, sym, subst}
+use Rattle.std.proofs.Common.{◌≡◌, Bool, true, false, not, ◌&&◌, List, [], Result, Ok, Err, IfOk, OnOk, refl, sym}
+use Rattle.std.proofs.Common.{subst}
 use Rattle.std.proofs.lemmas.Bool.{false≢true}
 use Rattle.reuse_change.specs.Files.{Files}
 use Rattle.reuse_command.specs.Command.{has_root}
 use Rattle.reuse_plan.specs.Plan.{IsRefusalOf}
-use Rattle.reuse_command.specs.Answer.{IsTold}
+use Rattle.reuse_command.specs.Answer.{IsNoFailure}
 use Rattle.reuse_plan.specs.TreeStyles.{OwnNames}
 use Rattle.reuse_plan.specs.Unused.{AreUnusedAt, AreUnusedIf, AreUnusedWhere}
 use Rattle.reuse_command.specs.declared.command.Place.{Place}
@@ -12,10 +13,11 @@ use Rattle.reuse_command.specs.declared.command.Scope.{Scope}
 use Rattle.reuse_plan.specs.declared.path_plan.Policy.{Policy}
 use Rattle.reuse_command.specs.declared.reply.Refusal.{Refusal}
 use Rattle.reuse_plan.specs.declared.unused.Unused.{Unused}
-use Rattle.reuse_plan.proofs.PathPlanning.{told_is}
+use Rattle.reuse_plan.proofs.PathPlanning.{reported_is}
 
 -- where the root is given and refused, folders aren't gone through
-pub not_recursive : (scope : Scope) (places : List Place) → (not scope.recursive && has_root places) ≡ true → scope.recursive ≡ false
+pub not_recursive : (scope : Scope) (places : List Place) → (not scope.recursive && has_root places) ≡ true
+    → scope.recursive ≡ false
 not_recursive scope places given = by_flag scope.recursive given
   where
     by_flag : (b : Bool) → (not b && has_root places) ≡ true → b ≡ false
@@ -23,11 +25,16 @@ not_recursive scope places given = by_flag scope.recursive given
     by_flag false is = refl
 
 -- nothing is chosen then
-pub unused_none : (scope : Scope) (places : List Place) (tree : Files) (unused : Unused) → scope.recursive ≡ false → unused.names ≡ 0 → unused.globs.items ≡ [] → AreUnusedAt scope places tree unused
-unused_none scope places tree unused alone names globs = subst (λ b. AreUnusedWhere b scope places tree unused) (sym alone) (names, globs)
+pub unused_none : (scope : Scope) (places : List Place) (tree : Files) (unused : Unused) → scope.recursive ≡ false
+    → unused.names ≡ 0 → unused.globs.items ≡ [] → AreUnusedAt scope places tree unused
+unused_none scope places tree unused alone names globs =
+    subst (λ b. AreUnusedWhere b scope places tree unused) (sym alone) (names, globs)
 
--- where the tree's styles are refused, and a walk that goes on tells that, nothing is promised
-pub refused_unused : {A : Type 0} (policy : Policy) (styles : Result OwnNames Refusal) (refusal : Refusal) (scope : Scope) (places : List Place) (tree : Files) (unused : Unused) (result : Result A Refusal)
-    → IsRefusalOf styles refusal → IfOk result (λ plans. IsTold refusal) → OnOk result (AreUnusedIf styles scope places tree unused)
-refused_unused policy styles refusal scope places tree unused (Err ended) is told = tt
-refused_unused policy styles refusal scope places tree unused (Ok plans) is told = subst (λ s. AreUnusedIf s scope places tree unused) (sym (told_is styles refusal told is)) tt
+-- where the tree's styles are refused, and a walk that goes on reports that, nothing is promised
+pub refused_unused : {A : Type 0} (policy : Policy) (styles : Result OwnNames Refusal) (refusal : Refusal)
+    (scope : Scope) (places : List Place) (tree : Files) (unused : Unused) (result : Result A Refusal)
+    → IsRefusalOf styles refusal → IfOk result (λ plans. IsNoFailure refusal)
+    → OnOk result (AreUnusedIf styles scope places tree unused)
+refused_unused policy styles refusal scope places tree unused (Err ended) is reported = tt
+refused_unused policy styles refusal scope places tree unused (Ok plans) is reported =
+    subst (λ s. AreUnusedIf s scope places tree unused) (sym (reported_is styles refusal reported is)) tt

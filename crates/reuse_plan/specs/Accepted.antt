@@ -74,7 +74,7 @@ IsUnread scope own path pair =
     IsSome pair.neighbour ⊎ (scope.force_dot_license ≡ true) ⊎ HasKind scope own path kind.Uncommentable
 
 -- the neighbour's path isn't too long, nor is the neighbour; where it isn't there its path doesn't clash
-pub record HasRoomBeside (tree : Files) (path : List ℕ) : Type 0 where
+pub record HasRoomForNeighbour (tree : Files) (path : List ℕ) : Type 0 where
   pub short_path : length (neighbour_of path) ≤ 4096
   pub short : (beside : List ℕ) → get tree (neighbour_of path) ≡ Some beside → length beside ≤ LONGEST_FILE
   pub free : get tree (neighbour_of path) ≡ None → ¬ (Clashes tree (neighbour_of path))
@@ -89,17 +89,19 @@ RulesAccept additions how scope own path bytes pair =
 
 -- the path has a covered file, which isn't too long where it is read, room beside it where its neighbour takes the
 -- information, and what the rules accept
-pub record CanBeAnnotated (additions : Additions) (how : How) (scope : Scope) (own : OwnNames) (tree : Files) (path : List ℕ) : Type 0 where
+pub record CanBeAnnotated (additions : Additions) (how : How) (scope : Scope) (own : OwnNames) (tree : Files)
+    (path : List ℕ) : Type 0 where
   pub bytes : List ℕ
   pub there : get tree path ≡ Some bytes
   pub covered : is_covered path ≡ true
   pub short : ¬ (IsUnread scope own path (pair_at tree path)) → length bytes ≤ LONGEST_FILE
-  pub room : TakesNeighbour scope own path bytes (pair_at tree path) → HasRoomBeside tree path
+  pub room : TakesNeighbour scope own path bytes (pair_at tree path) → HasRoomForNeighbour tree path
   pub accepted : RulesAccept additions how scope own path bytes (pair_at tree path)
 
 -- the tree's own styles are good, the root is given only where folders are gone through, each path that is gone through
 -- can be annotated, and one entry holds them all
-pub record CanAnnotate (places : List Place) (additions : Additions) (how : How) (scope : Scope) (tree : Files) : Type 0 where
+pub record CanAnnotate (places : List Place) (additions : Additions) (how : How) (scope : Scope)
+    (tree : Files) : Type 0 where
   pub own : OwnNames
   pub styles : styles_in tree ≡ Ok own
   pub root : has_root places ≡ true → scope.recursive ≡ true
@@ -122,7 +124,8 @@ pub record CanFileBeAmended (amendments : Amendments) (style : Style) (bytes : L
 
 -- the path has a covered file; its neighbour can be amended where that is there, else the file itself where it has a
 -- style
-pub record CanCoveredBeAmended (amendments : Amendments) (scope : Scope) (own : OwnNames) (tree : Files) (path : List ℕ) : Type 0 where
+pub record CanCoveredBeAmended (amendments : Amendments) (scope : Scope) (own : OwnNames) (tree : Files)
+    (path : List ℕ) : Type 0 where
   pub bytes : List ℕ
   pub there : get tree path ≡ Some bytes
   pub covered : is_covered path ≡ true

@@ -1,7 +1,8 @@
 -- What amend does at each path of a tree: the information is amended where it stands, in the neighbour that is there or
 -- else in the file's own header block, and in the `REUSE.toml` at the root in its values. Nothing is made, and no file
 -- is refused for want of a style (docs/RULES.md, "What amend writes").
-use Rattle.std.specs.Prelude.{ℕ, not, List, length, take, drop, nat_lt, Option, Some, None, Result, Ok, Err, if◌then◌else◌}
+use Rattle.std.specs.Prelude.{ℕ, not, List, length, take, drop, nat_lt, Option, Some, None, Result, Ok, Err}
+use Rattle.std.specs.Prelude.{if◌then◌else◌}
 use Rattle.std.specs.Str.{bytes_eq}
 use Rattle.std.specs.FinMap.{get}
 use Rattle.reuse_text.specs.Text.{spliced}
@@ -33,7 +34,8 @@ use Rattle.reuse_command.specs.declared.command.Place.TheVariants as place
 use Rattle.reuse_command.specs.declared.command.Scope.{Scope}
 use Rattle.reuse_command.specs.declared.reply.Refusal.{Refusal}
 use Rattle.reuse_command.specs.declared.failure.Failure.TheVariants.{Memory}
-use Rattle.reuse_command.specs.declared.reply.Refusal.TheVariants.{NoSuchPath, IsFolder, NotCovered, TooLong, Amend, Failed}
+use Rattle.reuse_command.specs.declared.reply.Refusal.TheVariants.{NoSuchPath, IsFolder, NotCovered, TooLong, Amend}
+use Rattle.reuse_command.specs.declared.reply.Refusal.TheVariants.{Failed}
 
 -- ---- the style of a file
 
@@ -120,7 +122,8 @@ amended_table bytes (Err refusal) = Err refusal
 
 abbrev pub amend_table : Amendments → List ℕ → List ℕ → Result (Option Edit) Refusal
 amend_table amendments path bytes =
-    if nat_lt LONGEST_FILE (length bytes) then Err (TooLong path) else table_amendment path bytes (toml_amendment_of amendments bytes)
+    if nat_lt LONGEST_FILE (length bytes) then Err (TooLong path)
+    else table_amendment path bytes (toml_amendment_of amendments bytes)
 
 -- ---- a path
 

@@ -44,7 +44,8 @@ pub record IsNeighbourAmended (amendments : Amendments) (old new : Pair) : Type 
 
 -- The file has no neighbour, is text and has a style. It holds what the rules make of its own bytes, and no neighbour
 -- is made. It is as it was, or has a header block and each byte outside it stays.
-pub record IsFileAmended (amendments : Amendments) (scope : Scope) (own : OwnNames) (path bytes : List ℕ) (old new : Pair) : Type 0 where
+pub record IsFileAmended (amendments : Amendments) (scope : Scope) (own : OwnNames) (path bytes : List ℕ)
+    (old new : Pair) : Type 0 where
   pub alone : old.neighbour ≡ None
   pub text : is_text bytes ≡ true
   pub style : Style
@@ -62,7 +63,8 @@ HasNoPlace scope own path bytes pair =
 
 -- the path has a covered file, which has no place that is amended, and then both stay; or it is amended, or its
 -- neighbour is
-pub record IsCoveredAmended (amendments : Amendments) (scope : Scope) (own : OwnNames) (path : List ℕ) (old new : Pair) : Type 0 where
+pub record IsCoveredAmended (amendments : Amendments) (scope : Scope) (own : OwnNames) (path : List ℕ)
+    (old new : Pair) : Type 0 where
   pub bytes : List ℕ
   pub there : old.file ≡ Some bytes
   pub covered : is_covered path ≡ true

@@ -15,11 +15,11 @@ use Rattle.reuse_plan.specs.declared.annotation.Amendment.{Amendment}
 use Rattle.reuse_command.specs.declared.reply.Refusal.{Refusal}
 
 -- what amending makes of a file, which may be nothing
-abbrev pub Due : Type 0
-Due = Result (Option header.Edit) AmendHeaderRefusal
+abbrev pub Expected : Type 0
+Expected = Result (Option header.Edit) AmendHeaderRefusal
 
 -- an edit is within its file, and makes none that is too long
-abbrev pub Fits : List ℕ → Due → Type 0
+abbrev pub Fits : List ℕ → Expected → Type 0
 Fits bytes (Ok (Some edit)) =
     (edit.start + edit.old_len ≤ length bytes) × (length (header.edited bytes edit) ≤ LONGEST_FILE)
 Fits bytes (Ok None) = Unit {0}

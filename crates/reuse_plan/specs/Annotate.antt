@@ -1,6 +1,7 @@
 -- What annotate does at each path of a tree: which place is written, and with what. The options are those of the reuse
 -- tool's manual page of `annotate`; what that page leaves open is decided here.
-use Rattle.std.specs.Prelude.{ℕ, Bool, true, false, not, ◌&&◌, ◌||◌, List, [], ◌++◌, length, take, drop, codes, nat_lt, Option, Some, None, is_some, is_none, Result, Ok, Err, if◌then◌else◌}
+use Rattle.std.specs.Prelude.{ℕ, Bool, true, false, not, ◌&&◌, ◌||◌, List, [], ◌++◌, length, take, drop, codes, nat_lt}
+use Rattle.std.specs.Prelude.{Option, Some, None, is_some, is_none, Result, Ok, Err, if◌then◌else◌}
 use Rattle.std.specs.List.{list_any}
 use Rattle.std.specs.Str.{bytes_eq}
 use Rattle.std.specs.FinMap.{get}
@@ -28,9 +29,10 @@ use Rattle.reuse_command.specs.declared.command.Unknown.{Unknown}
 use Rattle.reuse_command.specs.declared.command.Unknown.TheVariants as unknown
 use Rattle.reuse_command.specs.declared.command.Place.TheVariants as place
 use Rattle.reuse_plan.specs.declared.target.Target.{Target}
-use Rattle.reuse_plan.specs.declared.target.Target.TheVariants.{Inside, Beside, Nowhere}
+use Rattle.reuse_plan.specs.declared.target.Target.TheVariants.{Inside, InNeighbour, Nowhere}
 use Rattle.reuse_command.specs.declared.reply.Refusal.{Refusal}
-use Rattle.reuse_command.specs.declared.reply.Refusal.TheVariants.{NoSuchPath, IsFolder, NotCovered, TooLong, Unrecognised, Clash}
+use Rattle.reuse_command.specs.declared.reply.Refusal.TheVariants.{NoSuchPath, IsFolder, NotCovered, TooLong}
+use Rattle.reuse_command.specs.declared.reply.Refusal.TheVariants.{Unrecognised, Clash}
 
 -- ---- where a file's licensing information goes
 
@@ -41,13 +43,13 @@ neighbour_of path = path ++ codes ".license"
 -- where the name has no style: as it is asked for
 abbrev pub target_of_unknown : Unknown → List ℕ → Result Target Refusal
 target_of_unknown unknown.Refuse path = Err (Unrecognised path)
-target_of_unknown unknown.Neighbour path = Ok Beside
+target_of_unknown unknown.Neighbour path = Ok InNeighbour
 target_of_unknown unknown.Skip path = Ok Nowhere
 
 -- by the name of the file
 abbrev pub target_by_name : Unknown → List ℕ → Kind → Result Target Refusal
 target_by_name asked path (kind.Style style) = Ok (Inside style)
-target_by_name asked path kind.Uncommentable = Ok Beside
+target_by_name asked path kind.Uncommentable = Ok InNeighbour
 target_by_name asked path kind.Unknown = target_of_unknown asked path
 
 -- by the style that is asked for, else by the name; the tree's own names stand first
@@ -59,7 +61,7 @@ target_by_style scope own path None = target_by_name scope.unknown path (kind_in
 abbrev pub target_by_bytes : Scope → OwnNames → List ℕ → List ℕ → Result Target Refusal
 target_by_bytes scope own path bytes =
     if nat_lt LONGEST_FILE (length bytes) then Err (TooLong path)
-    else if not (is_text bytes) then Ok Beside
+    else if not (is_text bytes) then Ok InNeighbour
     else target_by_style scope own path scope.style
 
 -- a name that takes no comment
@@ -70,17 +72,18 @@ is_uncommentable kind.Unknown = false
 
 -- the target is the neighbour, whether that is there or not: it is asked for, or the name takes no comment and no style
 -- is asked for
-abbrev pub goes_beside_unread : Scope → OwnNames → List ℕ → Bool
-goes_beside_unread scope own path =
+abbrev pub goes_to_neighbour_unread : Scope → OwnNames → List ℕ → Bool
+goes_to_neighbour_unread scope own path =
     scope.force_dot_license || (is_none scope.style && is_uncommentable (kind_in own path))
 
 -- the target is the neighbour, whatever the file holds: so, or since it is there
-abbrev pub goes_beside : Scope → OwnNames → Files → List ℕ → Bool
-goes_beside scope own tree path = is_some (get tree (neighbour_of path)) || goes_beside_unread scope own path
+abbrev pub goes_to_neighbour : Scope → OwnNames → Files → List ℕ → Bool
+goes_to_neighbour scope own tree path =
+    is_some (get tree (neighbour_of path)) || goes_to_neighbour_unread scope own path
 
 abbrev pub target_of : Scope → OwnNames → Files → List ℕ → List ℕ → Result Target Refusal
 target_of scope own tree path bytes =
-    if goes_beside scope own tree path then Ok Beside else target_by_bytes scope own path bytes
+    if goes_to_neighbour scope own tree path then Ok InNeighbour else target_by_bytes scope own path bytes
 
 -- ---- what is done there
 
@@ -116,8 +119,8 @@ edit_neighbour how scope additions tree path (Some bytes) =
     else if scope.skip_existing && neighbour_is_tagged bytes then Ok None
     else edit_by path (neighbour_of path) bytes (neighbour_annotation_of how additions bytes)
 
-abbrev pub edit_beside : How → Scope → Additions → Files → List ℕ → Result (Option Edit) Refusal
-edit_beside how scope additions tree path =
+abbrev pub edit_of_neighbour : How → Scope → Additions → Files → List ℕ → Result (Option Edit) Refusal
+edit_of_neighbour how scope additions tree path =
     if nat_lt 4096 (length (neighbour_of path)) then Err (TooLong path)
     else edit_neighbour how scope additions tree path (get tree (neighbour_of path))
 
@@ -125,7 +128,7 @@ abbrev pub edit_target : How → Scope → Additions → Files → List ℕ → 
     → Result (Option Edit) Refusal
 edit_target how scope additions tree path bytes (Err refusal) = Err refusal
 edit_target how scope additions tree path bytes (Ok Nowhere) = Ok None
-edit_target how scope additions tree path bytes (Ok Beside) = edit_beside how scope additions tree path
+edit_target how scope additions tree path bytes (Ok InNeighbour) = edit_of_neighbour how scope additions tree path
 edit_target how scope additions tree path bytes (Ok (Inside style)) = edit_inside how scope additions path bytes style
 
 -- what annotate does at a path, where the tree has this

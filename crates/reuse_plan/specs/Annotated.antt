@@ -1,6 +1,7 @@
 -- What annotate makes of a tree, in other words: each file that is gone through and its neighbour become what the rules
 -- say of these two alone, and all else stays.
-use Rattle.std.specs.Prelude.{◌≡◌, ◌≢◌, ◌⊎◌, ℕ, true, false, List, [], ◌++◌, take, drop, Option, Some, None, IsSome, Ok, unwrap_or, if◌then◌else◌}
+use Rattle.std.specs.Prelude.{◌≡◌, ◌≢◌, ◌⊎◌, ℕ, true, false, List, [], ◌++◌, take, drop, Option, Some, None, IsSome, Ok}
+use Rattle.std.specs.Prelude.{unwrap_or, if◌then◌else◌}
 use Rattle.std.specs.List.{Contains}
 use Rattle.std.specs.Option.{option_map}
 use Rattle.std.specs.FinMap.{get}
@@ -63,7 +64,8 @@ abbrev pub HasKind : Scope → OwnNames → List ℕ → Kind → Type 0
 HasKind scope own path of_name = (scope.style ≡ None) × (kind_in own path ≡ of_name)
 
 -- the file takes a comment of this style: it is text, and has no neighbour, nor is one asked for
-pub record TakesComment (scope : Scope) (own : OwnNames) (path bytes : List ℕ) (pair : Pair) (style : Style) : Type 0 where
+pub record TakesComment (scope : Scope) (own : OwnNames) (path bytes : List ℕ) (pair : Pair)
+    (style : Style) : Type 0 where
   pub text : is_text bytes ≡ true
   pub alone : pair.neighbour ≡ None
   pub unforced : scope.force_dot_license ≡ false
@@ -79,7 +81,8 @@ TakesNeighbour scope own path bytes pair =
 
 -- The file is commented: it holds what the header rules make of its own bytes. Each byte outside the old header block
 -- stays, and there is no neighbour.
-pub record IsCommented (additions : Additions) (how : How) (scope : Scope) (own : OwnNames) (path bytes : List ℕ) (old new : Pair) : Type 0 where
+pub record IsCommented (additions : Additions) (how : How) (scope : Scope) (own : OwnNames) (path bytes : List ℕ)
+    (old new : Pair) : Type 0 where
   pub style : Style
   pub takes : TakesComment scope own path bytes old style
   pub made : List ℕ
@@ -94,12 +97,14 @@ file_written old made = Some made
 
 -- The file stays, and its neighbour holds what the rules make of the neighbour's own bytes, or of none where it isn't
 -- there. Each byte outside its old block stays.
-pub record IsAccompanied (additions : Additions) (how : How) (scope : Scope) (own : OwnNames) (path bytes : List ℕ) (old new : Pair) : Type 0 where
+pub record IsAccompanied (additions : Additions) (how : How) (scope : Scope) (own : OwnNames) (path bytes : List ℕ)
+    (old new : Pair) : Type 0 where
   pub takes : TakesNeighbour scope own path bytes old
   pub made : List ℕ
   pub by_rules : neighbour_annotated how additions (unwrap_or old.neighbour []) ≡ Ok made
   pub holds : new ≡ record { file = old.file; neighbour = file_written old.neighbour made }
-  pub keeps : IsSameAround (mark_len_of (unwrap_or old.neighbour [])) (part_replaced how (unwrap_or old.neighbour [])) (unwrap_or old.neighbour []) made
+  pub keeps : IsSameAround (mark_len_of (unwrap_or old.neighbour [])) (part_replaced how (unwrap_or old.neighbour []))
+      (unwrap_or old.neighbour []) made
 
 -- the file or its neighbour, whichever takes it, has licensing information
 abbrev pub HasInformation : Scope → OwnNames → List ℕ → List ℕ → Pair → Type 0
@@ -121,7 +126,8 @@ IsSkippedAt scope own tree path =
     (bytes : List ℕ) × (get tree path ≡ Some bytes) × IsSkipped scope own path bytes (pair_at tree path)
 
 -- the path has a covered file, which is skipped, and then both stay; or is commented; or accompanied
-pub record IsAnnotated (additions : Additions) (how : How) (scope : Scope) (own : OwnNames) (path : List ℕ) (old new : Pair) : Type 0 where
+pub record IsAnnotated (additions : Additions) (how : How) (scope : Scope) (own : OwnNames) (path : List ℕ)
+    (old new : Pair) : Type 0 where
   pub bytes : List ℕ
   pub there : old.file ≡ Some bytes
   pub covered : is_covered path ≡ true
@@ -134,7 +140,8 @@ pub record IsAnnotated (additions : Additions) (how : How) (scope : Scope) (own 
 
 -- by the tree's own names each file that is gone through is annotated, and each path holds what it held that is none of
 -- these nor a neighbour of one
-pub record Annotates (places : List Place) (additions : Additions) (how : How) (scope : Scope) (before after : Files) : Type 0 where
+pub record Annotates (places : List Place) (additions : Additions) (how : How) (scope : Scope)
+    (before after : Files) : Type 0 where
   pub own : OwnNames
   pub styles : styles_in before ≡ Ok own
   pub selected : (path : List ℕ) → Contains (selected_paths scope places before) path

@@ -5,7 +5,8 @@ use Rattle.reuse_header.specs.Header.{header_of}
 use Rattle.reuse_header.specs.Names.{lookup}
 use Rattle.reuse_header.specs.declared.style.Style.{Style}
 use Rattle.reuse_change.specs.Files.{Files}
-use Rattle.reuse_plan.specs.Annotate.{neighbour_of, annotated_at, edit_beside, edit_inside, edit_neighbour, edit_target, target_by_bytes}
+use Rattle.reuse_plan.specs.Annotate.{neighbour_of, annotated_at, edit_of_neighbour, edit_inside, edit_neighbour}
+use Rattle.reuse_plan.specs.Annotate.{edit_target, target_by_bytes}
 use Rattle.reuse_plan.specs.Edit.{Edit}
 use Rattle.reuse_plan.specs.Outcome.{annotation_at}
 use Rattle.reuse_plan.specs.PathEdits.{PathEdit}
@@ -24,7 +25,7 @@ annotated_by asked tree path = annotated_at asked.how.now asked.scope.now asked.
 
 -- where the neighbour is the place
 abbrev pub beside_by : Annotation → Files → List ℕ → Result (Option Edit) Refusal
-beside_by asked tree path = edit_beside asked.how.now asked.scope.now asked.additions.now tree path
+beside_by asked tree path = edit_of_neighbour asked.how.now asked.scope.now asked.additions.now tree path
 
 -- where it is, and holds this
 abbrev pub neighbour_by : Annotation → Files → List ℕ → Option (List ℕ) → Result (Option Edit) Refusal
@@ -51,19 +52,35 @@ path_by asked tree path = annotation_at asked.how.now asked.scope.now asked.addi
 -- where this is the place of a file of these bytes
 abbrev pub path_by_place : Annotation → Files → List ℕ → List ℕ → Result Target Refusal → PathEdit
 path_by_place asked tree path bytes place =
-    record { path = path; skipped = is_skipped_at asked.scope.now tree path bytes place; edit = edit_by_place asked tree path bytes place }
+    record {
+      path = path;
+      skipped = is_skipped_at asked.scope.now tree path bytes place;
+      edit = edit_by_place asked tree path bytes place;
+    }
 
 -- where the neighbour is the place
 abbrev pub path_beside_by : Annotation → Files → List ℕ → PathEdit
 path_beside_by asked tree path =
-    record { path = path; skipped = asked.scope.now.skip_existing && has_tagged (get tree (neighbour_of path)); edit = beside_by asked tree path }
+    record {
+      path = path;
+      skipped = asked.scope.now.skip_existing && has_tagged (get tree (neighbour_of path));
+      edit = beside_by asked tree path;
+    }
 
 -- where it is, and holds this
 abbrev pub path_neighbour_by : Annotation → Files → List ℕ → Option (List ℕ) → PathEdit
 path_neighbour_by asked tree path file =
-    record { path = path; skipped = asked.scope.now.skip_existing && has_tagged file; edit = neighbour_by asked tree path file }
+    record {
+      path = path;
+      skipped = asked.scope.now.skip_existing && has_tagged file;
+      edit = neighbour_by asked tree path file;
+    }
 
 -- where the comment of the file is the place, which has these bytes
 abbrev pub path_inside_by : Annotation → List ℕ → List ℕ → Style → PathEdit
 path_inside_by asked path bytes style =
-    record { path = path; skipped = asked.scope.now.skip_existing && is_some (header_of style bytes); edit = inside_by asked path bytes style }
+    record {
+      path = path;
+      skipped = asked.scope.now.skip_existing && is_some (header_of style bytes);
+      edit = inside_by asked path bytes style;
+    }

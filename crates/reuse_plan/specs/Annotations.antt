@@ -5,10 +5,10 @@ use Rattle.reuse_header.specs.Annotation as header
 use Rattle.reuse_text.specs.declared.TheConstants.{LONGEST_FILE}
 
 -- the edit of a file, or the first refusal
-abbrev pub Due : Type 0
-Due = Result header.Edit HeaderRefusal
+abbrev pub Expected : Type 0
+Expected = Result header.Edit HeaderRefusal
 
 -- an edit is within its file, and makes none that is too long
-abbrev pub Fits : List ℕ → Due → Type 0
+abbrev pub Fits : List ℕ → Expected → Type 0
 Fits bytes (Ok edit) = (edit.start + edit.old_len ≤ length bytes) × (length (header.edited bytes edit) ≤ LONGEST_FILE)
 Fits bytes (Err refusal) = Unit {0}

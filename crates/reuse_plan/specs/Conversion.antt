@@ -1,6 +1,7 @@
 -- What convert-dep5 does on a tree: it puts a `REUSE.toml` in the place of `.reuse/dep5` (the reuse tool's manual page
 -- of `convert-dep5`; the refusals: docs/RULES.md).
-use Rattle.std.specs.Prelude.{ℕ, List, [], ◌∷◌, length, Option, Some, None, Result, Ok, Err, nat_lt, if◌then◌else◌, codes, is_some}
+use Rattle.std.specs.Prelude.{ℕ, List, [], ◌∷◌, length, Option, Some, None, Result, Ok, Err, nat_lt, if◌then◌else◌}
+use Rattle.std.specs.Prelude.{codes, is_some}
 use Rattle.std.specs.FinMap.{get}
 use Rattle.reuse_change.specs.Files.{Files}
 use Rattle.reuse_dep5.specs.declared.refusal.Dep5Refusal.{Dep5Refusal}

@@ -1,6 +1,7 @@
 -- What download does on a tree: it makes a file of each licence's text (the reuse tool's manual page of `download`;
 -- that texts are given, and the refusals: docs/RULES.md).
-use Rattle.std.specs.Prelude.{ℕ, List, [], ◌∷◌, length, map, filter_map, Option, Some, None, Result, Ok, Err, nat_lt, if◌then◌else◌, is_some, unwrap_or}
+use Rattle.std.specs.Prelude.{ℕ, List, [], ◌∷◌, length, map, filter_map, Option, Some, None, Result, Ok, Err, nat_lt}
+use Rattle.std.specs.Prelude.{if◌then◌else◌, is_some, unwrap_or}
 use Rattle.std.specs.Option.{option_map, option_or}
 use Rattle.std.specs.Str.{bytes_eq}
 use Rattle.std.specs.FinMap.{get}

@@ -1,4 +1,4 @@
--- What an edit tells that it takes away and writes is what changes at its path.
+-- What an edit reports that it takes away and writes is what changes at its path.
 use Rattle.std.specs.Prelude.{◌≡◌, ◌⊎◌, ℕ, List, [], ◌++◌, Some, None}
 use Rattle.std.specs.FinMap.{get}
 use Rattle.reuse_change.specs.Files.{Files}

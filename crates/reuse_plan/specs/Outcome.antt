@@ -1,5 +1,6 @@
 -- What a command gives on a whole tree: the tree after it, or the first refusal.
-use Rattle.std.specs.Prelude.{ℕ, ◌+◌, ◌*◌, not, ◌&&◌, ◌||◌, Bool, false, List, [], ◌∷◌, length, map, Option, Some, None, Result, Ok, Err, nat_lt, if◌then◌else◌}
+use Rattle.std.specs.Prelude.{ℕ, ◌+◌, ◌*◌, not, ◌&&◌, ◌||◌, Bool, false, List, [], ◌∷◌, length, map, Option, Some, None}
+use Rattle.std.specs.Prelude.{Result, Ok, Err, nat_lt, if◌then◌else◌}
 use Rattle.std.specs.List.{sum_by}
 use Rattle.std.specs.FinMap.{insert, remove}
 use Rattle.reuse_change.specs.declared.layout.TheConstants.{LARGEST_ENTRY, MOST_CHANGES}
@@ -62,12 +63,17 @@ edit_count (Ok edits) = length edits
 -- gone through, since it is one
 abbrev pub at_places : (List ℕ → PathEdit) → Scope → List Place → Files → List PathEdit
 at_places at scope places tree =
-    if not scope.recursive && has_root places then refused_alone (IsFolder place.Root) else map at (selected_paths scope places tree)
+    if not scope.recursive && has_root places then refused_alone (IsFolder place.Root)
+    else map at (selected_paths scope places tree)
 
 -- what annotate does at a path, where the tree gives these kinds to its own names
 abbrev pub annotation_at : How → Scope → Additions → OwnNames → Files → List ℕ → PathEdit
 annotation_at how scope additions own tree path =
-    record { path = path; skipped = is_skipped scope own tree path; edit = annotated_at how scope additions own tree path }
+    record {
+      path = path;
+      skipped = is_skipped scope own tree path;
+      edit = annotated_at how scope additions own tree path;
+    }
 
 -- at these places; the refusal of the tree's styles stands alone
 abbrev pub annotations_by : List Place → Additions → How → Scope → Files → Result OwnNames Refusal → List PathEdit

@@ -1,5 +1,6 @@
 -- What a walk plans for each path, by what is done there; for private clauses.
-use Rattle.std.specs.Prelude.{◌≡◌, true, false, not, ◌&&◌, ◌||◌, nat_lt, Bool, List, [], ◌∷◌, length, filter_map, Option, Some, None, Result, Ok, Err, if◌then◌else◌}
+use Rattle.std.specs.Prelude.{◌≡◌, true, false, not, ◌&&◌, ◌||◌, nat_lt, Bool, List, [], ◌∷◌, length, filter_map}
+use Rattle.std.specs.Prelude.{Option, Some, None, Result, Ok, Err, if◌then◌else◌}
 use Rattle.std.specs.declared.vec.Vec.{Vec}
 use Rattle.reuse_change.specs.declared.layout.TheConstants.{LARGEST_ENTRY, MOST_CHANGES}
 use Rattle.reuse_change.specs.Change.{path_of}
@@ -10,7 +11,7 @@ use Rattle.reuse_command.specs.Answer.{IsEarlyFailure, IsOfPlan}
 use Rattle.reuse_plan.specs.Edit.{Edit}
 use Rattle.reuse_plan.specs.PathEdits.{PathEdit, edits_in}
 use Rattle.reuse_plan.specs.Plan.{CarriesOutEdit, IsRefusalOf}
-use Rattle.reuse_command.specs.Answer.{IsTold}
+use Rattle.reuse_command.specs.Answer.{IsNoFailure}
 use Rattle.reuse_command.specs.declared.path_outcome.PathOutcome.{PathOutcome}
 use Rattle.reuse_command.specs.declared.path_outcome.PathOutcome.TheVariants as path_outcome
 use Rattle.reuse_plan.specs.declared.path_plan.PathPlan.{PathPlan}
@@ -28,7 +29,7 @@ IsPlanOf policy tree here (plan.Change change) =
     (edit : Edit) × (here.edit ≡ Ok (Some edit)) × CarriesOutEdit tree change edit
 IsPlanOf policy tree here (plan.Unchanged path) = (path ≡ here.path) × (here.edit ≡ Ok None) × (here.skipped ≡ false)
 IsPlanOf policy tree here (plan.Skipped path) = (path ≡ here.path) × (here.edit ≡ Ok None) × (here.skipped ≡ true)
-IsPlanOf policy tree here (plan.Refused refusal) = (here.edit ≡ Err refusal) × IsTold refusal × (policy ≡ Collect)
+IsPlanOf policy tree here (plan.Refused refusal) = (here.edit ≡ Err refusal) × IsNoFailure refusal × (policy ≡ Collect)
 
 -- one plan for each path, in their order
 abbrev pub ArePlansOf : Policy → Files → List PathEdit → List PathPlan → Type 0

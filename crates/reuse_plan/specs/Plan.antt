@@ -28,7 +28,7 @@ IsRefusalOf outcome (Failed Memory) = Unit {0}
 IsRefusalOf outcome (Failed (Fault fault)) = Unit {0}
 IsRefusalOf outcome refusal = outcome ≡ Err refusal
 
--- a value, or a refusal that is the first or tells of a fault
+-- a value, or a refusal that is the first or reports a fault
 abbrev pub AnswersOf : {A : Type 0} → Result A Refusal → Result A Refusal → Type 0
 AnswersOf given (Ok value) = given ≡ Ok value
 AnswersOf given (Err refusal) = IsRefusalOf given refusal

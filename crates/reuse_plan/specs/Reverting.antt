@@ -1,5 +1,6 @@
 -- Reverting: the changes of a step are taken back on whatever the tree is now.
-use Rattle.std.specs.Prelude.{ℕ, ◌-◌, nat_le, nat_eq, Bool, true, not, ◌&&◌, ◌||◌, List, length, drop, Option, Some, None, Result, Ok, Err, if◌then◌else◌}
+use Rattle.std.specs.Prelude.{ℕ, ◌-◌, nat_le, nat_eq, Bool, true, not, ◌&&◌, ◌||◌, List, length, drop, Option, Some}
+use Rattle.std.specs.Prelude.{None, Result, Ok, Err, if◌then◌else◌}
 use Rattle.std.specs.List.{starts_with}
 use Rattle.std.specs.Str.{bytes_eq}
 use Rattle.std.specs.FinMap.{get}
@@ -34,7 +35,7 @@ abbrev pub is_as_left : List ℕ → ℕ → List ℕ → ℕ → Option Seal �
 is_as_left file at new rest seal = nat_eq (length file - at - length new) rest && has_digest file seal
 
 -- Whether new bytes that stand at the place are those that a step wrote. Where the old bytes begin with them, as where
--- bytes were only taken away, the place alone doesn't tell: then the file must be as the step left it.
+-- bytes were only taken away, the place alone doesn't show it: then the file must be as the step left it.
 abbrev pub stands_as_written : List ℕ → ℕ → (old new : List ℕ) → ℕ → Option Seal → Bool
 stands_as_written file at old new rest seal =
     stands_at file new at && (not (starts_with nat_eq old new) || is_as_left file at new rest seal)
@@ -58,11 +59,13 @@ taken_back (Drop path old before) None = Some (made path old)
 taken_back (Drop path old before) (Some file) = None
 taken_back (Splice path at old new rest seal) None = None
 taken_back (Splice path at old new rest seal) (Some file) =
-    if stands_as_written file at old new rest seal && is_short file && is_short (spliced file at (length new) old) then Some (put_back path file at old new) else None
+    if stands_as_written file at old new rest seal && is_short file && is_short (spliced file at (length new) old)
+    then Some (put_back path file at old new) else None
 
 -- the same on a tree: no file is made again where that clashes
 abbrev pub taken_back_on : Files → Change → Option Edit
-taken_back_on tree change = if makes Backward change && is_clash tree (path_of change) then None else taken_back change (get tree (path_of change))
+taken_back_on tree change = if makes Backward change && is_clash tree (path_of change) then None
+    else taken_back change (get tree (path_of change))
 
 -- the same where later steps touched these paths: what they hold is those steps', and nothing takes a change of them
 -- back

@@ -16,7 +16,8 @@ use Rattle.reuse_command.specs.declared.command.Scope.{Scope}
 -- what stands in the place of a folder: the covered files beneath it that are asked for; a file stands for itself
 abbrev pub expanded : Scope → Files → Place → List (List ℕ)
 expanded scope tree Root = filter (is_chosen scope) (keys tree)
-expanded scope tree (Path path) = if is_folder tree path then filter (is_chosen scope) (filter (λ other. lies_under other path) (keys tree)) else path ∷ []
+expanded scope tree (Path path) = if is_folder tree path
+    then filter (is_chosen scope) (filter (λ other. lies_under other path) (keys tree)) else path ∷ []
 
 -- in byte order, without repeats; folders are gone through where that is asked for
 abbrev pub selected_paths : Scope → List Place → Files → List (List ℕ)

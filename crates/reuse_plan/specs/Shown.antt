@@ -59,7 +59,8 @@ folders_for places given = if has_root places then [] else with_neighbours given
 
 -- beneath the folder, these paths have the files that are asked for, and no others than the tree
 pub record ShowsBeneath (scope : Scope) (paths : List (List ℕ)) (tree : Files) (folder : List ℕ) : Type 0 where
-  pub chosen : filter (is_chosen scope) (filter (λ other. lies_under other folder) paths) ≡ filter (is_chosen scope) (filter (λ other. lies_under other folder) (keys tree))
+  pub chosen : filter (is_chosen scope) (filter (λ other. lies_under other folder) paths) ≡ filter (is_chosen scope)
+      (filter (λ other. lies_under other folder) (keys tree))
   pub some : is_folder_of paths folder ≡ true → is_folder tree folder ≡ true
 
 -- so they do beneath the place

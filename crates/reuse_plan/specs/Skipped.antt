@@ -7,7 +7,7 @@ use Rattle.reuse_plan.specs.Annotate.{neighbour_of, neighbour_is_tagged, target_
 use Rattle.reuse_plan.specs.TreeStyles.{OwnNames}
 use Rattle.reuse_command.specs.declared.command.Scope.{Scope}
 use Rattle.reuse_plan.specs.declared.target.Target.{Target}
-use Rattle.reuse_plan.specs.declared.target.Target.TheVariants.{Inside, Beside, Nowhere}
+use Rattle.reuse_plan.specs.declared.target.Target.TheVariants.{Inside, InNeighbour, Nowhere}
 use Rattle.reuse_command.specs.declared.reply.Refusal.{Refusal}
 
 -- whether there is a neighbour that has licensing information
@@ -20,7 +20,7 @@ has_tagged (Some bytes) = neighbour_is_tagged bytes
 abbrev pub is_skipped_at : Scope → Files → List ℕ → List ℕ → Result Target Refusal → Bool
 is_skipped_at scope tree path bytes (Err refusal) = false
 is_skipped_at scope tree path bytes (Ok Nowhere) = true
-is_skipped_at scope tree path bytes (Ok Beside) = scope.skip_existing && has_tagged (get tree (neighbour_of path))
+is_skipped_at scope tree path bytes (Ok InNeighbour) = scope.skip_existing && has_tagged (get tree (neighbour_of path))
 is_skipped_at scope tree path bytes (Ok (Inside style)) = scope.skip_existing && is_some (header_of style bytes)
 
 abbrev pub is_skipped_where : Scope → OwnNames → Files → List ℕ → Option (List ℕ) → Bool

@@ -10,7 +10,7 @@ use Rattle.reuse_plan.specs.declared.annotation.Annotation.{Annotation}
 use Rattle.reuse_plan.specs.declared.target.Target.TheVariants as target
 use Rattle.reuse_plan.specs.declared.path_plan.Policy.TheVariants.{Stop}
 use Rattle.reuse_plan.specs.declared.place.Step.{Step}
-use Rattle.reuse_plan.specs.declared.place.Step.TheVariants.{Done, Beside}
+use Rattle.reuse_plan.specs.declared.place.Step.TheVariants.{Done, InNeighbour}
 use Rattle.reuse_command.specs.declared.reply.Refusal.{Refusal}
 use Rattle.reuse_command.specs.declared.reply.Refusal.TheVariants.{TooLong}
 
@@ -22,12 +22,12 @@ short_file path bytes = if nat_lt LONGEST_FILE (length bytes) then Err (TooLong 
 abbrev pub StepsTo : Annotation → Files → List ℕ → List ℕ → Result Step Refusal → Type 0
 StepsTo asked tree path bytes (Ok (Done plan)) =
     IsPlanOf Stop tree (path_by_place asked tree path bytes (place_by asked path bytes)) plan
-StepsTo asked tree path bytes (Ok Beside) = place_by asked path bytes ≡ Ok target.Beside
+StepsTo asked tree path bytes (Ok InNeighbour) = place_by asked path bytes ≡ Ok target.InNeighbour
 StepsTo asked tree path bytes (Err refusal) =
     IsRefusalOf (edit_by_place asked tree path bytes (place_by asked path bytes)) refusal
 
 -- what is done there, or a refusal
 abbrev pub StepsBy : Files → PathEdit → Result Step Refusal → Type 0
 StepsBy tree here (Ok (Done plan)) = IsPlanOf Stop tree here plan
-StepsBy tree here (Ok Beside) = ⊥
+StepsBy tree here (Ok InNeighbour) = ⊥
 StepsBy tree here (Err refusal) = IsRefusalOf here.edit refusal

@@ -1,6 +1,7 @@
 -- What of a command's choice of the files beneath folders came to nothing: globs that left nothing out, and listed
 -- paths that are no covered file beneath a place.
-use Rattle.std.specs.Prelude.{◌≡◌, ℕ, Bool, true, false, not, ◌&&◌, List, [], filter, length, map, Option, Some, None, Result, Ok, Err}
+use Rattle.std.specs.Prelude.{◌≡◌, ℕ, Bool, true, false, not, ◌&&◌, List, [], filter, length, map, Option, Some, None}
+use Rattle.std.specs.Prelude.{Result, Ok, Err}
 use Rattle.std.specs.List.{list_any}
 use Rattle.reuse_toml.specs.declared.glob.GlobPiece.{GlobPiece}
 use Rattle.reuse_notice.specs.Sets.{set_of}
@@ -47,7 +48,8 @@ pub record AreUnused (scope : Scope) (selected found : List (List ℕ)) (unused 
 
 -- what is found for the places: what is beneath them, but for folders that are passed over
 abbrev pub found_paths : Scope → List Place → Files → List (List ℕ)
-found_paths scope places tree = listed_paths tree (folders_for places (set_of (paths_among places))) (is_passed_over scope (set_of (paths_among places)))
+found_paths scope places tree = listed_paths tree (folders_for places (set_of (paths_among places)))
+    (is_passed_over scope (set_of (paths_among places)))
 
 -- where folders are gone through
 abbrev pub AreUnusedWhere : Bool → Scope → List Place → Files → Unused → Type 0

@@ -32,7 +32,8 @@ pub(crate) fn plan_amended<S: Store>(
     path: &PathText,
     asked: &Amendment<'_>,
 ) -> Result<Option<Change>, Refusal>
-    ensures edit { S.honest store.new → ShowsPair paths.now (tree_of (S.files store.old)) path.now → AnswersEdit (tree_of (S.files store.old)) (amended_by asked.now (tree_of (S.files store.old)) path.now) result }
+    ensures edit { S.honest store.new → ShowsPair paths.now (tree_of (S.files store.old)) path.now → AnswersEdit
+        (tree_of (S.files store.old)) (amended_by asked.now (tree_of (S.files store.old)) path.now) result }
     ensures asks { ReadsAlone S.Store IsOfPlan store.old store.new result }
 {
     if !is_among(paths, path.as_bytes()) {
@@ -46,7 +47,7 @@ pub(crate) fn plan_amended<S: Store>(
     }
     let neighbour = neighbour_of(alloc, path)?;
     if is_among(paths, neighbour.as_slice()) {
-        return plan_beside(alloc, store, path, asked);
+        return plan_in_neighbour(alloc, store, path, asked);
     }
     match style_of(path, asked) {
         Some(style) => plan_inside(alloc, store, path, style, asked),
@@ -113,7 +114,7 @@ fn style_of_kind(kind: Kind) -> Option<Style>
 }
 
 // The change of the neighbour of a file, which is there.
-fn plan_beside<S: Store>(
+fn plan_in_neighbour<S: Store>(
     alloc: Global,
     store: &mut S,
     path: &PathText,

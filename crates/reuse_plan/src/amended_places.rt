@@ -55,7 +55,8 @@ fn is_table_chosen<S: Store>(
     scope: &Scope,
 ) -> Result<bool, StoreFault>
     ensures chosen { S.honest store.new
-        → IfOk result (λ chosen. chosen ≡ (asks_for_table scope.now places.now && is_some (get (tree_of (S.files store.old)) toml_path))) }
+        → IfOk result (λ chosen.
+        chosen ≡ (asks_for_table scope.now places.now && is_some (get (tree_of (S.files store.old)) toml_path))) }
     ensures fails { FailsAsRead S.Store store.old store.new result }
     ensures reads { OnlyReads S.Store store.old store.new }
 {

@@ -13,7 +13,7 @@ use crate::path_plan::PathPlan;
 use crate::place::{
     Step, absent_refusal, neighbour_path, plan_neighbour, plan_new_neighbour, plan_reading,
 };
-use crate::target_choice::goes_beside;
+use crate::target_choice::goes_to_neighbour;
 use reuse_change::{PathText, is_among};
 use reuse_command::reply::Refusal;
 use reuse_store::Store;
@@ -28,7 +28,8 @@ pub(crate) fn plan_annotated<S: Store>(
     path: &PathText,
     asked: &Annotation<'_>,
 ) -> Result<PathPlan, Refusal>
-    ensures plan { S.honest store.new → ShowsPair paths.now (tree_of (S.files store.old)) path.now → AnswersPlan Stop (tree_of (S.files store.old)) (path_by asked.now (tree_of (S.files store.old)) path.now) result }
+    ensures plan { S.honest store.new → ShowsPair paths.now (tree_of (S.files store.old)) path.now → AnswersPlan Stop
+        (tree_of (S.files store.old)) (path_by asked.now (tree_of (S.files store.old)) path.now) result }
     ensures asks { ReadsAlone S.Store IsOfPlan store.old store.new result }
 {
     if !is_among(paths, path.as_bytes()) {
@@ -37,19 +38,19 @@ pub(crate) fn plan_annotated<S: Store>(
     if !is_covered(path.as_bytes()) {
         return Err(Refusal::NotCovered(path.try_clone(alloc)?));
     }
-    if goes_beside(alloc, paths, path, asked)? {
-        return plan_beside(alloc, store, paths, path, asked);
+    if goes_to_neighbour(alloc, paths, path, asked)? {
+        return plan_in_neighbour(alloc, store, paths, path, asked);
     }
     let reading = store.read(alloc, path, LONGEST_FILE)?;
     match plan_reading(alloc, path, asked, reading) {
         Ok(Step::Done(plan)) => Ok(plan),
-        Ok(Step::Beside) => plan_beside(alloc, store, paths, path, asked),
+        Ok(Step::InNeighbour) => plan_in_neighbour(alloc, store, paths, path, asked),
         Err(refusal) => Err(refusal),
     }
 }
 
 // What is done at a covered file whose neighbour is the place. `paths` show whether that is there.
-fn plan_beside<S: Store>(
+fn plan_in_neighbour<S: Store>(
     alloc: Global,
     store: &mut S,
     paths: &[PathText],
@@ -58,7 +59,8 @@ fn plan_beside<S: Store>(
 ) -> Result<PathPlan, Refusal>
     ensures plan { S.honest store.new → ShowsPair paths.now (tree_of (S.files store.old)) path.now
         → is_covered path.now ≡ true
-        → AnswersPlan Stop (tree_of (S.files store.old)) (path_beside_by asked.now (tree_of (S.files store.old)) path.now) result }
+        → AnswersPlan Stop (tree_of (S.files store.old))
+        (path_beside_by asked.now (tree_of (S.files store.old)) path.now) result }
     ensures asks { ReadsAlone S.Store IsOfPlan store.old store.new result }
 {
     let Some(neighbour) = neighbour_path(alloc, path)? else {

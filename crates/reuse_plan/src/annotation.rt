@@ -26,19 +26,19 @@ pub(crate) struct Amendment<'a> {
 
 /// What is asked of each file: one walk serves both commands.
 #[derive(Clone, Copy)]
-pub(crate) enum Asked<'a> {
+pub(crate) enum FileTask<'a> {
     Annotation(Annotation<'a>),
     Amendment(Amendment<'a>),
 }
 
-impl<'a> Asked<'a> {
+impl<'a> FileTask<'a> {
     /// Which files are gone through.
     pub(crate) fn scope(&self) -> &'a Scope
         ensures { result.now ≡ scope_of self.now }
     {
         match self {
-            Asked::Annotation(asked) => asked.scope,
-            Asked::Amendment(asked) => asked.scope,
+            FileTask::Annotation(asked) => asked.scope,
+            FileTask::Amendment(asked) => asked.scope,
         }
     }
 }

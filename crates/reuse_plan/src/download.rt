@@ -36,7 +36,8 @@ pub(crate) fn plan_download<S: Store>(
     texts: &[LicenceText],
     policy: Policy,
 ) -> Result<Vec<PathPlan>, Refusal>
-    ensures plans { S.honest store.new → AnswersPlans policy (tree_of (S.files store.old)) (downloads_at ids.now texts.now (tree_of (S.files store.old))) result }
+    ensures plans { S.honest store.new → AnswersPlans policy (tree_of (S.files store.old))
+        (downloads_at ids.now texts.now (tree_of (S.files store.old))) result }
     ensures asks { ReadsAlone S.Store (EndsWalk policy) store.old store.new result }
 {
     let paths = licence_paths(alloc, store)?;

@@ -3,8 +3,8 @@ ghost use Rattle.std.specs.Prelude.{◌≡◌, ◌≤◌, ◌+◌, [], take, dro
 ghost use Rattle.reuse_text.specs.declared.TheConstants.{LONGEST_FILE};
 ghost use Rattle.reuse_command.specs.Reading.{get, Files};
 ghost use Rattle.reuse_change.specs.Change.{sealed_splice};
-ghost use Rattle.reuse_header.specs.Splices.{IsDue, answer_of};
-ghost use Rattle.reuse_header.specs.Amendment.{amendment_answer, IsAmendmentDue};
+ghost use Rattle.reuse_header.specs.Splices.{IsExpected, answer_of};
+ghost use Rattle.reuse_header.specs.Amendment.{amendment_answer, IsExpectedAmendment};
 ghost use Rattle.reuse_amend.specs.declared.amendments.Amendments.{Amendments};
 ghost use Rattle.reuse_toml.specs.TomlAmending.{toml_amendment_of};
 ghost use Rattle.reuse_toml.specs.TomlAnswers.{IsTomlAnswer};
@@ -12,7 +12,7 @@ ghost use Rattle.reuse_plan.specs.Amend.{amendment_edit, amend_refused_by, table
 ghost use Rattle.reuse_plan.specs.AmendmentPlan as amending;
 ghost use Rattle.reuse_plan.specs.Annotate.{edit_by};
 ghost use Rattle.reuse_plan.specs.HeaderFaults.{refused_by};
-ghost use Rattle.reuse_plan.specs.Annotations.{Fits, Due};
+ghost use Rattle.reuse_plan.specs.Annotations.{Fits, Expected};
 ghost use Rattle.reuse_plan.specs.Plan.{AnswersEdit};
 ghost use Rattle.reuse_command.specs.Refused.{IsNoFault};
 
@@ -35,9 +35,10 @@ pub(crate) fn change_by(
     file: &[u8],
     made: Result<Option<Splice>, HeaderRefusal>,
 ) -> Result<Option<Change>, Refusal>
-    ensures edit { (tree : Files) (due : Due) → get tree at.now ≡ Some file.now → length file.now ≤ LONGEST_FILE
-        → Fits file.now due → IsDue (answer_of file.now due) made
-        → AnswersEdit tree (edit_by path.now at.now file.now due) result }
+    ensures edit { (tree : Files) (expected : Expected) → get tree at.now ≡ Some file.now
+        → length file.now ≤ LONGEST_FILE
+        → Fits file.now expected → IsExpected (answer_of file.now expected) made
+        → AnswersEdit tree (edit_by path.now at.now file.now expected) result }
     ensures no_fault { IfErr result IsNoFault }
 {
     match made {
@@ -60,8 +61,9 @@ pub(crate) fn making_by(
     at: &PathText,
     made: Result<Option<Splice>, HeaderRefusal>,
 ) -> Result<Option<Change>, Refusal>
-    ensures edit { (tree : Files) (due : Due) → get tree at.now ≡ None → Fits [] due → IsDue (answer_of [] due) made
-        → AnswersEdit tree (edit_by path.now at.now [] due) result }
+    ensures edit { (tree : Files) (expected : Expected) → get tree at.now ≡ None → Fits [] expected
+        → IsExpected (answer_of [] expected) made
+        → AnswersEdit tree (edit_by path.now at.now [] expected) result }
     ensures no_fault { IfErr result IsNoFault }
 {
     match made {
@@ -71,7 +73,8 @@ pub(crate) fn making_by(
     }
 }
 
-/// The change of a file that is there, of these bytes, by what an amendment makes of it. A refusal names `path`.
+/// The change of a file that is there, of these bytes, by what an amendment makes of it. A refusal
+/// names `path`.
 pub(crate) fn amendment_by(
     alloc: Global,
     path: &PathText,
@@ -79,10 +82,10 @@ pub(crate) fn amendment_by(
     file: &[u8],
     made: Result<Option<Splice>, AmendHeaderRefusal>,
 ) -> Result<Option<Change>, Refusal>
-    ensures edit { (tree : Files) (due : amending.Due) → get tree at.now ≡ Some file.now
-        → length file.now ≤ LONGEST_FILE → amending.Fits file.now due
-        → IsAmendmentDue (amendment_answer file.now due) made
-        → AnswersEdit tree (amendment_edit path.now at.now file.now due) result }
+    ensures edit { (tree : Files) (expected : amending.Expected) → get tree at.now ≡ Some file.now
+        → length file.now ≤ LONGEST_FILE → amending.Fits file.now expected
+        → IsExpectedAmendment (amendment_answer file.now expected) made
+        → AnswersEdit tree (amendment_edit path.now at.now file.now expected) result }
     ensures no_fault { IfErr result IsNoFault }
 {
     match made {
@@ -122,7 +125,8 @@ fn table_change(
     splice: TomlSplice,
 ) -> Result<Change, AllocError>
     requires { splice.at + splice.old ≤ length file.now }
-    ensures { IfOk result (λ change. change ≡ sealed_splice path.now file.now splice.at (take splice.old (drop splice.at file.now)) splice.new) }
+    ensures { IfOk result (λ change. change ≡ sealed_splice path.now file.now splice.at
+        (take splice.old (drop splice.at file.now)) splice.new) }
 {
     let old = &file[splice.at..];
     let removed = Bytes::from_slice(alloc, &old[..splice.old])?;

@@ -1,9 +1,9 @@
 //! Plans a command: finds what it would do at each path of the tree, and changes nothing.
 //!
 //! One walk (`walk`) goes over the selected paths and makes a `PathPlan` of each. The changes of a
-//! run and what a preview tells are made of these plans (`run`), so that nothing is decided twice.
-//! A plan only reads the store, and says what the definitions in `specs/` give on the whole tree.
-//! Sessions call it, and nobody else. The calls are tested by `tests/sessions`.
+//! run and what a preview reports are made of these plans (`run`), so that nothing is decided
+//! twice. A plan only reads the store, and says what the definitions in `specs/` give on the whole
+//! tree. Sessions call it, and nobody else. The calls are tested by `tests/sessions`.
 #![tactic(auto)]
 
 mod amend;
@@ -23,10 +23,10 @@ mod planned;
 mod revert;
 pub mod run;
 mod select;
+mod skipped_folders;
 mod styles;
 pub mod target;
 mod target_choice;
 mod tree_paths;
-mod unselected;
 pub mod unused;
 mod walk;

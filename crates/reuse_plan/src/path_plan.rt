@@ -5,7 +5,7 @@ ghost use Rattle.reuse_plan.specs.Edit.{Edit};
 ghost use Rattle.reuse_plan.specs.PathEdits.{PathEdit, all_or_none, refused_alone};
 ghost use Rattle.reuse_plan.specs.PathPlans.{AnswersPlan, AnswersPlans, EndsWalk, IsPlanOf};
 ghost use Rattle.reuse_plan.specs.Plan.{AnswersEdits, IsRefusalOf, MakesEdit};
-ghost use Rattle.reuse_command.specs.Answer.{IsTold};
+ghost use Rattle.reuse_command.specs.Answer.{IsNoFailure};
 ghost use Rattle.reuse_command.specs.Reading.{Files, IsOfPlan};
 ghost use Rattle.reuse_command.specs.declared.reply.Refusal.{Refusal};
 ghost use Rattle.reuse_plan.specs.declared.path_plan.PathPlan.TheVariants as plan;
@@ -13,7 +13,7 @@ ghost use Rattle.reuse_plan.specs.declared.path_plan.Policy.TheVariants.{Stop};
 ghost use Rattle.reuse_command.specs.declared.failure.Failure.TheVariants as failures;
 
 use reuse_change::{Change, PathText};
-use reuse_command::path_outcome::told;
+use reuse_command::path_outcome::unless_failure;
 use reuse_command::reply::Refusal;
 use std::alloc::{AllocError, Global};
 
@@ -61,13 +61,13 @@ impl Policy {
     pub(crate) fn refused(self, refusal: Refusal) -> Result<PathPlan, Refusal>
         ensures plan { (tree : Files) (here : PathEdit) → IsRefusalOf here.edit refusal
             → AnswersPlan self tree here result }
-        ensures told { IfOk result (λ plan. IsTold refusal) }
+        ensures reported { IfOk result (λ plan. IsNoFailure refusal) }
         ensures same { IfErr result (λ ended. ended ≡ refusal) }
         ensures ends { IsOfPlan refusal → IfErr result (EndsWalk self) }
     {
         match self {
             Policy::Stop => Err(refusal),
-            Policy::Collect => Ok(PathPlan::Refused(told(refusal)?)),
+            Policy::Collect => Ok(PathPlan::Refused(unless_failure(refusal)?)),
         }
     }
 
@@ -79,7 +79,7 @@ impl Policy {
     ) -> Result<Vec<PathPlan>, Refusal>
         ensures plans { (tree : Files) → AnswersPlans self tree (refused_alone refusal) result }
         ensures same { IfErr result (λ ended. (ended ≡ Refusal.Failed failures.Memory) ⊎ (ended ≡ refusal)) }
-        ensures told { IfOk result (λ plans. IsTold refusal) }
+        ensures reported { IfOk result (λ plans. IsNoFailure refusal) }
         ensures ends { IsOfPlan refusal → IfErr result (EndsWalk self) }
     {
         let plan = self.refused(refusal)?;

@@ -1,5 +1,6 @@
 //! What annotate does at the place that was chosen.
-ghost use Rattle.std.specs.Prelude.{◌≡◌, ◌≤◌, ℕ, List, false, true, length, IfOk, IfErr, IfSome, IfNone, Some, None, Ok, Err, nat_lt};
+ghost use Rattle.std.specs.Prelude.{◌≡◌, ◌≤◌, ℕ, List, false, true, length, IfOk, IfErr, IfSome, IfNone, Some, None};
+ghost use Rattle.std.specs.Prelude.{Ok, Err, nat_lt};
 ghost use Rattle.reuse_command.specs.Reading.{get, reading_of, tree_of, Files, IsOfPlan, ReadsAlone};
 ghost use Rattle.reuse_command.specs.Covered.{is_covered};
 ghost use Rattle.reuse_plan.specs.Shown.{ShowsPair};
@@ -42,7 +43,7 @@ pub(crate) enum Step {
     /// What is done there.
     Done(PathPlan),
     /// That is what is done in its neighbour.
-    Beside,
+    InNeighbour,
 }
 
 /// The refusal of a path without a file. `paths` show what stands there.
@@ -71,7 +72,8 @@ pub(crate) fn absent_refusal(
 pub(crate) fn neighbour_path(alloc: Global, path: &PathText) -> Result<Option<PathText>, Refusal>
     ensures path { IfOk result (λ found. IfSome found (λ neighbour. neighbour ≡ neighbour_of path.now)) }
     ensures long { IfOk result (λ found. IfNone found (nat_lt 4096 (length (neighbour_of path.now)) ≡ true)) }
-    ensures short { IfOk result (λ found. IfSome found (λ neighbour. nat_lt 4096 (length (neighbour_of path.now)) ≡ false)) }
+    ensures short { IfOk result
+        (λ found. IfSome found (λ neighbour. nat_lt 4096 (length (neighbour_of path.now)) ≡ false)) }
     ensures memory { IfErr result (λ refusal. refusal ≡ Refusal.Failed failures.Memory) }
 {
     let text = format!(in alloc; "{}.license", path.text())?;
@@ -97,7 +99,7 @@ pub(crate) fn plan_reading(
     let bytes = short_bytes(alloc, path, reading)?;
     match target_by_bytes(alloc, path, bytes.as_slice(), asked) {
         Ok(Target::Inside(style)) => plan_inside(alloc, path, bytes.as_slice(), style, asked),
-        Ok(Target::Beside) => Ok(Step::Beside),
+        Ok(Target::InNeighbour) => Ok(Step::InNeighbour),
         Ok(Target::Nowhere) => Ok(Step::Done(PathPlan::Skipped(path.try_clone(alloc)?))),
         Err(refusal) => Err(refusal),
     }
@@ -187,7 +189,8 @@ pub(crate) fn plan_new_neighbour<S: Store>(
 ) -> Result<Option<Change>, Refusal>
     ensures edit { S.honest store.new → is_covered path.now ≡ true → neighbour ≡ neighbour_of path.now
         → get (tree_of (S.files store.old)) neighbour ≡ None
-        → AnswersEdit (tree_of (S.files store.old)) (neighbour_by asked.now (tree_of (S.files store.old)) path.now None) result }
+        → AnswersEdit (tree_of (S.files store.old))
+        (neighbour_by asked.now (tree_of (S.files store.old)) path.now None) result }
     ensures asks { ReadsAlone S.Store IsOfPlan store.old store.new result }
 {
     if is_clash_at(alloc, store, &neighbour)? {

@@ -1,4 +1,4 @@
-//! What is made of the plans of a command: the changes of a run, and what a preview tells.
+//! What is made of the plans of a command: the changes of a run, and what a preview reports.
 ghost use Rattle.std.specs.Prelude.{◌≡◌, ◌++◌, ◌∷◌, [], ◌||◌, map, IfOk, OnOk};
 ghost use Rattle.std.specs.Option.{option_to_list};
 ghost use Rattle.std.specs.List.{list_any};
@@ -10,7 +10,7 @@ use reuse_change::Change;
 use reuse_command::path_outcome::PathOutcome;
 use std::alloc::{AllocError, Global};
 
-/// What a preview tells of each path, and the changes beside that.
+/// What a preview reports of each path, and the changes beside that.
 #[derive(Drop)]
 pub(crate) struct Planned {
     pub(crate) path_outcomes: Vec<PathOutcome>,
@@ -20,9 +20,10 @@ pub(crate) struct Planned {
 }
 
 impl Planned {
-    /// What the plans tell.
+    /// What the plans report.
     pub(crate) fn of(alloc: Global, plans: Vec<PathPlan>) -> Result<Planned, AllocError>
-        ensures path_outcomes { IfOk result (λ planned. planned.path_outcomes.items ≡ map path_outcome_planned plans.items) }
+        ensures path_outcomes { IfOk result
+            (λ planned. planned.path_outcomes.items ≡ map path_outcome_planned plans.items) }
         ensures changes { IfOk result (λ planned. planned.changes.items ≡ changes_planned plans.items) }
         ensures refused { IfOk result (λ planned. planned.is_refused ≡ list_any is_refusal plans.items) }
     {
@@ -37,10 +38,12 @@ impl Planned {
         Ok(planned)
     }
 
-    // Adds what a plan tells.
+    // Adds what a plan reports.
     fn push(&mut self, alloc: Global, plan: PathPlan) -> Result<(), AllocError>
-        ensures path_outcomes { OnOk result (self.new.path_outcomes.items ≡ self.old.path_outcomes.items ++ path_outcome_planned plan ∷ []) }
-        ensures changes { OnOk result (self.new.changes.items ≡ self.old.changes.items ++ option_to_list (change_planned plan)) }
+        ensures path_outcomes { OnOk result
+            (self.new.path_outcomes.items ≡ self.old.path_outcomes.items ++ path_outcome_planned plan ∷ []) }
+        ensures changes { OnOk result
+            (self.new.changes.items ≡ self.old.changes.items ++ option_to_list (change_planned plan)) }
         ensures refused { OnOk result (self.new.is_refused ≡ (self.old.is_refused || is_refusal plan)) }
     {
         let path_outcome = match plan {

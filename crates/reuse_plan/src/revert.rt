@@ -1,5 +1,6 @@
 //! Plans a revert: takes the changes of a step back on whatever the tree is now.
-ghost use Rattle.std.specs.Prelude.{◌≡◌, ◌≢◌, ◌↔◌, ◌&&◌, ◌+◌, ◌≤◌, ℕ, IfOk, IfErr, IsTrue, List, Ok, Err, Option, Some, None, false, true, length, map};
+ghost use Rattle.std.specs.Prelude.{◌≡◌, ◌≢◌, ◌↔◌, ◌&&◌, ◌+◌, ◌≤◌, ℕ, IfOk, IfErr, IsTrue, List, Ok, Err, Option, Some};
+ghost use Rattle.std.specs.Prelude.{None, false, true, length, map};
 ghost use Rattle.reuse_store.specs.Asked.{FailsAsRead};
 ghost use Rattle.reuse_change.specs.Change.{path_of, IsProper};
 ghost use Rattle.reuse_change.specs.Clash.{is_clash};
@@ -11,7 +12,8 @@ ghost use Rattle.reuse_command.specs.Answer.{IsTestRefusal, IsEarlyFailure};
 ghost use Rattle.reuse_plan.specs.PathPlans.{AnswersPlan, AnswersPlans, EndsWalk};
 ghost use Rattle.reuse_plan.specs.Plan.{MakesEdit};
 ghost use Rattle.reuse_command.specs.Reading.{get, reading_of, tree_of, Files, OnlyReads, ReadsAlone};
-ghost use Rattle.reuse_plan.specs.Reverting.{has_digest, is_as_left, reverted_at, stands_as_written, stands_at, taken_back, taken_back_unless};
+ghost use Rattle.reuse_plan.specs.Reverting.{has_digest, is_as_left, reverted_at, stands_as_written, stands_at};
+ghost use Rattle.reuse_plan.specs.Reverting.{taken_back, taken_back_unless};
 ghost use Rattle.reuse_command.specs.declared.failure.Fault.{Fault};
 ghost use Rattle.reuse_command.specs.declared.failure.Failure.TheVariants as failures;
 
@@ -34,7 +36,8 @@ pub(crate) fn plan_revert<S: Store>(
     policy: Policy,
 ) -> Result<Vec<PathPlan>, Refusal>
     requires { IsEntry changes.now }
-    ensures plans { S.honest store.new → AnswersPlans policy (tree_of (S.files store.old)) (map (reverted_at touched.now skip_moved (tree_of (S.files store.old))) changes.now) result }
+    ensures plans { S.honest store.new → AnswersPlans policy (tree_of (S.files store.old))
+        (map (reverted_at touched.now skip_moved (tree_of (S.files store.old))) changes.now) result }
     ensures asks { ReadsAlone S.Store (EndsWalk policy) store.old store.new result }
 {
     let mut plans = Vec::with_capacity(alloc, changes.len())?;
@@ -83,7 +86,8 @@ fn take_back<S: Store>(
 ) -> Result<Option<Change>, Refusal>
     ensures edit { S.honest store.new → IsProper change.now → IsSmall change.now
         → is_of_tree (path_of change.now) ≡ true
-        → IfOk result (MakesEdit (tree_of (S.files store.old)) (Ok (taken_back_unless touched.now (tree_of (S.files store.old)) change.now))) }
+        → IfOk result (MakesEdit (tree_of (S.files store.old))
+        (Ok (taken_back_unless touched.now (tree_of (S.files store.old)) change.now))) }
     ensures asks { ReadsAlone S.Store IsEarlyFailure store.old store.new result }
 {
     if touched.has(change.path()) {
@@ -103,7 +107,8 @@ fn makes_at_clash<S: Store>(
     change: &Change,
 ) -> Result<bool, StoreFault>
     ensures clash { S.honest store.new → is_of_tree (path_of change.now) ≡ true
-        → IfOk result (λ clash. clash ≡ (makes Backward change.now && is_clash (tree_of (S.files store.old)) (path_of change.now))) }
+        → IfOk result
+        (λ clash. clash ≡ (makes Backward change.now && is_clash (tree_of (S.files store.old)) (path_of change.now))) }
     ensures fails { FailsAsRead S.Store store.old store.new result }
     ensures reads { OnlyReads S.Store store.old store.new }
 {
@@ -190,7 +195,8 @@ fn put_back(
 ) -> Result<Option<Change>, AllocError>
     ensures { (tree : Files) → written.now.old.now ≢ written.now.new.now → get tree path.now ≡ Some file
         → length file ≤ LONGEST_FILE
-        → IfOk result (MakesEdit tree (Ok (taken_back (Splice path.now written.now.at written.now.old.now written.now.new.now written.now.rest written.now.seal) (Some file)))) }
+        → IfOk result (MakesEdit tree (Ok (taken_back (Splice path.now written.now.at written.now.old.now
+        written.now.new.now written.now.rest written.now.seal) (Some file)))) }
 {
     let Written {
         at,

@@ -1,5 +1,5 @@
-//! The changes of a run and what it counts, and what a preview tells: both are made of the plans of
-//! one walk.
+//! The changes of a run and what it counts, and what a preview reports: both are made of the plans
+//! of one walk.
 ghost use Rattle.std.specs.Prelude.{◌≡◌, ◌++◌, None, IfOk, IfErr, OnOk};
 ghost use Rattle.std.specs.List.Sorted.{IsPermutation, IsSortedBy};
 ghost use Rattle.reuse_plan.specs.Counted.{IsCounted};
@@ -30,9 +30,11 @@ pub fn plan<S: Store>(
     command: &Command,
     counts: &mut Counts,
 ) -> Result<Vec<Change>, Refusal>
-    ensures changes { S.honest store.new → IfOk result (λ changes. IsPlan (outcome_of command.now (tree_of (S.files store.old))) (tree_of (S.files store.old)) changes.items) }
+    ensures changes { S.honest store.new → IfOk result (λ changes. IsPlan
+        (outcome_of command.now (tree_of (S.files store.old))) (tree_of (S.files store.old)) changes.items) }
     // The changes hold what the command removes and writes at each path, and no more.
-    ensures recorded { S.honest store.new → IfOk result (λ changes. Records (tree_of (S.files store.old)) (edits_of command.now (tree_of (S.files store.old))) changes.items) }
+    ensures recorded { S.honest store.new → IfOk result (λ changes. Records (tree_of (S.files store.old))
+        (edits_of command.now (tree_of (S.files store.old))) changes.items) }
     ensures counts { S.honest store.new → OnOk result (IsCounted command.now (tree_of (S.files store.old)) counts.new) }
     ensures refusal { S.honest store.new
         → IfErr result (λ refusal. IsRefusalOf (outcome_of command.now (tree_of (S.files store.old))) refusal) }
@@ -67,12 +69,15 @@ pub fn plan_preview<S: Store>(
     command: &Command,
     counts: &mut Counts,
 ) -> Result<Previewed, Refusal>
-    ensures path_outcomes { S.honest store.new → IfOk result (λ previewed. previewed.path_outcomes ≡ path_outcomes_of command.now (tree_of (S.files store.old))) }
+    ensures path_outcomes { S.honest store.new → IfOk result
+        (λ previewed. previewed.path_outcomes ≡ path_outcomes_of command.now (tree_of (S.files store.old))) }
     // Where none of the path outcomes is a refusal, the changes are those of a run.
     ensures changes { S.honest store.new → IfOk result (λ previewed. first_refusal previewed.path_outcomes ≡ None
-        → IsPlan (outcome_of command.now (tree_of (S.files store.old))) (tree_of (S.files store.old)) previewed.changes) }
+        → IsPlan (outcome_of command.now (tree_of (S.files store.old)))
+        (tree_of (S.files store.old)) previewed.changes) }
     ensures recorded { S.honest store.new → IfOk result (λ previewed. first_refusal previewed.path_outcomes ≡ None
-        → Records (tree_of (S.files store.old)) (edits_of command.now (tree_of (S.files store.old))) previewed.changes) }
+        → Records (tree_of (S.files store.old))
+        (edits_of command.now (tree_of (S.files store.old))) previewed.changes) }
     ensures counts { S.honest store.new → OnOk result (IsCounted command.now (tree_of (S.files store.old)) counts.new) }
     ensures fails { RefusedAsRead S.Store store.old store.new result }
     ensures reads { OnlyReads S.Store store.old store.new }
@@ -86,7 +91,8 @@ pub fn plan_preview<S: Store>(
 // What is planned. Behind the path outcomes stands, where none is a refusal, that the changes are
 // too many together.
 fn with_limit(planned: Planned) -> Result<Previewed, AllocError>
-    ensures path_outcomes { IfOk result (λ previewed. previewed.path_outcomes ≡ planned.path_outcomes.items ++ limit_planned planned.is_refused planned.changes.items) }
+    ensures path_outcomes { IfOk result (λ previewed. previewed.path_outcomes
+        ≡ planned.path_outcomes.items ++ limit_planned planned.is_refused planned.changes.items) }
     ensures moved { IfOk result (λ previewed. IsPermutation planned.changes.items previewed.changes) }
     ensures sorted { IfOk result (λ previewed. IsSortedBy is_before previewed.changes) }
 {

@@ -15,10 +15,10 @@ ghost use Rattle.reuse_command.specs.Command.{has_root, path_in, paths_among};
 ghost use Rattle.reuse_command.specs.declared.failure.Failure.TheVariants as failures;
 
 use crate::covered::is_covered;
+use crate::skipped_folders::SkippedFolders;
 use crate::tree_paths::{is_folder_alone, tree_paths, with_neighbours};
-use crate::unselected::Unselected;
 use crate::unused::Unused;
-use reuse_change::{Items, PathText, paths_beneath};
+use reuse_change::{FixedList, PathText, paths_beneath};
 use reuse_command::choice::{matches_one, sorted};
 use reuse_command::command::{Place, Scope};
 use reuse_command::reply::Refusal;
@@ -42,7 +42,7 @@ pub(crate) fn has_root(places: &[Place]) -> bool
 #[derive(Drop)]
 pub(crate) enum Listing {
     /// That these paths of the tree are there, and no other of them.
-    Listed(Items<PathText>),
+    Listed(FixedList<PathText>),
     /// Nothing: each is looked at by itself.
     Alone,
 }
@@ -65,7 +65,8 @@ pub(crate) fn find_selected<S: Store>(
     scope: &Scope,
     unused: &mut Unused,
 ) -> Result<Selected, Refusal>
-    ensures paths { S.honest store.new → IfOk result (λ selected. selected.paths.items ≡ selected_paths scope.now places.now (tree_of (S.files store.old))) }
+    ensures paths { S.honest store.new → IfOk result
+        (λ selected. selected.paths.items ≡ selected_paths scope.now places.now (tree_of (S.files store.old))) }
     ensures shown { S.honest store.new
         → IfOk result (λ selected. ShowsEach selected.listing (tree_of (S.files store.old)) selected.paths.items) }
     ensures unused { S.honest store.new
@@ -85,12 +86,12 @@ pub(crate) fn find_selected<S: Store>(
     *unused = Unused::of(alloc, scope, &paths, &listed)?;
     Ok(Selected {
         paths,
-        listing: Listing::Listed(Items::new(listed)),
+        listing: Listing::Listed(FixedList::new(listed)),
     })
 }
 
 // The paths at these places, of which these are given, and beneath them. Folders are passed over
-// beneath which nothing is worked.
+// beneath which nothing is selected.
 fn list_selected<S: Store>(
     alloc: Global,
     store: &mut S,
@@ -98,12 +99,13 @@ fn list_selected<S: Store>(
     given: &[PathText],
     scope: &Scope,
 ) -> Result<Vec<PathText>, Refusal>
-    ensures listed { S.honest store.new → IfOk result (λ listed. listed.items ≡ listed_paths (tree_of (S.files store.old)) (folders_for places.now given.now) (is_passed_over scope.now given.now)) }
+    ensures listed { S.honest store.new → IfOk result (λ listed. listed.items ≡ listed_paths
+        (tree_of (S.files store.old)) (folders_for places.now given.now) (is_passed_over scope.now given.now)) }
     ensures asks { ReadsAlone S.Store IsEarlyFailure store.old store.new result }
 {
     let folders = folders_for(alloc, places, given)?;
-    let unselected = Unselected { scope, given };
-    Ok(tree_paths(alloc, store, &folders, &unselected)?)
+    let skipped_folders = SkippedFolders { scope, given };
+    Ok(tree_paths(alloc, store, &folders, &skipped_folders)?)
 }
 
 // The folders that are listed for these places, of which these are given: none for the whole tree.
@@ -155,7 +157,8 @@ fn push_expanded<S: Store>(
 ) -> Result<(), StoreFault>
     ensures adds { S.honest store.new → ArePaths paths.now
         → ShowsPlace scope.now paths.now (tree_of (S.files store.old)) place.now
-        → OnOk result (found.new.items ≡ found.old.items ++ expanded scope.now (tree_of (S.files store.old)) place.now) }
+        → OnOk result
+        (found.new.items ≡ found.old.items ++ expanded scope.now (tree_of (S.files store.old)) place.now) }
     ensures fails { FailsAsRead S.Store store.old store.new result }
     ensures reads { OnlyReads S.Store store.old store.new }
 {
@@ -248,7 +251,7 @@ fn push_path(alloc: Global, paths: &mut Vec<PathText>, place: &Place) -> Result<
     }
 }
 
-// Whether a file beneath a folder is worked.
+// Whether a file beneath a folder is selected.
 fn is_chosen(scope: &Scope, path: &PathText) -> bool
     ensures { result ≡ is_chosen scope.now path.now }
 {

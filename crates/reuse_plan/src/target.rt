@@ -8,7 +8,7 @@ pub enum Target {
     /// Into a comment of the file, in this style.
     Inside(Style),
     /// Into its neighbour.
-    Beside,
+    InNeighbour,
     /// Nowhere: the file is skipped.
     Nowhere,
 }

@@ -3,7 +3,9 @@ ghost use Rattle.std.specs.Prelude.{◌≡◌, ◌≤◌, IfOk, IfErr, length};
 ghost use Rattle.reuse_header.specs.Names.{kind_in, lookup};
 ghost use Rattle.reuse_change.specs.Files.{Files};
 ghost use Rattle.reuse_text.specs.declared.TheConstants.{LONGEST_FILE};
-ghost use Rattle.reuse_plan.specs.Annotate.{neighbour_of, is_uncommentable, goes_beside, goes_beside_unread, target_of_unknown, target_by_name, target_by_style};
+ghost use Rattle.reuse_plan.specs.Annotate.{neighbour_of, is_uncommentable, goes_to_neighbour};
+ghost use Rattle.reuse_plan.specs.Annotate.{goes_to_neighbour_unread, target_of_unknown, target_by_name};
+ghost use Rattle.reuse_plan.specs.Annotate.{target_by_style};
 ghost use Rattle.reuse_plan.specs.AnnotationPlan.{own_of, place_by};
 ghost use Rattle.reuse_plan.specs.Plan.{AnswersOf};
 ghost use Rattle.reuse_command.specs.Refused.{IsNoFault};
@@ -29,22 +31,22 @@ pub(crate) fn neighbour_of(alloc: Global, path: &PathText) -> Result<Bytes, Allo
 
 /// Whether the neighbour is the place, whatever the file holds: it is there, that is asked for, or
 /// the name takes no comment and no style is asked for. `paths` show whether it is there.
-pub(crate) fn goes_beside(
+pub(crate) fn goes_to_neighbour(
     alloc: Global,
     paths: &[PathText],
     path: &PathText,
     asked: &Annotation<'_>,
 ) -> Result<bool, AllocError>
     ensures { (tree : Files) → ShowsPair paths.now tree path.now
-        → IfOk result (λ beside. beside ≡ goes_beside asked.now.scope.now (own_of asked.now) tree path.now) }
+        → IfOk result (λ beside. beside ≡ goes_to_neighbour asked.now.scope.now (own_of asked.now) tree path.now) }
 {
     let neighbour = neighbour_of(alloc, path)?;
-    Ok(is_among(paths, neighbour.as_slice()) || goes_beside_unread(path, asked))
+    Ok(is_among(paths, neighbour.as_slice()) || goes_to_neighbour_unread(path, asked))
 }
 
 /// Whether the neighbour is the place, though it may not be there and whatever the file holds.
-pub(crate) fn goes_beside_unread(path: &PathText, asked: &Annotation<'_>) -> bool
-    ensures { result ≡ goes_beside_unread asked.now.scope.now (own_of asked.now) path.now }
+pub(crate) fn goes_to_neighbour_unread(path: &PathText, asked: &Annotation<'_>) -> bool
+    ensures { result ≡ goes_to_neighbour_unread asked.now.scope.now (own_of asked.now) path.now }
 {
     asked.scope.force_dot_license
         || (asked.scope.style.is_none() && is_uncommentable(asked.styles.style_of(path.text())))
@@ -72,7 +74,7 @@ pub(crate) fn target_by_bytes(
     ensures no_fault { IfErr result IsNoFault }
 {
     if !is_text(bytes) {
-        return Ok(Target::Beside);
+        return Ok(Target::InNeighbour);
     }
     target_by_style(alloc, path, asked)
 }
@@ -83,7 +85,8 @@ fn target_by_style(
     path: &PathText,
     asked: &Annotation<'_>,
 ) -> Result<Target, Refusal>
-    ensures target { AnswersOf (target_by_style asked.now.scope.now (own_of asked.now) path.now asked.now.scope.now.style) result }
+    ensures target { AnswersOf
+        (target_by_style asked.now.scope.now (own_of asked.now) path.now asked.now.scope.now.style) result }
     ensures no_fault { IfErr result IsNoFault }
 {
     match asked.scope.style {
@@ -104,7 +107,7 @@ fn target_by_name(
 {
     match styles.style_of(path.text()) {
         Kind::Style(style) => Ok(Target::Inside(style)),
-        Kind::Uncommentable => Ok(Target::Beside),
+        Kind::Uncommentable => Ok(Target::InNeighbour),
         Kind::Unknown => target_of_unknown(alloc, path, unknown),
     }
 }
@@ -116,7 +119,7 @@ fn target_of_unknown(alloc: Global, path: &PathText, unknown: Unknown) -> Result
 {
     match unknown {
         Unknown::Refuse => Err(Refusal::Unrecognised(path.try_clone(alloc)?)),
-        Unknown::Neighbour => Ok(Target::Beside),
+        Unknown::Neighbour => Ok(Target::InNeighbour),
         Unknown::Skip => Ok(Target::Nowhere),
     }
 }

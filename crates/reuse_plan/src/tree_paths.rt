@@ -22,7 +22,8 @@ pub(crate) fn tree_paths<S: Store, P: Pruning>(
     folders: &[PathText],
     pruning: &P,
 ) -> Result<Vec<PathText>, StoreFault>
-    ensures paths { S.honest store.new → IfOk result (λ paths. paths.items ≡ listed_paths (tree_of (S.files store.old)) folders.now (P.prunes pruning.now)) }
+    ensures paths { S.honest store.new → IfOk result
+        (λ paths. paths.items ≡ listed_paths (tree_of (S.files store.old)) folders.now (P.prunes pruning.now)) }
     ensures fails { FailsAsRead S.Store store.old store.new result }
     ensures reads { OnlyReads S.Store store.old store.new }
 {

@@ -44,7 +44,8 @@ impl Unused {
     ) -> Result<Unused, AllocError>
         requires { ArePaths selected.now }
         ensures names { IfOk result (λ unused. unused.names ≡ unmet_count scope.now selected.now scope.now.listed) }
-        ensures globs { IfOk result (λ unused. unused.globs.items ≡ map (leaves_none_out scope.now selected.now found.now) scope.now.excluded) }
+        ensures globs { IfOk result
+            (λ unused. unused.globs.items ≡ map (leaves_none_out scope.now selected.now found.now) scope.now.excluded) }
     {
         Ok(Unused {
             names: unmet_count(scope, selected),
@@ -82,7 +83,8 @@ fn idle_globs(
     found: &[PathText],
 ) -> Result<Vec<bool>, AllocError>
     requires { ArePaths selected.now }
-    ensures { IfOk result (λ idle. idle.items ≡ map (leaves_none_out scope.now selected.now found.now) scope.now.excluded) }
+    ensures { IfOk result
+        (λ idle. idle.items ≡ map (leaves_none_out scope.now selected.now found.now) scope.now.excluded) }
 {
     scope
         .excluded

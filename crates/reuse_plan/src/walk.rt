@@ -15,7 +15,7 @@ ghost use Rattle.reuse_plan.specs.declared.path_plan.Policy.TheVariants.{Stop};
 use crate::amend::plan_amended;
 use crate::amended_places::with_table;
 use crate::annotate::plan_annotated;
-use crate::annotation::{Amendment, Annotation, Asked};
+use crate::annotation::{Amendment, Annotation, FileTask};
 use crate::convert::plan_conversion;
 use crate::download::plan_download;
 use crate::path_plan::{PathPlan, Policy};
@@ -40,7 +40,8 @@ pub(crate) fn plan_command<S: Store>(
     policy: Policy,
     unused: &mut Unused,
 ) -> Result<Vec<PathPlan>, Refusal>
-    ensures plans { S.honest store.new → AnswersPlans policy (tree_of (S.files store.old)) (path_edits_of command.now (tree_of (S.files store.old))) result }
+    ensures plans { S.honest store.new → AnswersPlans policy (tree_of (S.files store.old))
+        (path_edits_of command.now (tree_of (S.files store.old))) result }
     ensures unused { S.honest store.new
         → OnOk result (AreUnusedBy command.now (tree_of (S.files store.old)) unused.new) }
     ensures entry { HoldsEntry command.now }
@@ -54,7 +55,7 @@ pub(crate) fn plan_command<S: Store>(
             scope,
         } => match read_styles(alloc, store) {
             Ok(styles) => {
-                let asked = Asked::Annotation(Annotation {
+                let asked = FileTask::Annotation(Annotation {
                     additions,
                     how,
                     scope,
@@ -112,14 +113,17 @@ fn plan_amendment<S: Store>(
     unused: &mut Unused,
 ) -> Result<Vec<PathPlan>, Refusal>
     ensures plans { S.honest store.new → AnswersPlans policy (tree_of (S.files store.old))
-        (amendments_by (with_table amending.now.scope.now amending.now.places.now (tree_of (S.files store.old))) amending.now.amendments.now amending.now.scope.now (tree_of (S.files store.old)) (styles_in (tree_of (S.files store.old)))) result }
+        (amendments_by (with_table amending.now.scope.now amending.now.places.now (tree_of (S.files store.old)))
+        amending.now.amendments.now amending.now.scope.now (tree_of (S.files store.old))
+        (styles_in (tree_of (S.files store.old)))) result }
     ensures unused { S.honest store.new → OnOk result
-        (AreUnusedIf (styles_in (tree_of (S.files store.old))) amending.now.scope.now (with_table amending.now.scope.now amending.now.places.now (tree_of (S.files store.old))) (tree_of (S.files store.old)) unused.new) }
+        (AreUnusedIf (styles_in (tree_of (S.files store.old))) amending.now.scope.now (with_table amending.now.scope.now
+        amending.now.places.now (tree_of (S.files store.old))) (tree_of (S.files store.old)) unused.new) }
     ensures asks { ReadsAlone S.Store (EndsWalk policy) store.old store.new result }
 {
     match read_styles(alloc, store) {
         Ok(styles) => {
-            let asked = Asked::Amendment(Amendment {
+            let asked = FileTask::Amendment(Amendment {
                 amendments: amending.amendments,
                 scope: amending.scope,
                 styles: &styles,
@@ -138,11 +142,12 @@ fn plan_places<S: Store>(
     alloc: Global,
     store: &mut S,
     places: &[Place],
-    asked: &Asked<'_>,
+    asked: &FileTask<'_>,
     policy: Policy,
     unused: &mut Unused,
 ) -> Result<Vec<PathPlan>, Refusal>
-    ensures plans { S.honest store.new → AnswersPlans policy (tree_of (S.files store.old)) (at_places_by asked.now (tree_of (S.files store.old)) places.now) result }
+    ensures plans { S.honest store.new → AnswersPlans policy (tree_of (S.files store.old))
+        (at_places_by asked.now (tree_of (S.files store.old)) places.now) result }
     ensures unused { S.honest store.new
         → OnOk result (AreUnusedAt (scope_of asked.now) places.now (tree_of (S.files store.old)) unused.new) }
     ensures asks { ReadsAlone S.Store (EndsWalk policy) store.old store.new result }
@@ -170,11 +175,12 @@ fn plan_paths<S: Store>(
     store: &mut S,
     selected: &[PathText],
     listing: &Listing,
-    asked: &Asked<'_>,
+    asked: &FileTask<'_>,
     policy: Policy,
 ) -> Result<Vec<PathPlan>, Refusal>
     ensures plans { S.honest store.new → ShowsEach listing.now (tree_of (S.files store.old)) selected.now
-        → AnswersPlans policy (tree_of (S.files store.old)) (map (at_by asked.now (tree_of (S.files store.old))) selected.now) result }
+        → AnswersPlans policy (tree_of (S.files store.old))
+        (map (at_by asked.now (tree_of (S.files store.old))) selected.now) result }
     ensures asks { ReadsAlone S.Store (EndsWalk policy) store.old store.new result }
 {
     let mut plans = Vec::with_capacity(alloc, selected.len())?;
@@ -194,10 +200,11 @@ fn plan_one<S: Store>(
     store: &mut S,
     path: &PathText,
     listing: &Listing,
-    asked: &Asked<'_>,
+    asked: &FileTask<'_>,
     policy: Policy,
 ) -> Result<PathPlan, Refusal>
-    ensures plan { S.honest store.new → ShowsOne listing.now (tree_of (S.files store.old)) path.now → AnswersPlan policy (tree_of (S.files store.old)) (at_by asked.now (tree_of (S.files store.old)) path.now) result }
+    ensures plan { S.honest store.new → ShowsOne listing.now (tree_of (S.files store.old)) path.now → AnswersPlan policy
+        (tree_of (S.files store.old)) (at_by asked.now (tree_of (S.files store.old)) path.now) result }
     ensures asks { ReadsAlone S.Store (EndsWalk policy) store.old store.new result }
 {
     let planned = match listing {
@@ -215,9 +222,10 @@ fn plan_alone<S: Store>(
     alloc: Global,
     store: &mut S,
     path: &PathText,
-    asked: &Asked<'_>,
+    asked: &FileTask<'_>,
 ) -> Result<PathPlan, Refusal>
-    ensures plan { S.honest store.new → AnswersPlan Stop (tree_of (S.files store.old)) (at_by asked.now (tree_of (S.files store.old)) path.now) result }
+    ensures plan { S.honest store.new → AnswersPlan Stop (tree_of (S.files store.old))
+        (at_by asked.now (tree_of (S.files store.old)) path.now) result }
     ensures asks { ReadsAlone S.Store IsOfPlan store.old store.new result }
 {
     match pair_paths(alloc, store, path) {
@@ -232,14 +240,15 @@ fn plan_path<S: Store>(
     store: &mut S,
     paths: &[PathText],
     path: &PathText,
-    asked: &Asked<'_>,
+    asked: &FileTask<'_>,
 ) -> Result<PathPlan, Refusal>
-    ensures plan { S.honest store.new → ShowsPair paths.now (tree_of (S.files store.old)) path.now → AnswersPlan Stop (tree_of (S.files store.old)) (at_by asked.now (tree_of (S.files store.old)) path.now) result }
+    ensures plan { S.honest store.new → ShowsPair paths.now (tree_of (S.files store.old)) path.now → AnswersPlan Stop
+        (tree_of (S.files store.old)) (at_by asked.now (tree_of (S.files store.old)) path.now) result }
     ensures asks { ReadsAlone S.Store IsOfPlan store.old store.new result }
 {
     match asked {
-        Asked::Annotation(asked) => plan_annotated(alloc, store, paths, path, asked),
-        Asked::Amendment(asked) => match plan_amended(alloc, store, paths, path, asked) {
+        FileTask::Annotation(asked) => plan_annotated(alloc, store, paths, path, asked),
+        FileTask::Amendment(asked) => match plan_amended(alloc, store, paths, path, asked) {
             Ok(change) => Ok(PathPlan::of_change(alloc, path, change)?),
             Err(refusal) => Err(refusal),
         },

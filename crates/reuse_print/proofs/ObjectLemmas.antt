@@ -23,7 +23,9 @@ pub shown_no_float : (shown : Shown) (date : Date) → has_float (shown_value sh
 shown_no_float shown date = rw (changes_no_float shown.changes) refl
 
 -- a value that is what was stated is printed as a text of that
-pub printed_as : {T E : Type 0} (IsText : List ℕ → Type 0) (old new : Option (List ℕ)) (value stated : Data) (result : Result T E) → value ≡ stated → IsText (object_line stated)
+pub printed_as : {T E : Type 0} (IsText : List ℕ → Type 0) (old new : Option (List ℕ)) (value stated : Data)
+    (result : Result T E) → value ≡ stated → IsText (object_line stated)
     → OnOk result (Appends old new (object_line value)) → OnOk result (AppendsSome old new IsText)
 printed_as IsText old new value stated result is text =
-    on_ok_weaker result (λ (wrote : Appends old new (object_line value)). (object_line stated, (text, subst (λ v. Appends old new (object_line v)) is wrote)))
+    on_ok_weaker result (λ (wrote : Appends old new (object_line value)).
+    (object_line stated, (text, subst (λ v. Appends old new (object_line v)) is wrote)))

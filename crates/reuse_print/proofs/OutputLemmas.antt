@@ -7,7 +7,8 @@ use Rattle.reuse_print.specs.Outputs.{Adds}
 abbrev pub Written : List ℕ → List ℕ → (text rest : List ℕ) → Type 0
 Written old new text rest = (front : List ℕ) × (text ≡ front ++ rest) × Adds old new front
 
-pub more_written : (old mid new text rest : List ℕ) (n : ℕ) → Written old mid text rest → Adds mid new (take n rest) → Written old new text (drop n rest)
+pub more_written : (old mid new text rest : List ℕ) (n : ℕ) → Written old mid text rest → Adds mid new (take n rest)
+    → Written old new text (drop n rest)
 more_written old mid new text rest n so more = (
   so.0 ++ take n rest,
   so.1 ∙ ap (λ l. so.0 ++ l) (sym (take-append-drop n rest)) ∙ sym (append_assoc so.0 (take n rest) (drop n rest)),

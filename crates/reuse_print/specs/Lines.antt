@@ -11,14 +11,15 @@ use Rattle.reuse_command.specs.declared.path_outcome.PathOutcome.TheVariants.{Ch
 use Rattle.reuse_command.specs.declared.reply.Recovered.{Recovered}
 use Rattle.reuse_command.specs.declared.reply.Response.{Response}
 use Rattle.reuse_command.specs.declared.reply.Response.TheVariants as responses
-use Rattle.reuse_command.specs.declared.reply.Response.TheVariants.{Opened, Changed, NothingChanged, Undone, Redone, Log, Preview}
+use Rattle.reuse_command.specs.declared.reply.Response.TheVariants.{Opened, Changed, NothingChanged, Undone, Redone}
+use Rattle.reuse_command.specs.declared.reply.Response.TheVariants.{Log, Preview}
 use Rattle.reuse_command.specs.declared.reply.Reverted.{Reverted}
 use Rattle.reuse_command.specs.declared.reply.Shown.{Shown}
 use Rattle.reuse_shown.specs.ShownNames.{shown}
-use Rattle.reuse_shown.specs.declared.shown_name.Names.{Names}
+use Rattle.reuse_shown.specs.declared.shown_name.NameDisplay.{NameDisplay}
 
 -- a word, a space, a path, as names are shown, and a line end
-abbrev pub line_of : Names → List ℕ → List ℕ → List ℕ
+abbrev pub line_of : NameDisplay → List ℕ → List ℕ → List ℕ
 line_of names word path = word ++ 32 ∷ [] ++ shown names path ++ 10 ∷ []
 
 -- the texts of all, one after the other
@@ -27,17 +28,17 @@ joined text_of [] = []
 joined text_of (one ∷ others) = text_of one ++ joined text_of others
 
 -- one line for each path
-abbrev pub lines_of : Names → List ℕ → List (List ℕ) → List ℕ
+abbrev pub lines_of : NameDisplay → List ℕ → List (List ℕ) → List ℕ
 lines_of names word paths = joined (line_of names word) paths
 
--- what would become of a path; a refusal is told elsewhere
-abbrev pub path_outcome_line : Names → PathOutcome → List ℕ
+-- what would become of a path; a refusal is reported elsewhere
+abbrev pub path_outcome_line : NameDisplay → PathOutcome → List ℕ
 path_outcome_line names (Changes path) = line_of names (codes "would change") path
 path_outcome_line names (Unchanged path) = line_of names (codes "unchanged") path
 path_outcome_line names (Skipped path) = line_of names (codes "skipped") path
 path_outcome_line names (Refused refusal) = []
 
-abbrev pub path_outcome_lines : Names → List PathOutcome → List ℕ
+abbrev pub path_outcome_lines : NameDisplay → List PathOutcome → List ℕ
 path_outcome_lines names path_outcomes = joined (path_outcome_line names) path_outcomes
 
 -- what a change made of its path
@@ -46,29 +47,29 @@ kind_word (Make path new after) = codes "made"
 kind_word (Drop path old before) = codes "removed"
 kind_word (Splice path at old new rest seal) = codes "changed"
 
-abbrev pub change_line : Names → Change → List ℕ
+abbrev pub change_line : NameDisplay → Change → List ℕ
 change_line names change = line_of names (kind_word change) (path_of change)
 
-abbrev pub change_lines : Names → List Change → List ℕ
+abbrev pub change_lines : NameDisplay → List Change → List ℕ
 change_lines names changes = joined (change_line names) changes
 
 -- what a step is printed as: its row of the log, and a line for each path
-abbrev pub IsShownText : Names → Shown → List ℕ → Type 0
+abbrev pub IsShownText : NameDisplay → Shown → List ℕ → Type 0
 IsShownText names shown text =
     (line : List ℕ) × IsRowLine shown.row line × (text ≡ line ++ change_lines names shown.changes)
 
 -- a line for each path, or that there was none
-abbrev pub some_paths_text : Names → List ℕ → List (List ℕ) → List ℕ
+abbrev pub some_paths_text : NameDisplay → List ℕ → List (List ℕ) → List ℕ
 some_paths_text names word [] = codes "nothing changed" ++ 10 ∷ []
 some_paths_text names word (path ∷ paths) = lines_of names word (path ∷ paths)
 
 -- what a revert is printed as: the paths at which a step was taken back, and then those that were left
-abbrev pub reverted_text : Names → Reverted → List ℕ
+abbrev pub reverted_text : NameDisplay → Reverted → List ℕ
 reverted_text names reverted =
     some_paths_text names (codes "changed") reverted.changed ++ lines_of names (codes "skipped") reverted.skipped
 
 -- what a recovery is printed as: the paths that were rolled back, and then those that were left
-abbrev pub recovered_text : Names → Recovered → List ℕ
+abbrev pub recovered_text : NameDisplay → Recovered → List ℕ
 recovered_text names recovered =
     some_paths_text names (codes "set back") recovered.changed ++ lines_of names (codes "skipped") recovered.skipped
 
@@ -80,8 +81,8 @@ abbrev pub forgotten_text : List ℕ → List ℕ
 forgotten_text [] = codes "nothing changed" ++ 10 ∷ []
 forgotten_text (number ∷ numbers) = flat_map forgotten_line (number ∷ numbers)
 
--- what a reply is printed as; that a session was opened is not told
-abbrev pub IsResponseText : Names → Response → List ℕ → Type 0
+-- what a reply is printed as; that a session was opened is not reported
+abbrev pub IsResponseText : NameDisplay → Response → List ℕ → Type 0
 IsResponseText names Opened text = text ≡ []
 IsResponseText names (Changed paths) text = text ≡ lines_of names (codes "changed") paths
 IsResponseText names NothingChanged text = text ≡ codes "nothing changed" ++ 10 ∷ []
@@ -99,7 +100,7 @@ abbrev pub would_change : PathOutcome → Bool
 would_change (Changes path) = true
 would_change path_outcome = false
 
--- how many paths a reply tells that changed, or that would change
+-- how many paths a reply reports that changed, or that would change
 abbrev pub path_count : Response → ℕ
 path_count Opened = 0
 path_count (Changed paths) = length paths

@@ -25,7 +25,8 @@ use Rattle.reuse_shown.specs.JoinedTexts.{AreJoined}
 -- the members of a row, in the order of their keys
 abbrev pub row_members : Row → Date → List (List ℕ × Data)
 row_members row date =
-    (codes "command", string (command_word row.command)) ∷ (codes "count", count row.count) ∷ (codes "date", string (date_text date))
+    (codes "command", string (command_word row.command)) ∷ (codes "count", count row.count)
+    ∷ (codes "date", string (date_text date))
     ∷ (codes "done", boolean row.done) ∷ (codes "number", count row.number) ∷ (codes "when", count row.when) ∷ []
 
 abbrev pub row_value : Row → Date → Data

@@ -1,4 +1,4 @@
--- The texts that tell why a line was not carried out (docs/RULES.md, "Refusals").
+-- The texts that say why a line was not carried out (docs/RULES.md, "Refusals").
 use Rattle.std.specs.Prelude.{ℕ, List, codes}
 use Rattle.reuse_command.specs.RefusalTexts.{refusal_text}
 use Rattle.reuse_lock.specs.declared.fault.LockFault.{LockFault}

@@ -7,7 +7,8 @@ use Rattle.reuse_shown.specs.Dates.{IsDateOf}
 use Rattle.reuse_shown.specs.JoinedTexts.{AreJoined}
 use Rattle.reuse_command.specs.declared.reply.Row.{Row}
 use Rattle.reuse_change.specs.declared.command_name.CommandName.{CommandName}
-use Rattle.reuse_change.specs.declared.command_name.CommandName.TheVariants.{Annotate, ConvertDep5, Download, Revert, Amend}
+use Rattle.reuse_change.specs.declared.command_name.CommandName.TheVariants.{Annotate, ConvertDep5, Download, Revert}
+use Rattle.reuse_change.specs.declared.command_name.CommandName.TheVariants.{Amend}
 
 abbrev pub command_word : CommandName → List ℕ
 command_word Annotate = codes "annotate"

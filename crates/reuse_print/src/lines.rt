@@ -2,17 +2,25 @@
 ghost use Rattle.std.specs.Prelude.{◌≡◌, OnOk, count_by};
 ghost use Rattle.std.specs.Io.KnownBytes.{Appends};
 ghost use Rattle.std.specs.List.{flat_map};
-ghost use Rattle.reuse_print.specs.Lines.{line_of, lines_of, path_outcome_line, path_outcome_lines, would_change, change_lines, kind_word, path_count, IsResponseText, IsShownText, forgotten_line, forgotten_text, recovered_text, reverted_text, some_paths_text};
+ghost use Rattle.reuse_print.specs.Lines.{line_of, lines_of, path_outcome_line, path_outcome_lines, would_change};
+ghost use Rattle.reuse_print.specs.Lines.{change_lines, kind_word, path_count, IsResponseText, IsShownText};
+ghost use Rattle.reuse_print.specs.Lines.{forgotten_line, forgotten_text, recovered_text, reverted_text};
+ghost use Rattle.reuse_print.specs.Lines.{some_paths_text};
 ghost use Rattle.reuse_shown.specs.JoinedTexts.{AppendsSome};
 
 use crate::rows::{print_row, print_rows};
 use reuse_change::{Change, PathText};
 use reuse_command::path_outcome::PathOutcome;
 use reuse_command::reply::{Recovered, Response, Reverted, Shown};
-use reuse_shown::shown_name::{Names, print_name};
+use reuse_shown::shown_name::{NameDisplay, print_name};
 use std::io::{self, Write};
 
-fn print_path<W: Write>(out: &mut W, names: Names, word: &str, path: &PathText) -> io::Result<()>
+fn print_path<W: Write>(
+    out: &mut W,
+    names: NameDisplay,
+    word: &str,
+    path: &PathText,
+) -> io::Result<()>
     ensures { OnOk result (Appends (W.contents out.old) (W.contents out.new) (line_of names word.now path.now)) }
 {
     write!(out, "{word} ")?;
@@ -23,7 +31,7 @@ fn print_path<W: Write>(out: &mut W, names: Names, word: &str, path: &PathText) 
 /// Prints a line for each path: the word, a space and the path, as names are shown.
 pub fn print_paths<W: Write>(
     out: &mut W,
-    names: Names,
+    names: NameDisplay,
     word: &str,
     paths: &[PathText],
 ) -> io::Result<()>
@@ -37,7 +45,7 @@ pub fn print_paths<W: Write>(
 
 /// Prints a response: a line for each path or row. That a session was opened is not printed, nor
 /// the refusals of a preview.
-pub fn print_response<W: Write>(out: &mut W, names: Names, reply: &Response) -> io::Result<()>
+pub fn print_response<W: Write>(out: &mut W, names: NameDisplay, reply: &Response) -> io::Result<()>
     ensures { OnOk result (AppendsSome (W.contents out.old) (W.contents out.new) (IsResponseText names reply.now)) }
 {
     match reply {
@@ -62,10 +70,11 @@ pub fn print_response<W: Write>(out: &mut W, names: Names, reply: &Response) -> 
 /// Prints a line for each path outcome that is no refusal.
 fn print_path_outcomes<W: Write>(
     out: &mut W,
-    names: Names,
+    names: NameDisplay,
     path_outcomes: &[PathOutcome],
 ) -> io::Result<()>
-    ensures { OnOk result (Appends (W.contents out.old) (W.contents out.new) (path_outcome_lines names path_outcomes.now)) }
+    ensures { OnOk result
+        (Appends (W.contents out.old) (W.contents out.new) (path_outcome_lines names path_outcomes.now)) }
 {
     for path_outcome in path_outcomes {
         print_path_outcome(out, names, path_outcome)?;
@@ -75,10 +84,11 @@ fn print_path_outcomes<W: Write>(
 
 fn print_path_outcome<W: Write>(
     out: &mut W,
-    names: Names,
+    names: NameDisplay,
     path_outcome: &PathOutcome,
 ) -> io::Result<()>
-    ensures { OnOk result (Appends (W.contents out.old) (W.contents out.new) (path_outcome_line names path_outcome.now)) }
+    ensures { OnOk result
+        (Appends (W.contents out.old) (W.contents out.new) (path_outcome_line names path_outcome.now)) }
 {
     match path_outcome {
         PathOutcome::Changes(path) => print_path(out, names, "would change", path),
@@ -89,14 +99,14 @@ fn print_path_outcome<W: Write>(
 }
 
 /// Prints a step: its row of the log, and a line for each path.
-fn print_shown<W: Write>(out: &mut W, names: Names, shown: &Shown) -> io::Result<()>
+fn print_shown<W: Write>(out: &mut W, names: NameDisplay, shown: &Shown) -> io::Result<()>
     ensures { OnOk result (AppendsSome (W.contents out.old) (W.contents out.new) (IsShownText names shown.now)) }
 {
     print_row(out, &shown.row)?;
     print_changes(out, names, shown.changes.as_slice())
 }
 
-fn print_changes<W: Write>(out: &mut W, names: Names, changes: &[Change]) -> io::Result<()>
+fn print_changes<W: Write>(out: &mut W, names: NameDisplay, changes: &[Change]) -> io::Result<()>
     ensures { OnOk result (Appends (W.contents out.old) (W.contents out.new) (change_lines names changes.now)) }
 {
     for change in changes {
@@ -117,7 +127,7 @@ pub fn kind_word(change: &Change) -> &'static str
 }
 
 /// Prints what a revert did: the paths that changed, and then those that were left.
-fn print_reverted<W: Write>(out: &mut W, names: Names, reverted: &Reverted) -> io::Result<()>
+fn print_reverted<W: Write>(out: &mut W, names: NameDisplay, reverted: &Reverted) -> io::Result<()>
     ensures { OnOk result (Appends (W.contents out.old) (W.contents out.new) (reverted_text names reverted.now)) }
 {
     print_some_paths(out, names, "changed", reverted.changed.as_slice())?;
@@ -125,7 +135,11 @@ fn print_reverted<W: Write>(out: &mut W, names: Names, reverted: &Reverted) -> i
 }
 
 /// Prints what a recovery did: the paths that were rolled back, and then those that were left.
-fn print_recovered<W: Write>(out: &mut W, names: Names, recovered: &Recovered) -> io::Result<()>
+fn print_recovered<W: Write>(
+    out: &mut W,
+    names: NameDisplay,
+    recovered: &Recovered,
+) -> io::Result<()>
     ensures { OnOk result (Appends (W.contents out.old) (W.contents out.new) (recovered_text names recovered.now)) }
 {
     print_some_paths(out, names, "set back", recovered.changed.as_slice())?;
@@ -135,11 +149,12 @@ fn print_recovered<W: Write>(out: &mut W, names: Names, recovered: &Recovered) -
 /// Prints a line for each path, or that nothing changed.
 fn print_some_paths<W: Write>(
     out: &mut W,
-    names: Names,
+    names: NameDisplay,
     word: &str,
     paths: &[PathText],
 ) -> io::Result<()>
-    ensures { OnOk result (Appends (W.contents out.old) (W.contents out.new) (some_paths_text names word.now paths.now)) }
+    ensures { OnOk result
+        (Appends (W.contents out.old) (W.contents out.new) (some_paths_text names word.now paths.now)) }
 {
     if paths.is_empty() {
         writeln!(out, "nothing changed")

@@ -5,7 +5,9 @@ ghost use Rattle.std.specs.Io.KnownBytes.{Appends};
 ghost use Rattle.serde_json.specs.View.{view};
 ghost use Rattle.serde_json.specs.Written.{has_float};
 ghost use Rattle.reuse_command.specs.RefusalTexts.{refusal_text};
-ghost use Rattle.reuse_print.specs.Objects.{row_value, shown_value, change_value, changes_value, outcome_value, refused_path, refused_value, json_byte, object_line, ArePathOutcomeObjects, AreRowObjects, IsPathOutcomeObject, IsRowObject, IsShownObject};
+ghost use Rattle.reuse_print.specs.Objects.{row_value, shown_value, change_value, changes_value, outcome_value};
+ghost use Rattle.reuse_print.specs.Objects.{refused_path, refused_value, json_byte, object_line, ArePathOutcomeObjects};
+ghost use Rattle.reuse_print.specs.Objects.{AreRowObjects, IsPathOutcomeObject, IsRowObject, IsShownObject};
 ghost use Rattle.reuse_shown.specs.JoinedTexts.{AppendsSome};
 
 use crate::lines::kind_word;
@@ -128,7 +130,8 @@ pub fn print_path_outcome_objects<W: Write>(
     alloc: Global,
     path_outcomes: &[PathOutcome],
 ) -> io::Result<()>
-    ensures { OnOk result (AppendsSome (W.contents out.old) (W.contents out.new) (ArePathOutcomeObjects path_outcomes.now)) }
+    ensures { OnOk result
+        (AppendsSome (W.contents out.old) (W.contents out.new) (ArePathOutcomeObjects path_outcomes.now)) }
 {
     for path_outcome in path_outcomes {
         print_path_outcome_object(out, alloc, path_outcome)?;
@@ -141,7 +144,8 @@ fn print_path_outcome_object<W: Write>(
     alloc: Global,
     path_outcome: &PathOutcome,
 ) -> io::Result<()>
-    ensures { OnOk result (AppendsSome (W.contents out.old) (W.contents out.new) (IsPathOutcomeObject path_outcome.now)) }
+    ensures { OnOk result
+        (AppendsSome (W.contents out.old) (W.contents out.new) (IsPathOutcomeObject path_outcome.now)) }
 {
     match path_outcome {
         PathOutcome::Changes(path) => print_outcome(out, alloc, "would change", path),
@@ -157,7 +161,8 @@ fn print_outcome<W: Write>(
     outcome: &str,
     path: &PathText,
 ) -> io::Result<()>
-    ensures { OnOk result (Appends (W.contents out.old) (W.contents out.new) (object_line (outcome_value outcome.now path.now))) }
+    ensures { OnOk result
+        (Appends (W.contents out.old) (W.contents out.new) (object_line (outcome_value outcome.now path.now))) }
 {
     let value = outcome_value(alloc, outcome, path)?;
     print_value(out, alloc, &value)
@@ -171,7 +176,8 @@ fn outcome_value(alloc: Global, outcome: &str, path: &PathText) -> Result<Value,
 
 // Prints a refusal with its text.
 fn print_refused<W: Write>(out: &mut W, alloc: Global, refusal: &Refusal) -> io::Result<()>
-    ensures { OnOk result (AppendsSome (W.contents out.old) (W.contents out.new) (IsPathOutcomeObject (PathOutcome.Refused refusal.now))) }
+    ensures { OnOk result (AppendsSome (W.contents out.old) (W.contents out.new)
+        (IsPathOutcomeObject (PathOutcome.Refused refusal.now))) }
 {
     let value = refused_value(alloc, refusal)?;
     print_value(out, alloc, &value)

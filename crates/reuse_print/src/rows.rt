@@ -42,14 +42,16 @@ fn print_dated<W: Write>(out: &mut W, row: &Row, date: Date) -> io::Result<()>
 
 // The number of a step, and its date.
 fn print_front<W: Write>(out: &mut W, number: u32, date: Date) -> io::Result<()>
-    ensures { OnOk result (Appends (W.contents out.old) (W.contents out.new) (decimal number ++ 32 ∷ [] ++ date_text date ++ 32 ∷ [])) }
+    ensures { OnOk result
+        (Appends (W.contents out.old) (W.contents out.new) (decimal number ++ 32 ∷ [] ++ date_text date ++ 32 ∷ [])) }
 {
     write!(out, "{number} {date} ")
 }
 
 // What a step was, and its state.
 fn print_back<W: Write>(out: &mut W, command: &str, count: usize, state: &str) -> io::Result<()>
-    ensures { OnOk result (Appends (W.contents out.old) (W.contents out.new) (command.now ++ 32 ∷ [] ++ decimal count ++ 32 ∷ [] ++ state.now ++ 10 ∷ [])) }
+    ensures { OnOk result (Appends (W.contents out.old) (W.contents out.new)
+        (command.now ++ 32 ∷ [] ++ decimal count ++ 32 ∷ [] ++ state.now ++ 10 ∷ [])) }
 {
     writeln!(out, "{command} {count} {state}")
 }

@@ -1,6 +1,6 @@
 //! Values that only contracts see, as the calls of a system with their answers. No clause of a
-//! library says what a file, a folder or a writer does: what was asked of them is noted in a record,
-//! and contracts speak of that.
+//! library says what a file, a folder or a writer does: what was asked of them is noted in a
+//! record, and contracts speak of that.
 #![tactic(auto)]
 
 ghost use Rattle.std.specs.Prelude.{◌≡◌};
@@ -43,8 +43,8 @@ impl<T> Record<T> {
         }
     }
 
-    /// Notes these parts. What the value is then, the caller's proof picks from the value before and
-    /// from the parts. So a record tells what its owner's contracts say of it, and no more.
+    /// Notes these parts. What the value is then, the caller's proof picks from the value before
+    /// and from the parts. So a record reports what its owner's contracts say of it, and no more.
     pub fn note<A>(&mut self, _parts: &A)
         ghost next: { T }
         ensures { self.new ≡ next }

@@ -1,6 +1,6 @@
 -- What the calls of a session answer and leave.
 pub mod Calls
-pub mod Driven
+pub mod SessionSlot
 pub mod Forgetting
 pub mod Fresh
 pub mod Machine

@@ -1,5 +1,6 @@
 //! Laws of the definitions that the contracts of a session cite.
-ghost use Rattle.std.specs.Prelude.{◌≡◌, ◌≢◌, ◌↔◌, ◌⊎◌, [], List, map, ℕ, nat_eq, true, false, Ok, None, ◌≤◌, ◌++◌, length, Bool, Option, Some, Err, Result};
+ghost use Rattle.std.specs.Prelude.{◌≡◌, ◌≢◌, ◌↔◌, ◌⊎◌, [], List, map, ℕ, nat_eq, true, false, Ok, None, ◌≤◌, ◌++◌};
+ghost use Rattle.std.specs.Prelude.{length, Bool, Option, Some, Err, Result};
 ghost use Rattle.std.specs.Ordering.{nat_cmp};
 ghost use Rattle.std.specs.Cmp.Lexicographic.{slice_cmp};
 ghost use Rattle.std.specs.List.{All, Contains, starts_with};
@@ -37,9 +38,9 @@ ghost use Rattle.reuse_journal.specs.Opening.{IsFirstBad, IsStuckAt, CanOpenOn};
 ghost use Rattle.reuse_plan.specs.Outcome.{edits_of, outcome_of};
 ghost use Rattle.reuse_session.specs.session.Previews.{PreviewsReplay};
 ghost use Rattle.reuse_plan.specs.Reverting.{taken_back};
-ghost use Rattle.reuse_journal.specs.Seals.{tree_for, IsAsLeft, IsToldApart, IsUntouched};
+ghost use Rattle.reuse_journal.specs.Seals.{tree_for, IsAsLeft, IsDistinguished, IsUntouched};
 ghost use Rattle.reuse_session.specs.session.Session.{IsRun, Runs};
-ghost use Rattle.reuse_session.specs.session.Stops.{HoldState};
+ghost use Rattle.reuse_session.specs.session.Stops.{SimulatesInFiles};
 ghost use Rattle.reuse_plan.specs.TablePut.{PutsTable};
 ghost use Rattle.reuse_plan.specs.TextsPut.{PutsTexts};
 ghost use Rattle.reuse_change.specs.Tree.{changed_paths, undo_folder_of};
@@ -47,7 +48,8 @@ ghost use Rattle.reuse_plan.specs.TreeStyles.{OwnNames, styles_in};
 ghost use Rattle.reuse_plan.specs.Selected.{amended_paths, selected_paths};
 ghost use Rattle.reuse_command.specs.declared.command.Command.{Command};
 ghost use Rattle.reuse_change.specs.Listing.{is_among};
-ghost use Rattle.reuse_command.specs.declared.command.Command.TheVariants.{Amend, Annotate, ConvertDep5, Download, Revert};
+ghost use Rattle.reuse_command.specs.declared.command.Command.TheVariants.{Amend, Annotate, ConvertDep5, Download};
+ghost use Rattle.reuse_command.specs.declared.command.Command.TheVariants.{Revert};
 ghost use Rattle.reuse_command.specs.declared.command.Place.{Place};
 ghost use Rattle.reuse_command.specs.declared.command.Scope.{Scope};
 ghost use Rattle.reuse_change.specs.declared.direction.Direction.{Direction};
@@ -67,8 +69,8 @@ use reuse_header::{
 };
 
 /// Any files open in one way: at most one path is the first at fault, at most one is where the
-/// pending step is stuck, at most one standing can be opened on, and no two of these three are
-/// there.
+/// pending step is stuck, at most one committed state can be opened on, and no two of these three
+/// are there.
 pub fn files_open_in_one_way()
     ensures bad { (files : Files) (path other : List ℕ) → IsFirstBad files path → IsFirstBad files other
         → path ≡ other }
@@ -125,7 +127,8 @@ pub fn annotations_change_chosen_places_alone()
     ensures one { (places : List Place) (additions : Additions) (how : How) (scope : Scope) (before after other : Files)
         → Annotates places additions how scope before after
         → Annotates places additions how scope before other → after ≡ other }
-    ensures left { (places : List Place) (additions : Additions) (how : How) (scope : Scope) (when : ℕ) (old new : State) (reply : Response) → Runs (Annotate places additions how scope) when old (Ok reply) new
+    ensures left { (places : List Place) (additions : Additions) (how : How) (scope : Scope) (when : ℕ)
+        (old new : State) (reply : Response) → Runs (Annotate places additions how scope) when old (Ok reply) new
         → Annotates places additions how scope old.tree new.tree }
     ensures texts { (places : List Place) (additions : Additions) (how : How) (scope : Scope) (before after : Files)
         → Annotates places additions how scope before after
@@ -156,7 +159,8 @@ pub fn amendments_change_selected_places_alone()
         → Amends places amendments scope before other → after ≡ other }
     ensures files { (places : List Place) (amendments : Amendments) (scope : Scope) (before after : Files)
         → Amends places amendments scope before after → HaveSamePaths before after }
-    ensures left { (places : List Place) (amendments : Amendments) (scope : Scope) (when : ℕ) (old new : State) (reply : Response) → Runs (Amend places amendments scope) when old (Ok reply) new
+    ensures left { (places : List Place) (amendments : Amendments) (scope : Scope) (when : ℕ) (old new : State)
+        (reply : Response) → Runs (Amend places amendments scope) when old (Ok reply) new
         → Amends places amendments scope old.tree new.tree }
 {
     amending_keeps_other_bytes();
@@ -173,20 +177,20 @@ pub fn conversions_put_a_table()
         → PutsTable old.tree new.tree }
 {}
 
-/// What an edit of a command tells beside the file that it leaves, and by which an entry has its
+/// What an edit of a command reports beside the file that it leaves, and by which an entry has its
 /// size: a file comes that is what is written, or one goes that is what is removed, or between
 /// bytes that stay what is removed gives way to what is written.
-pub fn edits_tell_what_they_take_and_write()
-    ensures told { (command : Command) (tree : Files) (edits : List Edit) → edits_of command tree ≡ Ok edits
+pub fn edits_record_what_they_take_and_write()
+    ensures reported { (command : Command) (tree : Files) (edits : List Edit) → edits_of command tree ≡ Ok edits
         → All (TakesAndWrites tree) edits }
 {}
 
-/// A tree with nothing under `.reuse/undo/` holds the state of the machine without earlier and
+/// A tree with nothing under `.reuse/undo/` holds the state of the model without earlier and
 /// later trees, of which no number is used; and no path of a file of the journal is a folder there.
 /// So what is proved of a driven session from such a state holds from such a tree. No step is
 /// missing from its history.
 pub fn trees_without_a_journal_hold_no_steps()
-    ensures holds { (files : Files) → IsFresh files → HoldState files (first_state files) }
+    ensures holds { (files : Files) → IsFresh files → SimulatesInFiles files (first_state files) }
     ensures unbroken { (tree : Files) → IsUnbroken (first_state tree) }
     ensures free { (files : Files) → IsFresh files → IsFree (undo_folder_of files) }
 {}
@@ -202,10 +206,13 @@ pub fn changed_paths_are_where_trees_differ()
 /// step has the range, the length and the SHA-256 that the run left, and redone only where each has
 /// those from before the run. So, where no two files that are compared have one SHA-256, exactly
 /// where each is byte for byte as it was left, and no path that is made clashes.
-pub fn seals_tell_of_whole_files()
-    ensures told { (command : Command) (when : ℕ) (first second : State) (run : IsRun command when first second) (direction : Direction) (now : Files) → All (CanBeMade direction now) run.step.changes
+pub fn seals_are_of_whole_files()
+    ensures reported { (command : Command) (when : ℕ) (first second : State) (run : IsRun command when first second)
+        (direction : Direction) (now : Files) → All (CanBeMade direction now) run.step.changes
         → All (IsAsLeft direction (tree_for direction first second) now) run.step.changes }
-    ensures exact { (command : Command) (when : ℕ) (first second : State) (run : IsRun command when first second) (direction : Direction) (now : Files) → All (IsToldApart (tree_for direction first second) now) run.step.changes
+    ensures exact { (command : Command) (when : ℕ) (first second : State) (run : IsRun command when first second)
+        (direction : Direction) (now : Files)
+        → All (IsDistinguished (tree_for direction first second) now) run.step.changes
         → All (CanBeMade direction now) run.step.changes
         ↔ All (IsUntouched direction (tree_for direction first second) now) run.step.changes }
 {}
@@ -249,14 +256,17 @@ pub fn reverts_take_steps_back()
     ensures undo { (changes : List Change) (skip_moved : Bool) (before after : Files) → IsEntry changes
         → AreAllSealed true changes → AreFiles before → LeadsAll changes before after
         → outcome_of (Revert changes [] skip_moved) after ≡ Ok before }
-    ensures left { (changes : List Change) (skip_moved : Bool) (before : Files) (when : ℕ) (old new : State) (reply : Response) → IsEntry changes → AreAllSealed true changes → AreFiles before
+    ensures left { (changes : List Change) (skip_moved : Bool) (before : Files) (when : ℕ) (old new : State)
+        (reply : Response) → IsEntry changes → AreAllSealed true changes → AreFiles before
         → LeadsAll changes before old.tree → Runs (Revert changes [] skip_moved) when old (Ok reply) new
         → new.tree ≡ before }
-    ensures returned { (changes : List Change) (touched : List (List ℕ)) (skip_moved : Bool) (before after now reverted : Files) (path : List ℕ) → IsEntry changes → LeadsAll changes before after
+    ensures returned { (changes : List Change) (touched : List (List ℕ)) (skip_moved : Bool)
+        (before after now reverted : Files) (path : List ℕ) → IsEntry changes → LeadsAll changes before after
         → outcome_of (Revert changes touched skip_moved) now ≡ Ok reverted → (skip_moved ≡ false)
         ⊎ (¬ (Clashes now path) × (is_among touched path ≡ false))
         → get now path ≡ get after path → get reverted path ≡ get before path }
-    ensures later { (changes : List Change) (touched : List (List ℕ)) (skip_moved : Bool) (now reverted : Files) (path : List ℕ) → is_among touched path ≡ true
+    ensures later { (changes : List Change) (touched : List (List ℕ)) (skip_moved : Bool) (now reverted : Files)
+        (path : List ℕ) → is_among touched path ≡ true
         → outcome_of (Revert changes touched skip_moved) now ≡ Ok reverted → get reverted path ≡ get now path }
     ensures unskipped { (changes : List Change) (touched : List (List ℕ)) (now reverted : Files) (path : List ℕ)
         → touches changes path ≡ true → is_among touched path ≡ true
@@ -264,7 +274,8 @@ pub fn reverts_take_steps_back()
     ensures below { (path front old new behind : List ℕ) (rest : ℕ) (seal : Option Seal)
         → starts_with nat_eq old new ≡ false → length (front ++ new ++ behind) ≤ LONGEST_FILE
         → length (front ++ old ++ behind) ≤ LONGEST_FILE
-        → taken_back (Splice path (length front) old new rest seal) (Some (front ++ new ++ behind)) ≡ Some (record { path = path; removed = new; written = old; file = Some (front ++ old ++ behind) }) }
+        → taken_back (Splice path (length front) old new rest seal) (Some (front ++ new ++ behind)) ≡ Some
+        (record { path = path; removed = new; written = old; file = Some (front ++ old ++ behind) }) }
     ensures once { (path old new file : List ℕ) (at rest : ℕ) (seal : Option Seal) (edit : Edit)
         → starts_with nat_eq old new ≡ true → old ≢ new
         → taken_back (Splice path at old new rest seal) (Some file) ≡ Some edit
@@ -284,19 +295,23 @@ pub fn outcome_follows_path_outcomes()
         ↔ (get tree path ≢ get after path) }
 {}
 
-/// The path outcomes of an annotation, in the words of what it makes of a tree. A path that is told
-/// as skipped is gone through and has a file that is skipped, as was asked for; and where nothing
-/// is refused, each such path is told so. A path that is told as skipped or unchanged holds what it
-/// held then, and so does its neighbour. `own` are the kinds that the tree gives to its own names.
+/// The path outcomes of an annotation, in the words of what it makes of a tree. A path that is
+/// reported as skipped is gone through and has a file that is skipped, as was asked for; and where
+/// nothing is refused, each such path is reported so. A path that is reported as skipped or
+/// unchanged holds what it held then, and so does its neighbour. `own` are the kinds that the tree
+/// gives to its own names.
 pub fn annotations_follow_path_outcomes()
-    ensures skipped { (places : List Place) (additions : Additions) (how : How) (scope : Scope) (own : OwnNames) (tree : Files) (path : List ℕ) → styles_in tree ≡ Ok own
+    ensures skipped { (places : List Place) (additions : Additions) (how : How) (scope : Scope) (own : OwnNames)
+        (tree : Files) (path : List ℕ) → styles_in tree ≡ Ok own
         → Contains (path_outcomes_of (Annotate places additions how scope) tree) (Skipped path)
         → Contains (selected_paths scope places tree) path × IsSkippedAt scope own tree path }
-    ensures told { (places : List Place) (additions : Additions) (how : How) (scope : Scope) (own : OwnNames) (tree after : Files) (path : List ℕ) → styles_in tree ≡ Ok own
+    ensures reported { (places : List Place) (additions : Additions) (how : How) (scope : Scope) (own : OwnNames)
+        (tree after : Files) (path : List ℕ) → styles_in tree ≡ Ok own
         → outcome_of (Annotate places additions how scope) tree ≡ Ok after
         → Contains (selected_paths scope places tree) path → IsSkippedAt scope own tree path
         → Contains (path_outcomes_of (Annotate places additions how scope) tree) (Skipped path) }
-    ensures stays { (places : List Place) (additions : Additions) (how : How) (scope : Scope) (own : OwnNames) (tree after : Files) (path : List ℕ) → styles_in tree ≡ Ok own
+    ensures stays { (places : List Place) (additions : Additions) (how : How) (scope : Scope) (own : OwnNames)
+        (tree after : Files) (path : List ℕ) → styles_in tree ≡ Ok own
         → outcome_of (Annotate places additions how scope) tree ≡ Ok after
         → Contains (path_outcomes_of (Annotate places additions how scope) tree) (Unchanged path)
         ⊎ Contains (path_outcomes_of (Annotate places additions how scope) tree) (Skipped path)
@@ -307,17 +322,20 @@ pub fn annotations_follow_path_outcomes()
 
 /// An undo and a redo follow the path outcomes of the changes that they go through. The first
 /// refusal among these names the first path whose change can't be made, which is what the call is
-/// refused by; there is none exactly where all changes can be made. So, where a preview tells path
-/// outcomes, the call that then answers for the same tree is refused exactly by the first refusal
-/// among them, and goes through where there is none.
+/// refused by; there is none exactly where all changes can be made. So, where a preview reports
+/// path outcomes, the call that then answers for the same tree is refused exactly by the first
+/// refusal among them, and goes through where there is none.
 pub fn steps_follow_path_outcomes()
-    ensures refused { (direction : Direction) (tree : Files) (changes : List Change) (path_outcomes : List PathOutcome) (refusal : Refusal) → ArePathOutcomesOf direction tree changes path_outcomes
+    ensures refused { (direction : Direction) (tree : Files) (changes : List Change) (path_outcomes : List PathOutcome)
+        (refusal : Refusal) → ArePathOutcomesOf direction tree changes path_outcomes
         → (first_refusal path_outcomes ≡ Some refusal)
         ↔ ((path : List ℕ) × (refusal ≡ Moved path) × IsFirstStuck direction tree changes path) }
     ensures accepted { (direction : Direction) (tree : Files) (changes : List Change) (path_outcomes : List PathOutcome)
         → ArePathOutcomesOf direction tree changes path_outcomes → (first_refusal path_outcomes ≡ None)
         ↔ All (CanBeMade direction tree) changes }
-    ensures preview_of { (direction : Direction) (steps : List Recorded) (old new : State) (path_outcomes : List PathOutcome) (result : Result Response Refusal) (refusal : Refusal) → PreviewsReplay direction steps old.tree (Ok path_outcomes)
+    ensures preview_of { (direction : Direction) (steps : List Recorded) (old new : State)
+        (path_outcomes : List PathOutcome) (result : Result Response Refusal) (refusal : Refusal)
+        → PreviewsReplay direction steps old.tree (Ok path_outcomes)
         → Replays direction steps old result new → (result ≡ Err refusal)
         ↔ (first_refusal path_outcomes ≡ Some refusal) }
 {}
@@ -327,7 +345,8 @@ pub fn steps_follow_path_outcomes()
 /// step, and a redo on to that after the next. No step is missing then either, unless steps are
 /// forgotten that are neither the oldest done nor the last undone.
 pub fn model_gives_one_answer()
-    ensures one { (state : Snapshots) (request : Request) (first second : Result Response Refusal) (next other : Snapshots) → IsUnbroken state → IsByTrees request
+    ensures one { (state : Snapshots) (request : Request) (first second : Result Response Refusal)
+        (next other : Snapshots) → IsUnbroken state → IsByTrees request
         → Gives state request first next → Gives state request second other → (first ≡ second) × (next ≡ other) }
     ensures undone { (state next : Snapshots) (when : ℕ) (answer : Result Response Refusal) → IsUnbroken state
         → Gives state (requests.Make calls.Undo when) answer next → AreOf (undone state state.past) answer next }
@@ -340,7 +359,7 @@ pub fn model_gives_one_answer()
 /// What the model forgets. Of a state that some files hold, forgetting the oldest steps that are
 /// done leaves the state that lacks these; forgetting all leaves no step.
 pub fn forgotten_steps_are_gone()
-    ensures oldest { (files : Files) (numbers : List ℕ) (state next : Snapshots) → HoldState files state
+    ensures oldest { (files : Files) (numbers : List ℕ) (state next : Snapshots) → SimulatesInFiles files state
         → IsWithoutOldest numbers state next → snapshots_besides numbers state ≡ next }
     ensures all { (state : Snapshots) → snapshots_besides (numbers_of state) state ≡ alone state }
 {}

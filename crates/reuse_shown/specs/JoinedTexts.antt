@@ -8,6 +8,6 @@ AreJoined IsText [] text = text ≡ []
 AreJoined IsText (one ∷ others) text =
     (line : List ℕ) × ((rest : List ℕ) × (IsText one line × (AreJoined IsText others rest × (text ≡ line ++ rest))))
 
--- the writer, if it tells its bytes, was given such a text
+-- the writer, if it reports its bytes, was given such a text
 abbrev pub AppendsSome : Option (List ℕ) → Option (List ℕ) → (List ℕ → Type 0) → Type 0
 AppendsSome old new IsText = (text : List ℕ) × (IsText text × Appends old new text)

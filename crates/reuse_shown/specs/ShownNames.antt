@@ -1,8 +1,8 @@
 -- How a name is shown.
 use Rattle.std.specs.Prelude.{ℕ, ◌+◌, ◌/◌, ◌%◌, ◌==◌, ◌||◌, Bool, List, [], ◌∷◌, if◌then◌else◌, nat_lt}
 use Rattle.std.specs.List.{flat_map}
-use Rattle.reuse_shown.specs.declared.shown_name.Names.{Names}
-use Rattle.reuse_shown.specs.declared.shown_name.Names.TheVariants.{AsTheyAre, Escaped}
+use Rattle.reuse_shown.specs.declared.shown_name.NameDisplay.{NameDisplay}
+use Rattle.reuse_shown.specs.declared.shown_name.NameDisplay.TheVariants.{AsTheyAre, Escaped}
 
 -- a control byte is below 20 hex, or 7F
 abbrev pub is_control : ℕ → Bool
@@ -21,6 +21,6 @@ abbrev pub shown_on_terminal : List ℕ → List ℕ
 shown_on_terminal name = flat_map shown_byte name
 
 -- a name, as it is or as on a terminal
-abbrev pub shown : Names → List ℕ → List ℕ
+abbrev pub shown : NameDisplay → List ℕ → List ℕ
 shown AsTheyAre name = name
 shown Escaped name = shown_on_terminal name

@@ -1,5 +1,5 @@
 //! Standard error, on which what is printed is shown as a terminal needs it, where it is one.
-use crate::shown_name::{Names, text_on_terminal};
+use crate::shown_name::{NameDisplay, text_on_terminal};
 use std::alloc::Global;
 use std::fmt::Display;
 use std::io;
@@ -10,20 +10,20 @@ use std::io;
 pub struct ErrorOutput<'a, P: Eprint + Drop> {
     to: &'a P,
     alloc: Global,
-    names: Names,
+    names: NameDisplay,
 }
 
 impl<'a, P: Eprint + Drop> ErrorOutput<'a, P> {
     /// What prints to this one.
-    pub fn new(to: &'a P, alloc: Global, names: Names) -> ErrorOutput<'a, P> {
+    pub fn new(to: &'a P, alloc: Global, names: NameDisplay) -> ErrorOutput<'a, P> {
         ErrorOutput { to, alloc, names }
     }
 
     /// Prints a text that has lines of its own. Their ends stay as they are.
     pub fn eprint_lines(&self, text: &str) -> io::Result<()> {
         match self.names {
-            Names::AsTheyAre => eprint!(self.to; "{text}"),
-            Names::Escaped => self.eprint_split(text),
+            NameDisplay::AsTheyAre => eprint!(self.to; "{text}"),
+            NameDisplay::Escaped => self.eprint_split(text),
         }
     }
 
@@ -44,8 +44,8 @@ impl<'a, P: Eprint + Drop> ErrorOutput<'a, P> {
 impl<P: Eprint + Drop> Eprint for ErrorOutput<'_, P> {
     fn eprint<D: Display + Drop>(&self, value: D) -> io::Result<()> {
         match self.names {
-            Names::AsTheyAre => self.to.eprint(value),
-            Names::Escaped => match text_on_terminal(self.alloc, &value) {
+            NameDisplay::AsTheyAre => self.to.eprint(value),
+            NameDisplay::Escaped => match text_on_terminal(self.alloc, &value) {
                 Ok(text) => self.to.eprint(text),
                 Err(_) => self.to.eprint(value),
             },
@@ -54,8 +54,8 @@ impl<P: Eprint + Drop> Eprint for ErrorOutput<'_, P> {
 
     fn eprintln<D: Display + Drop>(&self, value: D) -> io::Result<()> {
         match self.names {
-            Names::AsTheyAre => self.to.eprintln(value),
-            Names::Escaped => match text_on_terminal(self.alloc, &value) {
+            NameDisplay::AsTheyAre => self.to.eprintln(value),
+            NameDisplay::Escaped => match text_on_terminal(self.alloc, &value) {
                 Ok(text) => self.to.eprintln(text),
                 Err(_) => self.to.eprintln(value),
             },

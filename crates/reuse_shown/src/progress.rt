@@ -1,7 +1,7 @@
 //! How far long work is, for a terminal.
 ghost use Rattle.std.specs.Prelude.{◌≡◌, min};
 
-use reuse_store::{Asked, Watcher};
+use reuse_store::{StoreRequest, Watcher};
 use std::alloc::Global;
 use std::cell::Cell;
 use std::io::{self, Write};
@@ -31,13 +31,13 @@ pub struct Progress<R: Clock + Eprint + Drop> {
     /// How many files the largest listing had so far.
     listed: Cell<usize>,
     /// How long the work took so far when the line was written that stands there.
-    told: Cell<Option<Duration>>,
+    reported: Cell<Option<Duration>>,
 }
 
 impl<R: Clock + Eprint + Drop> Progress<R> {
     /// Work that begins now.
-    pub fn new(rt: R, is_told: bool) -> Progress<R> {
-        let start = if is_told {
+    pub fn new(rt: R, is_reported: bool) -> Progress<R> {
+        let start = if is_reported {
             Instant::now(&rt).ok()
         } else {
             None
@@ -48,7 +48,7 @@ impl<R: Clock + Eprint + Drop> Progress<R> {
             read: Cell::new(0),
             written: Cell::new(0),
             listed: Cell::new(0),
-            told: Cell::new(None),
+            reported: Cell::new(None),
         }
     }
 
@@ -56,13 +56,13 @@ impl<R: Clock + Eprint + Drop> Progress<R> {
         if let Some(start) = self.start {
             files.set(files.get().saturating_add(1));
             if let Ok(elapsed) = start.elapsed(&self.rt) {
-                self.tell(elapsed);
+                self.report(elapsed);
             }
         }
     }
 
-    fn tell(&self, elapsed: Duration) {
-        let last = self.told.get().unwrap_or(Duration::ZERO);
+    fn report(&self, elapsed: Duration) {
+        let last = self.reported.get().unwrap_or(Duration::ZERO);
         let since = elapsed.saturating_sub(last);
         if elapsed < Duration::from_millis(LEAST) || since < Duration::from_millis(STEP) {
             return;
@@ -75,12 +75,12 @@ impl<R: Clock + Eprint + Drop> Progress<R> {
         } else {
             eprint!(&self.rt; "\r{read} reads, {written} writes\x1b[K")
         };
-        self.told.set(Some(elapsed));
+        self.reported.set(Some(elapsed));
     }
 
     /// Clears the line.
     pub fn clear(&self) {
-        if self.told.take().is_some() {
+        if self.reported.take().is_some() {
             let _ = eprint!(&self.rt; "\r\x1b[K");
         }
     }
@@ -128,11 +128,11 @@ impl<R: Clock + Eprint + Drop, W: Write + Drop> Write for ClearedOutput<'_, R, W
 }
 
 impl<R: Clock + Eprint + Drop> Watcher for Progress<R> {
-    fn before(&self, _: Global, asked: Asked) {
+    fn before(&self, _: Global, asked: StoreRequest) {
         match asked {
-            Asked::List | Asked::Sync => {}
-            Asked::Read => self.count(&self.read),
-            Asked::Write | Asked::Remove => self.count(&self.written),
+            StoreRequest::List | StoreRequest::Sync => {}
+            StoreRequest::Read => self.count(&self.read),
+            StoreRequest::Write | StoreRequest::Remove => self.count(&self.written),
         }
     }
 

@@ -7,7 +7,7 @@ ghost use Rattle.std.specs.Prelude.{◌≡◌, ◌<◌, if◌then◌else◌, IfO
 ghost use Rattle.std.specs.List.{flat_map};
 ghost use Rattle.std.specs.Io.KnownBytes.{Appends};
 ghost use Rattle.reuse_shown.specs.ShownNames.{hex_digit, is_control, shown, shown_byte, shown_on_terminal};
-ghost use Rattle.reuse_shown.specs.declared.shown_name.Names.TheVariants as names;
+ghost use Rattle.reuse_shown.specs.declared.shown_name.NameDisplay.TheVariants as names;
 
 use reuse_text::Bytes;
 use std::alloc::Global;
@@ -16,33 +16,33 @@ use std::io::{self, Write};
 
 /// How the bytes of names are shown.
 #[derive(Clone, Copy, PartialEq, Eq)]
-pub enum Names {
+pub enum NameDisplay {
     /// As they are.
     AsTheyAre,
     /// A control byte as `\x1B`, by its two hexadecimal digits.
     Escaped,
 }
 
-impl Names {
+impl NameDisplay {
     /// As a terminal needs it, or as they are.
-    pub fn on(is_terminal: bool) -> Names
+    pub fn on(is_terminal: bool) -> NameDisplay
         ensures { result ≡ (if is_terminal then names.Escaped else names.AsTheyAre) }
     {
         if is_terminal {
-            Names::Escaped
+            NameDisplay::Escaped
         } else {
-            Names::AsTheyAre
+            NameDisplay::AsTheyAre
         }
     }
 }
 
 /// Prints a name.
-pub fn print_name<W: Write>(out: &mut W, names: Names, name: &[u8]) -> io::Result<()>
+pub fn print_name<W: Write>(out: &mut W, names: NameDisplay, name: &[u8]) -> io::Result<()>
     ensures { OnOk result (Appends (W.contents out.old) (W.contents out.new) (shown names name.now)) }
 {
     match names {
-        Names::AsTheyAre => out.write_all(name),
-        Names::Escaped => print_escaped(out, name),
+        NameDisplay::AsTheyAre => out.write_all(name),
+        NameDisplay::Escaped => print_escaped(out, name),
     }
 }
 

@@ -17,7 +17,7 @@ use Rattle.reuse_change.specs.Change.{path_of, IsProper}
 use Rattle.reuse_change.specs.Entry.{touches, CanBeMade, CanGo, IsEntry, IsReady, IsSmall, LeadsBy, LeadsByOneChange}
 use Rattle.reuse_change.specs.Entry.{AppliesBy}
 use Rattle.reuse_change.specs.Files.{Files, AreFiles, tree_of}
-use Rattle.reuse_store.specs.Lasting.{IsMidway}
+use Rattle.reuse_store.specs.Durable.{IsMidway}
 use Rattle.reuse_change.specs.Tree.{is_of_tree, Sets, undo_folder_of}
 use Rattle.reuse_store.specs.Apply.{cause_of, held_in}
 use Rattle.reuse_store.specs.declared.cause.Cause.TheVariants as causes
@@ -30,7 +30,7 @@ use Rattle.reuse_change.specs.declared.direction.Direction.{Direction}
 use Rattle.reuse_store.proofs.AskedLemmas.{later_more, later_reads}
 use Rattle.reuse_store.proofs.AtChange.{StaysBeside, at_change, folder_at_stop, leads_at_stop, of_entry, stays_none}
 use Rattle.reuse_store.proofs.AtChange.{stays_on}
-use Rattle.reuse_store.proofs.Lasting.{midway_none, midway_set}
+use Rattle.reuse_store.proofs.Durable.{midway_none, midway_set}
 use Rattle.reuse_store.proofs.OfTree.{clash_in_tree, folder_stays, step_of_tree, tree_at}
 use Rattle.reuse_store.proofs.ApplyLemmas.{makes_where_clash, step_by}
 use Rattle.reuse_change.proofs.Walk.{free_now, front_touches, leads_more, leads_none, not_touched, still}
@@ -128,7 +128,7 @@ module _ {S : Type 0} (store : Ghosts S) (direction : Direction) (changes : List
         (IsMidway direction changes (tree_of (store.files start)) (undo_folder_of (store.files start)))
     left_then honest good synced left may =
         ⊎_elim (λ was. reached.left (before honest) good synced left was)
-        (λ (set : (kept : Files) × store.may_be now kept × (held : Option (List ℕ)) × (held ≡ file)
+        (λ (set : (kept : Files) × store.crash_states now kept × (held : Option (List ℕ)) × (held ≡ file)
         × Sets (path_of change) held kept left).
         midway_set direction changes good i lt change is (tree_of (store.files start))
         (undo_folder_of (store.files start)) set.0 left set.2
@@ -250,19 +250,19 @@ abbrev pub change_in : ReadChange → Change
 change_in read = read.change.now
 
 -- a change that isn't made yet
-pub record IsDue (changes : List Change) (count : ℕ) (read : ReadChange) : Type 0 where
+pub record IsExpected (changes : List Change) (count : ℕ) (read : ReadChange) : Type 0 where
   pub index : ℕ
   pub lt : index < length changes
   pub late : count ≤ index
   pub is : change_in read ≡ get_or changes index (change_in read)
 
-pub are_due : (changes : List Change) (count i : ℕ) (batch : List ReadChange) (others : List Change)
-    → drop i changes ≡ map change_in batch ++ others → count ≤ i → All (IsDue changes count) batch
-are_due changes count i [] others is late = λ j d lt. absurd (omega (arith, lt))
-are_due changes count i (read ∷ batch) others is late =
+pub are_expected : (changes : List Change) (count i : ℕ) (batch : List ReadChange) (others : List Change)
+    → drop i changes ≡ map change_in batch ++ others → count ≤ i → All (IsExpected changes count) batch
+are_expected changes count i [] others is late = λ j d lt. absurd (omega (arith, lt))
+are_expected changes count i (read ∷ batch) others is late =
     let here = at_drop changes i (change_in read) (map change_in batch ++ others) is in
-    All-cons (IsDue changes count) read batch (record { index = i; lt = here.0; late = late; is = here.1 })
-    (are_due changes count (i + 1) batch others here.2 (omega (arith, late)))
+    All-cons (IsExpected changes count) read batch (record { index = i; lt = here.0; late = late; is = here.1 })
+    (are_expected changes count (i + 1) batch others here.2 (omega (arith, late)))
 
 -- a batch and what is behind it
 pub left_is : (changes rest : List Change) (count : ℕ) (batch : List ReadChange) → rest ≡ drop count changes
@@ -270,9 +270,9 @@ pub left_is : (changes rest : List Change) (count : ℕ) (batch : List ReadChang
 left_is changes rest count batch is front =
     sym is ∙ sym (take-append-drop (length batch) rest) ∙ ap (λ cs. cs ++ drop (length batch) rest) (sym front)
 
-pub batch_due : (changes rest : List Change) (count : ℕ) (batch : List ReadChange) → rest ≡ drop count changes
-    → IsFrontOf rest batch → All (IsDue changes count) batch
-batch_due changes rest count batch is front = are_due changes count count batch (drop (length batch) rest)
+pub batch_expected : (changes rest : List Change) (count : ℕ) (batch : List ReadChange) → rest ≡ drop count changes
+    → IsFrontOf rest batch → All (IsExpected changes count) batch
+batch_expected changes rest count batch is front = are_expected changes count count batch (drop (length batch) rest)
     (left_is changes rest count batch is front) (omega arith)
 
 -- what the changes behind a batch are
@@ -285,12 +285,13 @@ module _ {S : Type 0} (store : Ghosts S) (direction : Direction) (changes : List
     (loop : S) (reached : Reached store direction changes start count loop)
     (can : store.honest start → CanGo direction (tree_of (store.files start)) changes) where
   -- its path holds what it held at the start
-  unmade : store.honest loop → (good : IsEntry changes) → (read : ReadChange) → IsDue changes count read
+  unmade : store.honest loop → (good : IsEntry changes) → (read : ReadChange) → IsExpected changes count read
       → get (store.files loop) (path_of (change_in read)) ≡ get (tree_of (store.files start)) (path_of (change_in read))
-  unmade honest good read due =
+  unmade honest good read expected =
       let change = change_in read in
       let path = path_of change in
-      sym (tree_at (store.files loop) path (of_entry changes due.index due.lt change due.is good).of_tree)
+      sym
+      (tree_at (store.files loop) path (of_entry changes expected.index expected.lt change expected.is good).of_tree)
       ∙ (reached.made honest good).others path (untouched (touches (take count changes) path) refl)
     where
       untouched : (b : Bool) → touches (take count changes) (path_of (change_in read)) ≡ b
@@ -298,56 +299,58 @@ module _ {S : Type 0} (store : Ghosts S) (direction : Direction) (changes : List
       untouched false e = e
       untouched true e =
           let path = path_of (change_in read) in
-          let earlier : touches (take count (take due.index changes)) path ≡ true =
-          subst (λ cs. touches cs path ≡ true) (sym (take-take count due.index changes due.late)) e in
-          absurd (false≢true (sym (ap (λ c. touches (take due.index changes) (path_of c)) due.is ∙ not_touched changes
-          good due.index (change_in read) due.lt) ∙ front_touches (take due.index changes) count path earlier))
+          let earlier : touches (take count (take expected.index changes)) path ≡ true =
+          subst (λ cs. touches cs path ≡ true) (sym (take-take count expected.index changes expected.late)) e in
+          absurd (false≢true
+          (sym (ap (λ c. touches (take expected.index changes) (path_of c)) expected.is ∙ not_touched changes
+          good expected.index (change_in read) expected.lt)
+          ∙ front_touches (take expected.index changes) count path earlier))
 
-  pub ready_there : store.honest loop → IsEntry changes → (read : ReadChange) → IsDue changes count read
+  pub ready_there : store.honest loop → IsEntry changes → (read : ReadChange) → IsExpected changes count read
       → IsReady direction (change_in read) (get (store.files loop) (path_of (change_in read)))
-  ready_there honest good read due =
-      let can_be = at_change changes due.index due.lt (change_in read) due.is
+  ready_there honest good read expected =
+      let can_be = at_change changes expected.index expected.lt (change_in read) expected.is
       (CanBeMade direction (tree_of (store.files start))) (can (reached.walk.later.was_honest honest)).each in
-      subst (IsReady direction (change_in read)) (sym (unmade honest good read due)) can_be.ready
+      subst (IsReady direction (change_in read)) (sym (unmade honest good read expected)) can_be.ready
 
   -- the writes of a batch make its changes
   pub makes_changes : {A : Type 0} (batch : List ReadChange) (writes : List FileWrite) → (A → store.honest loop)
-      → All (IsDue changes count) batch → AllZip (MakesRead direction) batch writes
+      → All (IsExpected changes count) batch → AllZip (MakesRead direction) batch writes
       → (A → All (IsReadIn (store.files loop)) batch)
       → AllZip (MakesChange store direction changes start A) (map change_in batch) writes
-  makes_changes [] [] was due makes readings = tt
-  makes_changes [] (write ∷ writes) was due makes readings = makes
-  makes_changes (read ∷ batch) [] was due makes readings = makes
-  makes_changes (read ∷ batch) (write ∷ writes) was due makes readings = (
+  makes_changes [] [] was expected makes readings = tt
+  makes_changes [] (write ∷ writes) was expected makes readings = makes
+  makes_changes (read ∷ batch) [] was expected makes readings = makes
+  makes_changes (read ∷ batch) (write ∷ writes) was expected makes readings = (
     record {
       path = makes.0.path;
       applies = λ honest good.
-          let this = All-head (IsDue changes count) read batch due in
+          let this = All-head (IsExpected changes count) read batch expected in
           subst (λ f. AppliesBy direction (change_in read) f (held_in write.file)) (unmade (was honest) good read this)
           (makes.0.applies (get (store.files loop) (path_of (change_in read))) (All-head
           (IsReadIn (store.files loop)) read batch (readings honest)) (ready_there (was honest) good read this));
     },
-    makes_changes batch writes was (All-tail (IsDue changes count) read batch due) makes.1
+    makes_changes batch writes was (All-tail (IsExpected changes count) read batch expected) makes.1
         (λ honest. All-tail (IsReadIn (store.files loop)) read batch (readings honest)),
   )
 
   -- of each file that was read the change can be made
-  pub are_ready : store.honest loop → IsEntry changes → (batch : List ReadChange) → All (IsDue changes count) batch
+  pub are_ready : store.honest loop → IsEntry changes → (batch : List ReadChange) → All (IsExpected changes count) batch
       → All (IsReadIn (store.files loop)) batch → All (IsReadReady direction) batch
-  are_ready honest good batch due readings i read lt = (
+  are_ready honest good batch expected readings i read lt = (
     get (store.files loop) (path_of (change_in (get_or batch i read))),
     readings i read lt,
-    ready_there honest good (get_or batch i read) (due i read lt),
+    ready_there honest good (get_or batch i read) (expected i read lt),
   )
 
-  pub are_proper : IsEntry changes → (batch : List ReadChange) → All (IsDue changes count) batch
+  pub are_proper : IsEntry changes → (batch : List ReadChange) → All (IsExpected changes count) batch
       → All (λ read. IsProper read.change.now) batch
-  are_proper good batch due i read lt = let d = due i read lt in
+  are_proper good batch expected i read lt = let d = expected i read lt in
       (of_entry changes d.index d.lt (change_in (get_or batch i read)) d.is good).proper
 
-  pub are_small : IsEntry changes → (batch : List ReadChange) → All (IsDue changes count) batch
+  pub are_small : IsEntry changes → (batch : List ReadChange) → All (IsExpected changes count) batch
       → All (λ read. IsSmall read.change.now) batch
-  are_small good batch due i read lt = let d = due i read lt in
+  are_small good batch expected i read lt = let d = expected i read lt in
       (of_entry changes d.index d.lt (change_in (get_or batch i read)) d.is good).small
 
 -- a walk that has come to the end

@@ -15,7 +15,7 @@ use Rattle.reuse_change.specs.Tree.{same_file, changed_paths}
 use Rattle.reuse_change.proofs.Differ.{has_file}
 use Rattle.reuse_store.proofs.TreeLemmas.{keys_ascend, among_keys}
 
--- the test tells equal files
+-- the test reports equal files
 same_file-Decides : (f g : Option (List ℕ)) → (same_file f g ≡ true) ↔ (f ≡ g)
 same_file-Decides None None = (λ e. refl, λ e. refl)
 same_file-Decides (Some x) (Some y) =

@@ -10,7 +10,7 @@ pub mod TreeLemmas
 pub mod ApplyLemmas
 pub mod MadeLemmas
 pub mod NotedMutations
-pub mod Lasting
+pub mod Durable
 pub mod WrittenInTurn
 pub mod WriteLeaves
 pub mod Batches

@@ -57,7 +57,7 @@ pub there_is : (file : Option (List ℕ)) (limit : ℕ) → (reading_of file lim
 there_is None limit h = absurd (h refl)
 there_is (Some bytes) limit h = refl
 
--- what holds of the files behind a reading that told what a path has holds of those before it
+-- what holds of the files behind a reading that reported what a path has holds of those before it
 pub read_first : {files read : Files} {file : Option (List ℕ)} (path : List ℕ) (Holds : Files → Type 0) → read ≡ files
     → get files path ≡ file → (get read path ≡ file → Holds read) → Holds files
 read_first path Holds same held at = subst Holds same (at (ap (λ files. get files path) same ∙ held))

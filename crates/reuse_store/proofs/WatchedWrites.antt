@@ -3,7 +3,7 @@ use Rattle.std.proofs.Common.{◌≡◌, inl, inr, ℕ, List, [], ◌∷◌, Opt
 use Rattle.reuse_store.specs.Asked.{IsLater, IsWrite, AreWrites}
 use Rattle.reuse_store.specs.declared.fault.StoreFault.{StoreFault}
 use Rattle.reuse_store.specs.declared.file_write.FileWrite.{FileWrite}
-use Rattle.reuse_change.specs.declared.parts.Parts.{Parts}
+use Rattle.reuse_change.specs.declared.parts.Pieces.{Pieces}
 use Rattle.reuse_store.specs.declared.store.Store.{Ghosts}
 use Rattle.reuse_store.specs.declared.watched.WatchedStore.{WatchedStore}
 
@@ -11,7 +11,7 @@ use Rattle.reuse_store.specs.declared.watched.WatchedStore.{WatchedStore}
 abbrev pub watched : {S W : Type 0} → Ghosts S → Ghosts (WatchedStore S W)
 watched inside = record {
   files = λ store. inside.files store.inner;
-  may_be = λ store. inside.may_be store.inner;
+  crash_states = λ store. inside.crash_states store.inner;
   failures = λ store. inside.failures store.inner;
   written = λ store. inside.written store.inner;
   mutations = λ store. inside.mutations store.inner;
@@ -28,7 +28,8 @@ module _ {S W : Type 0} (inside : Ghosts S) where
     mutations = l.mutations;
   }
 
-  one : (path : List ℕ) (file : Option Parts) (old : WatchedStore S W) (new : S) (answer : Result (Unit {0}) StoreFault)
+  one : (path : List ℕ) (file : Option Pieces) (old : WatchedStore S W) (new : S)
+      (answer : Result (Unit {0}) StoreFault)
       → IsWrite inside path file old.inner new answer
       → IsWrite (watched {W = W} inside) path file old (record old { inner = new }) answer
   one path None old new answer write =

@@ -11,9 +11,9 @@ use Rattle.reuse_change.specs.Tree.{is_of_tree, Sets}
 use Rattle.reuse_store.specs.Apply.{held_in}
 use Rattle.reuse_store.specs.declared.fault.StoreFault.{StoreFault}
 use Rattle.reuse_store.specs.declared.fault.StoreFault.TheVariants.{Device, Clash}
-use Rattle.reuse_change.specs.declared.parts.Parts.{Parts}
+use Rattle.reuse_change.specs.declared.parts.Pieces.{Pieces}
 use Rattle.reuse_store.specs.declared.store.Store.{Ghosts}
-use Rattle.reuse_store.proofs.Lasting.{may_set_by_put, may_set_by_removal}
+use Rattle.reuse_store.proofs.Durable.{may_set_by_put, may_set_by_removal}
 use Rattle.reuse_store.proofs.ApplyLemmas.{counts_none, put_sets, removal_sets, put_doubt, removal_doubt}
 
 -- the path holds this then; where the write fails, this or what it held
@@ -103,7 +103,7 @@ module _ {S : Type 0} (store : Ghosts S) (path : List ℕ) (old new : S) where
           at Clash is h = h
           at fault is h = absurd (cc)
 
-  pub write_leaves : (answer : Result (Unit {0}) StoreFault) (file : Option Parts)
+  pub write_leaves : (answer : Result (Unit {0}) StoreFault) (file : Option Pieces)
       → IsWrite store path file old new answer → WriteLeaves store path (held_in file) old new answer
   write_leaves answer None write = removal_leaves answer write.0 write.1
   write_leaves answer (Some parts) write = put_leaves answer (joined parts) write.0 write.1

@@ -4,7 +4,7 @@ use Rattle.std.specs.FinMap.{get}
 use Rattle.reuse_change.specs.Files.{Files}
 use Rattle.reuse_store.specs.Asked.{OnlyReads}
 use Rattle.reuse_change.specs.Parts.{joined}
-use Rattle.reuse_change.specs.declared.parts.Parts.{Parts}
+use Rattle.reuse_change.specs.declared.parts.Pieces.{Pieces}
 use Rattle.reuse_change.specs.Change.{path_of, IsBeforeByRange, IsAfterByRange}
 use Rattle.reuse_change.specs.Entry.{opposite, IsReady, LeadsByOneChange}
 use Rattle.reuse_store.specs.declared.store.Store.{Ghosts}
@@ -17,7 +17,7 @@ use Rattle.reuse_store.specs.declared.cause.Cause.{Cause}
 use Rattle.reuse_store.specs.declared.cause.Cause.TheVariants as causes
 
 -- the file of three parts, if there is one
-abbrev pub held_in : Option Parts → Option (List ℕ)
+abbrev pub held_in : Option Pieces → Option (List ℕ)
 held_in None = None
 held_in (Some parts) = Some (joined parts)
 

@@ -1,4 +1,4 @@
--- How a record of calls is told of one.
+-- How a record of calls is reported of one.
 use Rattle.std.specs.Prelude.{ℕ, Bool, List, Ok, Err}
 use Rattle.reuse_store.specs.Calls.Call.{ListCall, ReadCall, PutCall, RemoveCall, SyncCall}
 use Rattle.reuse_store.specs.Calls.{Call}

@@ -7,7 +7,7 @@ use Rattle.reuse_store.specs.declared.fault.StoreFault.{StoreFault}
 use Rattle.reuse_store.specs.declared.fault.StoreFault.TheVariants.{Device, Clash, Memory}
 use Rattle.reuse_store.specs.declared.store.Reading.{Reading}
 
--- a call of a store and what it answered; `pruned` has the folders that a listing was to pass over, and `took` tells of
+-- a call of a store and what it answered; `pruned` has the folders that a listing was to pass over, and `took` reports
 -- a put or a
 -- removal that failed whether it took effect
 pub data Call : Type 0 where
@@ -24,17 +24,17 @@ pub data Call : Type 0 where
 -- of the list doesn't
 pub record Start : Type 0 where
   pub files : Files
-  pub doubts : List Files
-  pub fates : List Bool
+  pub initial_crash_states : List Files
+  pub effects : List Bool
 
-abbrev fate_at : List Bool → ℕ → Bool
-fate_at [] n = false
-fate_at (fate ∷ fates) zero = fate
-fate_at (fate ∷ fates) (suc n) = fate_at fates n
+abbrev effect_at : List Bool → ℕ → Bool
+effect_at [] n = false
+effect_at (effect ∷ effects) zero = effect
+effect_at (effect ∷ effects) (suc n) = effect_at effects n
 
--- the fate of the call that comes after these
+-- the effect of the call that comes after these
 abbrev pub took_effect : List Bool → List Call → Bool
-took_effect fates calls = fate_at fates (length calls)
+took_effect effects calls = effect_at effects (length calls)
 
 -- one where the call answered a device fault
 abbrev pub failure_of : {T : Type 0} → Result T StoreFault → ℕ

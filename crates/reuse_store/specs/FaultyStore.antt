@@ -12,7 +12,7 @@ use Rattle.reuse_store.specs.declared.faulty.FaultyStore.{FaultyStore}
 abbrev pub with_faults : {S : Type 0} {n : ℕ} → Ghosts S → Ghosts (FaultyStore S n)
 with_faults inside = record {
   files = λ store. inside.files store.inner;
-  may_be = λ store. inside.may_be store.inner;
+  crash_states = λ store. inside.crash_states store.inner;
   failures = λ store. inside.failures store.inner + failures_of store.failed.calls;
   written = λ store. inside.written store.inner + written_of store.failed.calls;
   mutations = λ store. inside.mutations store.inner + mutations_of store.failed.calls;
@@ -36,7 +36,7 @@ pub record ReadsWithFaults {S T : Type 0} {n : ℕ} (stays : Bool) (before after
   pub passed : before.left ≢ Some 0 → after.failed ≡ before.failed
   pub burnt : before.left ≡ Some 0 → (answer ≡ Err Device) × (after.inner ≡ before.inner)
 
--- a put or a removal: the first that fails here is the only one that may take effect, and where it is told to it is
+-- a put or a removal: the first that fails here is the only one that may take effect, and where it is reported to it is
 -- passed on
 pub record WritesWithFaults {S T : Type 0} {n : ℕ} (stays : Bool) (Passes : S → S → Result T StoreFault → Type 0)
     (before after : FaultyStore S n) (answer : Result T StoreFault) : Type 0 where

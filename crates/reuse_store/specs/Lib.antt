@@ -1,5 +1,5 @@
 pub mod Store
-pub mod Lasting
+pub mod Durable
 pub mod StoreLaws
 pub mod Asked
 pub mod Calls

@@ -5,13 +5,13 @@ use Rattle.std.specs.Prelude.{◌≡◌, ◌≢◌, ◌⊎◌, ℕ, ◌+◌, ◌
 use Rattle.std.specs.Prelude.{MatchResult, IfErr, OnOk, IsErrOf}
 use Rattle.std.specs.FinMap.{insert, remove}
 use Rattle.reuse_change.specs.Files.{Files, Clashes}
-use Rattle.reuse_store.specs.Lasting.{IsCertain}
+use Rattle.reuse_store.specs.Durable.{DurableAfterBarrier}
 use Rattle.reuse_change.specs.Parts.{joined}
 use Rattle.reuse_store.specs.Store.{counted, Puts, PutFails, RemoveFails}
 use Rattle.reuse_change.specs.declared.change.Change.{Change}
 use Rattle.reuse_store.specs.declared.fault.StoreFault.{StoreFault}
 use Rattle.reuse_store.specs.declared.file_write.FileWrite.{FileWrite}
-use Rattle.reuse_change.specs.declared.parts.Parts.{Parts}
+use Rattle.reuse_change.specs.declared.parts.Pieces.{Pieces}
 use Rattle.reuse_store.specs.declared.fault.StoreFault.TheVariants.{Device, Clash}
 
 -- nothing but listings and readings were asked for, or barriers: no file changed, nothing was written or moved, and a
@@ -34,7 +34,7 @@ pub record IsLater {S : Type 0} (failures_of written_of mutations_of : S → ℕ
   pub written : written_of old ≤ written_of new
   pub mutations : mutations_of old ≤ mutations_of new
 
--- how reading fails: a device fault is told where the device failed, and an honest store tells no clash
+-- how reading fails: a device fault is reported where the device failed, and an honest store reports no clash
 pub record FailsAsRead {S A : Type 0} (failures_of : S → ℕ) (IsHonest : S → Type 0) (old new : S)
     (answer : Result A StoreFault) : Type 0 where
   pub device : IsErrOf answer Device → failures_of old < failures_of new
@@ -77,11 +77,12 @@ pub record IsBarrier {S : Type 0} (files_of : S → Files) (MayBe : S → Files 
     (changes : List Change) (old new : S) (answer : Result (Unit {0}) StoreFault) : Type 0 where
   pub kept : IsHonest old → answer ≢ Err Clash → IsHonest new
   pub ok : OnOk answer
-      ((left : Files) → MayBe new left → (kept : Files) × MayBe old kept × IsCertain changes (files_of new) kept left)
+      ((left : Files) → MayBe new left
+      → (kept : Files) × MayBe old kept × DurableAfterBarrier changes (files_of new) kept left)
 
 -- the path was to hold these parts joined, or no file, and this was answered
 abbrev pub IsWrite : {S : Type 0} → (S → Files) → (S → Files → Type 0) → (S → ℕ) → (S → ℕ) → (S → ℕ) → (S → Type 0)
-    → List ℕ → Option Parts → S → S → Result (Unit {0}) StoreFault → Type 0
+    → List ℕ → Option Pieces → S → S → Result (Unit {0}) StoreFault → Type 0
 IsWrite files_of MayBe failures_of written_of mutations_of IsHonest path None old new answer =
     IsRemoval files_of MayBe failures_of written_of mutations_of IsHonest path old new answer
     × IsLater failures_of written_of mutations_of IsHonest old new

@@ -11,7 +11,7 @@ ghost use Rattle.reuse_change.specs.Entry.{makes, opposite, IsSmall, IsReady, Le
 ghost use Rattle.reuse_store.specs.Asked.{OnlyReads, IsLater, FailsAsRead, MaySet};
 
 use crate::{Cause, Store, StoreFault};
-use reuse_change::{Change, ChangeState, Direction, Parts};
+use reuse_change::{Change, ChangeState, Direction, Pieces};
 use reuse_text::LONGEST_FILE;
 use std::alloc::Global;
 
@@ -77,7 +77,7 @@ pub(crate) fn applied<'a>(
     change: &'a Change,
     direction: Direction,
     file: Option<&'a [u8]>,
-) -> Result<Option<Parts<'a>>, Cause>
+) -> Result<Option<Pieces<'a>>, Cause>
     ensures applies { IsReady direction change.now (option_copied file.entry)
         → IfOk result (λ after. AppliesBy direction change.now (option_copied file.entry) (held_in after)) }
     ensures moved { IsProper change.now → result ≡ Err Cause.Moved
@@ -88,8 +88,8 @@ pub(crate) fn applied<'a>(
         return Err(Cause::Moved);
     }
     match (change, direction) {
-        (Change::Make { new, .. }, Direction::Forward) => Ok(Some(Parts::whole(new.as_slice()))),
-        (Change::Drop { old, .. }, Direction::Backward) => Ok(Some(Parts::whole(old.as_slice()))),
+        (Change::Make { new, .. }, Direction::Forward) => Ok(Some(Pieces::whole(new.as_slice()))),
+        (Change::Drop { old, .. }, Direction::Backward) => Ok(Some(Pieces::whole(old.as_slice()))),
         (Change::Make { .. }, Direction::Backward) | (Change::Drop { .. }, Direction::Forward) =>
             Ok(None),
         (Change::Splice { at, old, new, .. }, direction) => {
@@ -97,13 +97,13 @@ pub(crate) fn applied<'a>(
                 return Err(Cause::Moved);
             };
             match direction {
-                Direction::Forward => Ok(Some(Parts::spliced(
+                Direction::Forward => Ok(Some(Pieces::spliced(
                     file,
                     *at,
                     old.len(),
                     new.as_slice(),
                 ))),
-                Direction::Backward => Ok(Some(Parts::spliced(
+                Direction::Backward => Ok(Some(Pieces::spliced(
                     file,
                     *at,
                     new.len(),
@@ -119,7 +119,7 @@ fn put_applied<S: Store>(
     alloc: Global,
     store: &mut S,
     change: &Change,
-    after: Option<Parts>,
+    after: Option<Pieces>,
 ) -> Result<(), Cause>
     ensures ok { S.honest store.new
         → OnOk result (Sets (path_of change.now) (held_in after.entry) (S.files store.old) (S.files store.new)) }

@@ -8,7 +8,7 @@ ghost use Rattle.reuse_change.specs.Change.{path_of, IsProper};
 ghost use Rattle.reuse_change.specs.Tree.{is_of_tree, undo_folder_of};
 ghost use Rattle.reuse_change.specs.Entry.{IsSmall, IsEntry, LeadsBy, CanBeMade, CanGo};
 ghost use Rattle.reuse_store.specs.Asked.{OnlyReads, IsLater, FailsAsRead, IsSynced, Leaves};
-ghost use Rattle.reuse_store.specs.Lasting.{IsMidway};
+ghost use Rattle.reuse_store.specs.Durable.{IsMidway};
 
 use crate::apply_change::{applied, can_apply, makes};
 use crate::{Cause, FileWrite, Reading, Store, StoreFault, is_clash_at};
@@ -41,7 +41,7 @@ pub fn apply_changes<S: Store>(
     // else might be left before.
     ensures left { S.honest store.new → IsEntry changes.now → IsSynced S.Store store.old → Leaves S.Store store.new
         (IsMidway direction changes.now (tree_of (S.files store.old)) (undo_folder_of (S.files store.old))) }
-    ensures lasting { S.honest store.new → IsEntry changes.now → IsSynced S.Store store.old
+    ensures durable { S.honest store.new → IsEntry changes.now → IsSynced S.Store store.old
         → OnOk result (IsSynced S.Store store.new) }
     // Where each change can be made, nothing but the device and memory stops it.
     ensures cause { S.honest store.new → IsEntry changes.now

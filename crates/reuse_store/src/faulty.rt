@@ -4,7 +4,7 @@ ghost use Rattle.reuse_store.specs.FaultyStore.{left_after};
 ghost use Rattle.reuse_change.specs.Parts.{joined};
 
 use crate::{CallRecord, Reading, Store, StoreFault};
-use reuse_change::{Change, Parts, PathText, Pruning};
+use reuse_change::{Change, PathText, Pieces, Pruning};
 use std::alloc::Global;
 
 /// A store that passes some calls on to the one inside, and then fails the next with `Device`: each
@@ -78,7 +78,7 @@ impl<S: Store + Drop, const STAYS: bool> FaultyStore<S, STAYS> {
 
 // Counts a call down, and says whether it is one that fails.
 fn is_due(left: &mut Option<u64>, stays: bool) -> bool
-    ensures due { IsTrue result ↔ (left.old ≡ Some 0) }
+    ensures expected { IsTrue result ↔ (left.old ≡ Some 0) }
     ensures counted { left.new ≡ left_after stays left.old }
 {
     match *left {
@@ -106,7 +106,7 @@ impl<S: Store + Drop, const STAYS: bool> Store for FaultyStore<S, STAYS> {
 
     ghost files = { (with_faults S.Store).files };
 
-    ghost may_be = { (with_faults S.Store).may_be };
+    ghost crash_states = { (with_faults S.Store).crash_states };
 
     ghost failures = { (with_faults S.Store).failures };
 
@@ -158,7 +158,7 @@ impl<S: Store + Drop, const STAYS: bool> Store for FaultyStore<S, STAYS> {
         answer
     }
 
-    fn put_parts(&mut self, alloc: Global, path: &PathText, parts: Parts) -> Result<(), StoreFault>
+    fn put_parts(&mut self, alloc: Global, path: &PathText, parts: Pieces) -> Result<(), StoreFault>
         ensures puts { IsPut (with_faults S.Store) path.now (joined parts.entry) self.old self.new result }
         ensures later { IsLater (with_faults S.Store) self.old self.new }
         ensures makes { WritesWithFaults STAYS (IsPut S.Store path.now (joined parts.entry)) self.old self.new result }
@@ -180,7 +180,7 @@ impl<S: Store + Drop, const STAYS: bool> Store for FaultyStore<S, STAYS> {
         ensures later { IsLater (with_faults S.Store) self.old self.new }
         ensures makes { WritesWithFaults STAYS (IsPut S.Store path.now bytes.now) self.old self.new result }
     {
-        self.put_parts(alloc, path, Parts::whole(bytes))
+        self.put_parts(alloc, path, Pieces::whole(bytes))
     }
 
     fn remove(&mut self, alloc: Global, path: &PathText) -> Result<(), StoreFault>
@@ -214,7 +214,7 @@ impl<S: Store + Drop, const STAYS: bool> Store for FaultyStore<S, STAYS> {
         answer
     }
 
-    ghost files_may_be = { λ store. S.files_may_be store.inner };
+    ghost files_in_crash_states = { λ store. S.files_in_crash_states store.inner };
 
     ghost are_files = { λ store honest. S.are_files store.inner honest };
 }

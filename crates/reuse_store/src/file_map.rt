@@ -11,7 +11,7 @@ ghost use Rattle.reuse_change.specs.Parts.{joined};
 ghost use Rattle.reuse_change.specs.Listing.{listed_paths};
 
 use crate::{Reading, StoreFault};
-use reuse_change::{Parts, PathText, Pruning, is_wanted};
+use reuse_change::{PathText, Pieces, Pruning, is_wanted};
 use reuse_text::Bytes;
 use std::alloc::{AllocError, Global};
 use std::collections::BTreeMap;
@@ -82,7 +82,7 @@ impl FileMap {
         &mut self,
         alloc: Global,
         path: &PathText,
-        parts: Parts,
+        parts: Pieces,
     ) -> Result<(), StoreFault>
         ensures ok { OnOk result (Puts path.now (joined parts.entry) (files_of self.old) (files_of self.new)) }
         ensures err { IfErr result

@@ -34,7 +34,7 @@ pub fn change_has_two_ends()
 /// What a seal says of files: one that is at an end of a sealed change has the digest of the file
 /// that was there. So it is that very file, unless another file has been found that has the same
 /// digest.
-pub fn seal_tells_files_apart()
+pub fn seal_distinguishes_files()
     ensures after { (change : Change) (before after file : Option (List ℕ)) → Applies change before after
         → IsTrue (is_sealed change)
         → IsAfter change file → option_map sha256 file ≡ option_map sha256 after }

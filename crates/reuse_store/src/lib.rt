@@ -23,4 +23,4 @@ pub use file_write::FileWrite;
 pub use memory::MemoryStore;
 pub use record::CallRecord;
 pub use store::{Reading, Store};
-pub use watched::{Asked, WatchedStore, Watcher};
+pub use watched::{StoreRequest, WatchedStore, Watcher};

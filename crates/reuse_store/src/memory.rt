@@ -4,7 +4,7 @@ ghost use Rattle.std.specs.FinMap as map;
 
 use crate::file_map::FileMap;
 use crate::{CallRecord, Reading, Store, StoreFault};
-use reuse_change::{Change, Parts, PathText, Pruning};
+use reuse_change::{Change, PathText, Pieces, Pruning};
 use std::alloc::Global;
 
 /// Files in memory, which nobody else writes. It never fails but for memory, and knows no loss of
@@ -36,7 +36,7 @@ impl MemoryStore {
     }
 
     // Makes the path's file these parts joined. No call is noted.
-    fn make(&mut self, alloc: Global, path: &PathText, parts: Parts) -> Result<(), StoreFault>
+    fn make(&mut self, alloc: Global, path: &PathText, parts: Pieces) -> Result<(), StoreFault>
         ensures ok { OnOk result
             (Puts path.now (joined parts.entry) (files_in self.old.files) (files_in self.new.files)) }
         ensures err { IfErr result (λ fault. PutFails fault path.now (joined parts.entry) (files_in self.old.files)
@@ -72,7 +72,7 @@ impl Store for MemoryStore {
 
     ghost files = { λ store. files_in store.files };
 
-    ghost may_be = { λ store left. left ≡ files_in store.files };
+    ghost crash_states = { λ store left. left ≡ files_in store.files };
 
     ghost failures = { λ _. 0 };
 
@@ -110,7 +110,7 @@ impl Store for MemoryStore {
         &mut self,
         alloc: Global,
         path: &PathText,
-        parts: Parts,
+        parts: Pieces,
     ) -> Result<(), StoreFault> {
         let answer = self.make(alloc, path, parts);
         self.calls.note_put_parts(path, parts, &answer);
@@ -128,7 +128,7 @@ impl Store for MemoryStore {
         Ok(())
     }
 
-    ghost files_may_be = { λ store. refl };
+    ghost files_in_crash_states = { λ store. refl };
 
     ghost are_files = { λ store _. files_in_are_files store.files };
 }

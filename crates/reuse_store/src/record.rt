@@ -11,7 +11,7 @@ ghost use Rattle.reuse_store.specs.Calls.Call.{ListCall, ReadCall, PutCall, Remo
 ghost use Rattle.reuse_store.specs.CallParts.{call_of, listing_of, barrier_of};
 
 use crate::{Reading, StoreFault};
-use reuse_change::{Change, Parts, PathText};
+use reuse_change::{Change, PathText, Pieces};
 use std::marker::{Model, PhantomData};
 
 // Which call was made, and how it was answered.
@@ -49,8 +49,9 @@ enum BarrierKind {
 pub struct CallRecord {
     marker: PhantomData<u8>,
     pub ghost start: { Files } by { map.code (coded_list coded_ℕ) (coded_list coded_ℕ) },
-    pub ghost doubts: { List Files } by { coded_list (map.code (coded_list coded_ℕ) (coded_list coded_ℕ)) },
-    pub ghost fates: { List Bool } by { coded_list coded_bool },
+    pub ghost initial_crash_states: { List Files } by { coded_list
+        (map.code (coded_list coded_ℕ) (coded_list coded_ℕ)) },
+    pub ghost effects: { List Bool } by { coded_list coded_bool },
     pub ghost calls: { List Call },
 }
 
@@ -59,10 +60,12 @@ impl Model for CallRecord {
 }
 
 impl CallRecord {
-    /// A record of no calls, with any files at the start and any fates of the calls that will fail.
+    /// A record of no calls, with any files at the start and any effects of the calls that will
+    /// fail.
     pub fn new() -> CallRecord
         ghost start: { Start }
-        ensures { (result.start ≡ start.files) × (result.doubts ≡ start.doubts) × (result.fates ≡ start.fates)
+        ensures { (result.start ≡ start.files) × (result.initial_crash_states ≡ start.initial_crash_states)
+            × (result.effects ≡ start.effects)
             × (result.calls ≡ []) }
     {
         CallRecord {
@@ -113,15 +116,20 @@ impl CallRecord {
     }
 
     /// Notes that the path was to be made these parts joined, and the answer. Whether a put that
-    /// failed took effect is its fate.
-    pub fn note_put_parts(&mut self, path: &PathText, parts: Parts, answer: &Result<(), StoreFault>)
+    /// failed took effect is its effect.
+    pub fn note_put_parts(
+        &mut self,
+        path: &PathText,
+        parts: Pieces,
+        answer: &Result<(), StoreFault>,
+    )
         ensures { self.new ≡ record self.old {
           calls = PutCall path.now (joined parts.entry) answer.now
-              (took_effect self.old.fates self.old.calls) ∷ self.old.calls;
+              (took_effect self.old.effects self.old.calls) ∷ self.old.calls;
         } }
     {
         let path = path.as_bytes();
-        let Parts {
+        let Pieces {
             front,
             middle,
             back,
@@ -135,11 +143,11 @@ impl CallRecord {
         }
     }
 
-    /// Notes a call of `remove` and its answer. Whether one that failed took effect is its fate.
+    /// Notes a call of `remove` and its answer. Whether one that failed took effect is its effect.
     pub fn note_remove(&mut self, path: &PathText, answer: &Result<(), StoreFault>)
         ensures { self.new ≡ record self.old {
           calls = RemoveCall path.now answer.now
-              (took_effect self.old.fates self.old.calls) ∷ self.old.calls;
+              (took_effect self.old.effects self.old.calls) ∷ self.old.calls;
         } }
     {
         let path = path.as_bytes();
@@ -183,7 +191,7 @@ impl CallRecord {
     )
         ensures { self.new ≡ record self.old {
           calls = call_of _kind.now _path.now (_front.now ++ _middle.now ++ _back.now) _limit
-              (took_effect self.old.fates self.old.calls) ∷ self.old.calls;
+              (took_effect self.old.effects self.old.calls) ∷ self.old.calls;
         } }
     {}
 }

@@ -7,7 +7,7 @@ ghost use Rattle.reuse_change.specs.Parts.{joined};
 ghost use Rattle.reuse_change.specs.Listing.{listed_paths};
 
 use crate::{FileWrite, StoreFault};
-use reuse_change::{Change, Parts, PathText, Pruning};
+use reuse_change::{Change, PathText, Pieces, Pruning};
 use reuse_text::Bytes;
 use std::alloc::Global;
 
@@ -48,7 +48,8 @@ impl Reading {
 }
 
 /// Files by their paths. What is said of `files` and of a clash holds where the store is honest
-/// after the call; what is said of `may_be`, `failures`, `written` and `moves` holds always.
+/// after the call; what is said of `crash_states`, `failures`, `written` and `mutations` holds
+/// always.
 pub trait Store {
     ghost use Rattle.reuse_store.specs.Store.{reading_of};
     ghost use Rattle.reuse_store.specs.StoreLaws.{OnlyReads, IsLater, FailsAsRead, IsPut, IsRemoval, IsWrite};
@@ -58,7 +59,7 @@ pub trait Store {
     ghost files: { Self → Files };
 
     /// What a loss of power at this moment may leave.
-    ghost may_be: { Self → Files → Type 0 };
+    ghost crash_states: { Self → Files → Type 0 };
 
     /// How often the device has failed. It never falls.
     ghost failures: { Self → ℕ };
@@ -71,7 +72,7 @@ pub trait Store {
 
     /// So far nobody else has written the files, and what was read is what was written. A call can
     /// lose this, and never gain it; one that is answered as these files ask keeps it. A put or a
-    /// removal that the device or want of memory failed may have lost it.
+    /// removal that the device or an allocation failed may have lost it.
     ghost honest: { Self → Type 0 };
 
     /// In byte order, the paths that are one of these folders or lie under one, and under no folder
@@ -88,7 +89,7 @@ pub trait Store {
         ensures paths { honest self.new
             → IfOk result (λ paths. paths.items ≡ listed_paths (files self.old) folders.now (P.prunes pruning.now)) }
         ensures fails { FailsAsRead failures honest self.old self.new result }
-        ensures reads { OnlyReads files may_be failures written mutations honest self.old self.new };
+        ensures reads { OnlyReads files crash_states failures written mutations honest self.old self.new };
 
     /// What the path holds, if it is no longer than the limit in bytes.
     fn read(&mut self, alloc: Global, path: &PathText, limit: usize) -> Result<Reading, StoreFault>
@@ -98,31 +99,33 @@ pub trait Store {
         ensures reading { honest self.new
             → IfOk result (λ reading. reading ≡ reading_of (map.get (files self.old) path.now) limit) }
         ensures fails { FailsAsRead failures honest self.old self.new result }
-        ensures reads { OnlyReads files may_be failures written mutations honest self.old self.new };
+        ensures reads { OnlyReads files crash_states failures written mutations honest self.old self.new };
 
     /// Makes the path's file these parts joined, and folders as needed.
-    fn put_parts(&mut self, alloc: Global, path: &PathText, parts: Parts) -> Result<(), StoreFault>
-        ensures puts { IsPut files may_be failures written mutations honest path.now
+    fn put_parts(&mut self, alloc: Global, path: &PathText, parts: Pieces) -> Result<(), StoreFault>
+        ensures puts { IsPut files crash_states failures written mutations honest path.now
             (joined parts.entry) self.old self.new result }
         ensures later { IsLater failures written mutations honest self.old self.new };
 
     /// Makes the path's file these bytes, and folders as needed.
     fn put(&mut self, alloc: Global, path: &PathText, bytes: &[u8]) -> Result<(), StoreFault>
-        ensures puts { IsPut files may_be failures written mutations honest path.now bytes.now self.old
+        ensures puts { IsPut files crash_states failures written mutations honest path.now bytes.now self.old
             self.new result }
         ensures later { IsLater failures written mutations honest self.old self.new }
     {
-        self.put_parts(alloc, path, Parts::whole(bytes))
+        self.put_parts(alloc, path, Pieces::whole(bytes))
     }
 
     /// Removes the path's file, if there is one.
     fn remove(&mut self, alloc: Global, path: &PathText) -> Result<(), StoreFault>
-        ensures removes { IsRemoval files may_be failures written mutations honest path.now self.old self.new result }
+        ensures removes { IsRemoval files crash_states failures written mutations honest path.now self.old
+            self.new result }
         ensures later { IsLater failures written mutations honest self.old self.new };
 
     /// Makes the path hold what it is given, by one put or removal.
     fn write(&mut self, alloc: Global, write: &FileWrite) -> Result<(), StoreFault>
-        ensures { IsWrite files may_be failures written mutations honest write.now.path.now write.now.file self.old
+        ensures { IsWrite files crash_states failures written mutations honest write.now.path.now
+            write.now.file self.old
             self.new result }
     {
         match write.file {
@@ -134,7 +137,7 @@ pub trait Store {
     /// Makes each path hold what it is given, one after the other, up to the first that fails. A
     /// store may prepare them together.
     fn write_all(&mut self, alloc: Global, writes: &[FileWrite]) -> Result<(), StoreFault>
-        ensures { AreWrites files may_be failures written mutations honest writes.now self.old self.new result }
+        ensures { AreWrites files crash_states failures written mutations honest writes.now self.old self.new result }
     {
         for write in writes {
             self.write(alloc, write)?;
@@ -142,15 +145,15 @@ pub trait Store {
         Ok(())
     }
 
-    /// A barrier: makes lasting what the files of the journal hold now, and what the paths of these
+    /// A barrier: makes durable what the files of the journal hold now, and what the paths of these
     /// changes hold, whoever wrote them.
     fn sync(&mut self, alloc: Global, changes: &[Change]) -> Result<(), StoreFault>
-        ensures barrier { IsBarrier files may_be honest changes.now self.old self.new result }
+        ensures barrier { IsBarrier files crash_states honest changes.now self.old self.new result }
         ensures fails { FailsAsRead failures honest self.old self.new result }
-        ensures reads { OnlyReads files may_be failures written mutations honest self.old self.new };
+        ensures reads { OnlyReads files crash_states failures written mutations honest self.old self.new };
 
     /// What is there now may be left.
-    ghost files_may_be: { (store : Self) → may_be store (files store) };
+    ghost files_in_crash_states: { (store : Self) → crash_states store (files store) };
 
     /// Paths are good, and none is a folder of another.
     ghost are_files: { (store : Self) → honest store → AreFiles (files store) };

@@ -4,12 +4,12 @@ ghost use Rattle.std.specs.Prelude.{◌≡◌};
 use crate::fault::StoreFault;
 use crate::file_write::FileWrite;
 use crate::store::{Reading, Store};
-use reuse_change::{Change, Parts, PathText, Pruning};
+use reuse_change::{Change, PathText, Pieces, Pruning};
 use std::alloc::Global;
 
 /// What a call of a store asks for.
 #[derive(Clone, Copy)]
-pub enum Asked {
+pub enum StoreRequest {
     /// The paths of its files.
     List,
     /// A file.
@@ -25,13 +25,13 @@ pub enum Asked {
 /// What is done beside the calls of a store.
 pub trait Watcher {
     /// Before a call that asks for this.
-    fn before(&self, alloc: Global, asked: Asked);
+    fn before(&self, alloc: Global, asked: StoreRequest);
 
     /// After a call that succeeded, with how many paths it listed, if it did.
     fn after(&self, alloc: Global, listed: Option<usize>);
 }
 
-/// Passes each call on to the store inside, and tells the watcher of it.
+/// Passes each call on to the store inside, and notifies the watcher.
 #[derive(Drop)]
 pub struct WatchedStore<'a, S: Store + Drop, W: Watcher> {
     inner: S,
@@ -54,12 +54,12 @@ impl<'a, S: Store + Drop, W: Watcher> WatchedStore<'a, S, W> {
     }
 }
 
-// Tells the watcher of each of these writes.
+// Notifies the watcher of each of these writes.
 fn announce<W: Watcher>(alloc: Global, watcher: &W, writes: &[FileWrite]) {
     for write in writes {
         let asked = match write.file {
-            Some(_) => Asked::Write,
-            None => Asked::Remove,
+            Some(_) => StoreRequest::Write,
+            None => StoreRequest::Remove,
         };
         watcher.before(alloc, asked);
     }
@@ -68,7 +68,7 @@ fn announce<W: Watcher>(alloc: Global, watcher: &W, writes: &[FileWrite]) {
 impl<S: Store + Drop, W: Watcher> Store for WatchedStore<'_, S, W> {
     ghost files = { λ store. S.files store.inner };
 
-    ghost may_be = { λ store. S.may_be store.inner };
+    ghost crash_states = { λ store. S.crash_states store.inner };
 
     ghost failures = { λ store. S.failures store.inner };
 
@@ -84,7 +84,7 @@ impl<S: Store + Drop, W: Watcher> Store for WatchedStore<'_, S, W> {
         folders: &[PathText],
         pruning: &P,
     ) -> Result<Vec<PathText>, StoreFault> {
-        self.watcher.before(alloc, Asked::List);
+        self.watcher.before(alloc, StoreRequest::List);
         let paths = self.inner.list(alloc, folders, pruning)?;
         self.watcher.after(alloc, Some(paths.len()));
         Ok(paths)
@@ -96,7 +96,7 @@ impl<S: Store + Drop, W: Watcher> Store for WatchedStore<'_, S, W> {
         path: &PathText,
         limit: usize,
     ) -> Result<Reading, StoreFault> {
-        self.watcher.before(alloc, Asked::Read);
+        self.watcher.before(alloc, StoreRequest::Read);
         let reading = self.inner.read(alloc, path, limit)?;
         self.watcher.after(alloc, None);
         Ok(reading)
@@ -106,16 +106,16 @@ impl<S: Store + Drop, W: Watcher> Store for WatchedStore<'_, S, W> {
         &mut self,
         alloc: Global,
         path: &PathText,
-        parts: Parts,
+        parts: Pieces,
     ) -> Result<(), StoreFault> {
-        self.watcher.before(alloc, Asked::Write);
+        self.watcher.before(alloc, StoreRequest::Write);
         self.inner.put_parts(alloc, path, parts)?;
         self.watcher.after(alloc, None);
         Ok(())
     }
 
     fn remove(&mut self, alloc: Global, path: &PathText) -> Result<(), StoreFault> {
-        self.watcher.before(alloc, Asked::Remove);
+        self.watcher.before(alloc, StoreRequest::Remove);
         self.inner.remove(alloc, path)?;
         self.watcher.after(alloc, None);
         Ok(())
@@ -129,13 +129,13 @@ impl<S: Store + Drop, W: Watcher> Store for WatchedStore<'_, S, W> {
     }
 
     fn sync(&mut self, alloc: Global, changes: &[Change]) -> Result<(), StoreFault> {
-        self.watcher.before(alloc, Asked::Sync);
+        self.watcher.before(alloc, StoreRequest::Sync);
         self.inner.sync(alloc, changes)?;
         self.watcher.after(alloc, None);
         Ok(())
     }
 
-    ghost files_may_be = { λ store. S.files_may_be store.inner };
+    ghost files_in_crash_states = { λ store. S.files_in_crash_states store.inner };
 
     ghost are_files = { λ store honest. S.are_files store.inner honest };
 }

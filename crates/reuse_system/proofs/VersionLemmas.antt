@@ -21,7 +21,8 @@ same_stamp a b e =
 same_identity : (a b : Identity) → ((a.device == b.device) && (a.number == b.number)) ≡ true → a ≡ b
 same_identity a b e =
     let parts = both _ _ e in
-    ap₂ (λ d n. let one : Identity = record { device = d; number = n } in one) (eqb-true a.device b.device parts.0) (eqb-true a.number b.number parts.1)
+    ap₂ (λ d n. let one : Identity = record { device = d; number = n } in one) (eqb-true a.device b.device parts.0)
+    (eqb-true a.number b.number parts.1)
 
 pub same_version : (a b : FileVersion)
     → (((a.identity.device == b.identity.device) && (a.identity.number == b.identity.number))
@@ -32,6 +33,12 @@ same_version a b e =
     let one = both _ _ e in
     let two = both _ _ one.1 in
     let three = both _ _ two.1 in
-    ap₂ (λ (x : Identity) (y : FileVersion). let one : FileVersion = record { identity = x; len = y.len; written = y.written; changed = y.changed } in one) (same_identity a.identity b.identity one.0)
-    (ap₂ (λ n (y : FileVersion). let one : FileVersion = record { identity = a.identity; len = n; written = y.written; changed = y.changed } in one) (eqb-true a.len b.len two.0)
-    (ap₂ (λ (s : Stamp) (t : Stamp). let one : FileVersion = record { identity = a.identity; len = a.len; written = s; changed = t } in one) (same_stamp a.written b.written three.0) (same_stamp a.changed b.changed three.1)))
+    ap₂ (λ (x : Identity) (y : FileVersion).
+    let one : FileVersion = record { identity = x; len = y.len; written = y.written; changed = y.changed } in one)
+    (same_identity a.identity b.identity one.0)
+    (ap₂ (λ n (y : FileVersion).
+    let one : FileVersion = record { identity = a.identity; len = n; written = y.written; changed = y.changed } in one)
+    (eqb-true a.len b.len two.0)
+    (ap₂ (λ (s : Stamp) (t : Stamp).
+    let one : FileVersion = record { identity = a.identity; len = a.len; written = s; changed = t } in one)
+    (same_stamp a.written b.written three.0) (same_stamp a.changed b.changed three.1)))

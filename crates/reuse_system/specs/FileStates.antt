@@ -12,7 +12,7 @@ pub data FileKey : Type 0 where
 pub record StateFile : Type 0 where
   pub key : FileKey
   pub bytes : List ℕ
-  pub is_lasting : Bool
+  pub is_durable : Bool
 
 -- a name in a folder: the device and the number of the folder, and then the bytes of the name
 abbrev pub Place : Type 0
@@ -26,7 +26,7 @@ abbrev pub FileState : Type 0
 FileState = Place → Option StateFile
 
 abbrev pub file : FileKey → List ℕ → Bool → Option StateFile
-file key bytes is_lasting = Some (record { key = key; bytes = bytes; is_lasting = is_lasting })
+file key bytes is_durable = Some (record { key = key; bytes = bytes; is_durable = is_durable })
 
 -- no such file, whatever stands there
 abbrev pub IsNot : FileKey → Option StateFile → Type 0
@@ -35,4 +35,4 @@ IsNot key (Some held) = held.key ≢ key
 
 -- a file of these bytes stands there
 abbrev pub Holds : FileState → Place → List ℕ → Bool → Type 0
-Holds held place bytes is_lasting = (key : FileKey) × (held place ≡ file key bytes is_lasting)
+Holds held place bytes is_durable = (key : FileKey) × (held place ≡ file key bytes is_durable)

@@ -9,14 +9,14 @@ use Rattle.reuse_store.specs.declared.fault.StoreFault.{StoreFault}
 use Rattle.reuse_store.specs.declared.fault.StoreFault.TheVariants as store
 use Rattle.reuse_system.specs.declared.fault.FolderFault.{FolderFault}
 use Rattle.reuse_system.specs.declared.fault.FolderFault.TheVariants.{Device, Clash, Memory}
-use Rattle.reuse_system.specs.declared.fault.Obstacle.TheVariants.{System, BadName}
+use Rattle.reuse_system.specs.declared.fault.IoReason.TheVariants.{System, BadName}
 
 -- an error of this kind
 abbrev pub fault_of_kind : ErrorKind → Error → FolderFault
 fault_of_kind OutOfMemory error = Memory
 fault_of_kind kind error = Device (System error)
 
--- the system's an allocation failure is an allocation failure, and all else a device fault that tells the system's
+-- the system's an allocation failure is an allocation failure, and all else a device fault that reports the system's
 -- error
 abbrev pub fault_of_system : Error → FolderFault
 fault_of_system error = fault_of_kind (error_kind error) error

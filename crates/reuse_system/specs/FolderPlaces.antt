@@ -25,7 +25,7 @@ abbrev pub stands : Found → Bool
 stands found.Nothing = false
 stands _ = true
 
--- the path isn't told to be a regular file
+-- the path isn't reported to be a regular file
 abbrev pub IsNoFile : Place → Type 0
 IsNoFile (File status) = ⊥
 IsNoFile place = Unit {0}

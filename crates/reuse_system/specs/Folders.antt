@@ -4,7 +4,8 @@ use Rattle.reuse_system.specs.Names.{between_slashes}
 use Rattle.reuse_system.specs.FileStates.{StateFile, Place, FileState, place_in}
 use Rattle.reuse_system.specs.declared.place.Identity.{Identity}
 
--- the root; the folder that each name in a folder leads to; and the names that lead to something else that is no regular file
+-- the root; the folder that each name in a folder leads to; and the names that lead to something else that is no
+-- regular file
 pub record Folders : Type 0 where
   pub root : Identity
   pub below : Place → Option Identity
@@ -46,7 +47,8 @@ abbrev pub file_along : Folders → FileState → Option Identity → List (List
 file_along folders held at [] = None
 file_along folders held at (name ∷ []) = file_in held at name
 file_along folders held None (name ∷ next ∷ names) = None
-file_along folders held (Some at) (name ∷ next ∷ names) = file_along folders held (folder_in folders at name) (next ∷ names)
+file_along folders held (Some at) (name ∷ next ∷ names) =
+    file_along folders held (folder_in folders at name) (next ∷ names)
 
 -- the regular file at this path below the root
 abbrev pub file_at : Folders → FileState → List ℕ → Option StateFile
@@ -70,7 +72,8 @@ Stands folders held place = (held place ≢ None) ⊎ (folders.below place ≢ N
 abbrev pub IsBare : Folders → FileState → Option Identity → Type 0
 IsBare folders held None = ⊥
 IsBare folders held (Some at) =
-    Stands folders held (place_in at (codes "HEAD")) × Stands folders held (place_in at (codes "objects")) × Stands folders held (place_in at (codes "refs"))
+    Stands folders held (place_in at (codes "HEAD")) × Stands folders held (place_in at (codes "objects"))
+    × Stands folders held (place_in at (codes "refs"))
 
 -- one of the folders along these names is a bare repository
 abbrev pub IsBarredAlong : Folders → FileState → Option Identity → List (List ℕ) → Type 0

@@ -1,9 +1,9 @@
-pub mod Asides
+pub mod TempFiles
 pub mod FileStates
 pub mod FolderFault
 pub mod FolderPlaces
 pub mod Folders
-pub mod KeptOut
+pub mod Ignored
 pub mod NameChanges
 pub mod Names
 pub mod Owners

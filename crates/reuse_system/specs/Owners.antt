@@ -50,4 +50,7 @@ cannot_keep process owner rights =
 -- root makes belongs to the folder's owner.
 abbrev pub owner_of_new : Process → (folder : Owner) → (passes_group : Bool) → Owner
 owner_of_new process folder passes_group =
-    if process.user == 0 then folder else record { user = process.user; group = if passes_group then folder.group else process.group }
+    if process.user == 0 then folder else record {
+      user = process.user;
+      group = if passes_group then folder.group else process.group;
+    }

@@ -1,5 +1,6 @@
 -- The calls of the system with their answers, and what names lead to after them.
-use Rattle.std.specs.Prelude.{◌≡◌, ℕ, zero, suc, Bool, true, false, if◌then◌else◌, List, [], ◌∷◌, ◌++◌, length, take, Option, None, Some, Result, Ok, Err, ◌==◌}
+use Rattle.std.specs.Prelude.{◌≡◌, ℕ, zero, suc, Bool, true, false, if◌then◌else◌, List, [], ◌∷◌, ◌++◌, length, take}
+use Rattle.std.specs.Prelude.{Option, None, Some, Result, Ok, Err, ◌==◌}
 use Rattle.std.specs.List.{list_any}
 use Rattle.std.specs.Option.{unwrap_or}
 use Rattle.std.specs.Str.{bytes_eq}
@@ -8,7 +9,9 @@ use Rattle.reuse_system.specs.FileStates.FileKey.{Found, Made}
 use Rattle.reuse_system.specs.Folders.{Folders, folder_in}
 use Rattle.reuse_system.specs.NameChanges.{Look, NameChange, change_at, change_of_free}
 use Rattle.reuse_system.specs.SystemCall.{SystemCall, made_of}
-use Rattle.reuse_system.specs.SystemCall.SystemCall.{MakeCall, AppendCall, SyncCall, RenameCall, LinkCall, RemoveCall, LookCall, ReadCall, RootCall, OpenCall, NoFolderCall, MakeFolderCall, RemoveFolderCall}
+use Rattle.reuse_system.specs.SystemCall.SystemCall.{MakeCall, AppendCall, SyncCall, RenameCall, LinkCall, RemoveCall}
+use Rattle.reuse_system.specs.SystemCall.SystemCall.{LookCall, ReadCall, RootCall, OpenCall, NoFolderCall}
+use Rattle.reuse_system.specs.SystemCall.SystemCall.{MakeFolderCall, RemoveFolderCall}
 use Rattle.reuse_system.specs.SystemLaws.{IsSeen, IsReadOf, IsNoFolder}
 use Rattle.reuse_store.specs.declared.store.Reading.{Reading}
 use Rattle.reuse_store.specs.declared.store.Reading.TheVariants as reading
@@ -25,19 +28,19 @@ abbrev pub FolderStart : Type 0
 FolderStart = (ℕ × ℕ) × (List (Place × (ℕ × ℕ)) × List Place)
 
 -- what nobody can know of a system at its start: its folders; each name that leads to a file, with the number of that
--- file, its bytes, and whether a loss of power surely leaves it these; and of each call that is to come its fate: how
+-- file, its bytes, and whether a loss of power surely leaves it these; and of each call that is to come its effect: how
 -- much of an appending that fails is written, whether another call that fails takes effect, which is 1 or more,
 -- whether the old name stays where a renaming is done, which is 1, and the number of a folder that is made, or 1 more
 -- than that where its making fails
 pub record SystemStart : Type 0 where
   pub folders : FolderStart
   pub files : List (Place × (ℕ × (List ℕ × Bool)))
-  pub fates : List ℕ
+  pub effects : List ℕ
 
-abbrev pub fate_at : List ℕ → ℕ → ℕ
-fate_at [] n = 0
-fate_at (fate ∷ fates) zero = fate
-fate_at (fate ∷ fates) (suc n) = fate_at fates n
+abbrev pub effect_at : List ℕ → ℕ → ℕ
+effect_at [] n = 0
+effect_at (effect ∷ effects) zero = effect
+effect_at (effect ∷ effects) (suc n) = effect_at effects n
 
 -- the file that the place leads to at the start
 abbrev pub held_at_start : List (Place × (ℕ × (List ℕ × Bool))) → FileState
@@ -48,7 +51,8 @@ held_at_start (entry ∷ entries) place =
 -- the folder that the place leads to
 abbrev pub folder_among : List (Place × (ℕ × ℕ)) → Place → Option Identity
 folder_among [] place = None
-folder_among (entry ∷ entries) place = if bytes_eq place entry.0 then Some (record { device = entry.1.0; number = entry.1.1 }) else folder_among entries place
+folder_among (entry ∷ entries) place = if bytes_eq place entry.0
+    then Some (record { device = entry.1.0; number = entry.1.1 }) else folder_among entries place
 
 -- what names lead to at the start but for regular files
 abbrev pub folders_of : FolderStart → Folders
@@ -69,23 +73,23 @@ is_made number (Made other) = other == number
 
 -- the file, if it is the one that was made so
 abbrev pub filled_if : ℕ → List ℕ → Bool → Option StateFile → Option StateFile
-filled_if number bytes is_lasting None = None
-filled_if number bytes is_lasting (Some held) =
-    if is_made number held.key then file held.key (held.bytes ++ bytes) is_lasting else Some held
+filled_if number bytes is_durable None = None
+filled_if number bytes is_durable (Some held) =
+    if is_made number held.key then file held.key (held.bytes ++ bytes) is_durable else Some held
 
 abbrev pub filled : ℕ → List ℕ → Bool → FileState → FileState
-filled number bytes is_lasting held place = filled_if number bytes is_lasting (held place)
+filled number bytes is_durable held place = filled_if number bytes is_durable (held place)
 
 abbrev pub renamed : Bool → Place → Place → FileState → FileState
 renamed stays from to held = set (if stays then held else set held from None) to (held from)
 
 abbrev pub renamed_by : ℕ → Place → Place → FileState → FileState
 renamed_by zero from to held = held
-renamed_by (suc fate) from to held = renamed (fate == 0) from to held
+renamed_by (suc effect) from to held = renamed (effect == 0) from to held
 
 abbrev pub set_by : ℕ → FileState → Place → Option StateFile → FileState
 set_by zero held place one = held
-set_by (suc fate) held place one = set held place one
+set_by (suc effect) held place one = set held place one
 
 -- where both are one place, nothing was linked
 abbrev pub linked : Place → Place → FileState → FileState
@@ -93,42 +97,46 @@ linked from to held place = if bytes_eq from to then held place else set held to
 
 abbrev pub linked_by : ℕ → Place → Place → FileState → FileState
 linked_by zero from to held = held
-linked_by (suc fate) from to held = linked from to held
+linked_by (suc effect) from to held = linked from to held
 
--- what a call of this fate makes of it, before which so many files were made
+-- what a call of this effect makes of it, before which so many files were made
 abbrev pub held_by : ℕ → ℕ → SystemCall → FileState → FileState
-held_by fate made (MakeCall place true) held = set held place (file (Made made) [] false)
-held_by fate made (MakeCall place false) held = set_by fate held place (file (Made made) [] false)
-held_by fate made (AppendCall number bytes true) held = filled number bytes false held
-held_by fate made (AppendCall number bytes false) held = filled number (take fate bytes) false held
-held_by fate made (SyncCall number is_done) held = filled number [] is_done held
-held_by fate made (RenameCall from to true) held = renamed (fate == 1) from to held
-held_by fate made (RenameCall from to false) held = renamed_by fate from to held
-held_by fate made (LinkCall from to true) held = linked from to held
-held_by fate made (LinkCall from to false) held = linked_by fate from to held
-held_by fate made (RemoveCall place true) held = set held place None
-held_by fate made (RemoveCall place false) held = set_by fate held place None
-held_by fate made (LookCall place answer) held = held
-held_by fate made (ReadCall place said limit answer) held = held
-held_by fate made (RootCall opened) held = held
-held_by fate made (OpenCall above name opened) held = held
-held_by fate made (NoFolderCall above name found) held = held
-held_by fate made (MakeFolderCall above name is_done) held = held
-held_by fate made (RemoveFolderCall place is_done) held = held
+held_by effect made (MakeCall place true) held = set held place (file (Made made) [] false)
+held_by effect made (MakeCall place false) held = set_by effect held place (file (Made made) [] false)
+held_by effect made (AppendCall number bytes true) held = filled number bytes false held
+held_by effect made (AppendCall number bytes false) held = filled number (take effect bytes) false held
+held_by effect made (SyncCall number is_done) held = filled number [] is_done held
+held_by effect made (RenameCall from to true) held = renamed (effect == 1) from to held
+held_by effect made (RenameCall from to false) held = renamed_by effect from to held
+held_by effect made (LinkCall from to true) held = linked from to held
+held_by effect made (LinkCall from to false) held = linked_by effect from to held
+held_by effect made (RemoveCall place true) held = set held place None
+held_by effect made (RemoveCall place false) held = set_by effect held place None
+held_by effect made (LookCall place answer) held = held
+held_by effect made (ReadCall place said limit answer) held = held
+held_by effect made (RootCall opened) held = held
+held_by effect made (OpenCall above name opened) held = held
+held_by effect made (NoFolderCall above name found) held = held
+held_by effect made (MakeFolderCall above name is_done) held = held
+held_by effect made (RemoveFolderCall place is_done) held = held
 
 -- what names lead to after these calls, the newest first
 abbrev pub held_after : List (Place × (ℕ × (List ℕ × Bool))) → List ℕ → List SystemCall → FileState
-held_after files fates [] = held_at_start files
-held_after files fates (call ∷ calls) =
-    held_by (fate_at fates (length calls)) (made_of calls) call (held_after files fates calls)
+held_after files effects [] = held_at_start files
+held_after files effects (call ∷ calls) =
+    held_by (effect_at effects (length calls)) (made_of calls) call (held_after files effects calls)
 
 -- the place leads to this folder, if it led to none
 abbrev pub with_folder : Place → Identity → Folders → Folders
 with_folder place one folders =
-    record folders { below = λ other. if bytes_eq other place then Some (unwrap_or (folders.below other) one) else folders.below other }
+    record folders {
+      below = λ other. if bytes_eq other place then Some (unwrap_or (folders.below other) one)
+          else folders.below other;
+    }
 
 abbrev pub without_folder : Place → Folders → Folders
-without_folder place folders = record folders { below = λ other. if bytes_eq other place then None else folders.below other }
+without_folder place folders =
+    record folders { below = λ other. if bytes_eq other place then None else folders.below other }
 
 -- a folder that is made in another one lies on its device
 abbrev pub with_folder_by : ℕ → Identity → List ℕ → Folders → Folders
@@ -138,30 +146,31 @@ with_folder_by (suc number) above name folders =
 
 abbrev pub without_folder_by : ℕ → Place → Folders → Folders
 without_folder_by zero place folders = folders
-without_folder_by (suc fate) place folders = without_folder place folders
+without_folder_by (suc effect) place folders = without_folder place folders
 
--- what a call of this fate makes of the folders
+-- what a call of this effect makes of the folders
 abbrev pub folders_by : ℕ → SystemCall → Folders → Folders
-folders_by fate (MakeFolderCall above name true) folders = with_folder_by (suc fate) above name folders
-folders_by fate (MakeFolderCall above name false) folders = with_folder_by fate above name folders
-folders_by fate (RemoveFolderCall place true) folders = without_folder place folders
-folders_by fate (RemoveFolderCall place false) folders = without_folder_by fate place folders
-folders_by fate (MakeCall place is_done) folders = folders
-folders_by fate (AppendCall number bytes is_done) folders = folders
-folders_by fate (SyncCall number is_done) folders = folders
-folders_by fate (RenameCall from to is_done) folders = folders
-folders_by fate (LinkCall from to is_done) folders = folders
-folders_by fate (RemoveCall place is_done) folders = folders
-folders_by fate (LookCall place answer) folders = folders
-folders_by fate (ReadCall place said limit answer) folders = folders
-folders_by fate (RootCall opened) folders = folders
-folders_by fate (OpenCall above name opened) folders = folders
-folders_by fate (NoFolderCall above name found) folders = folders
+folders_by effect (MakeFolderCall above name true) folders = with_folder_by (suc effect) above name folders
+folders_by effect (MakeFolderCall above name false) folders = with_folder_by effect above name folders
+folders_by effect (RemoveFolderCall place true) folders = without_folder place folders
+folders_by effect (RemoveFolderCall place false) folders = without_folder_by effect place folders
+folders_by effect (MakeCall place is_done) folders = folders
+folders_by effect (AppendCall number bytes is_done) folders = folders
+folders_by effect (SyncCall number is_done) folders = folders
+folders_by effect (RenameCall from to is_done) folders = folders
+folders_by effect (LinkCall from to is_done) folders = folders
+folders_by effect (RemoveCall place is_done) folders = folders
+folders_by effect (LookCall place answer) folders = folders
+folders_by effect (ReadCall place said limit answer) folders = folders
+folders_by effect (RootCall opened) folders = folders
+folders_by effect (OpenCall above name opened) folders = folders
+folders_by effect (NoFolderCall above name found) folders = folders
 
 -- the folders after these calls, the newest first
 abbrev pub folders_after : FolderStart → List ℕ → List SystemCall → Folders
-folders_after start fates [] = folders_of start
-folders_after start fates (call ∷ calls) = folders_by (fate_at fates (length calls)) call (folders_after start fates calls)
+folders_after start effects [] = folders_of start
+folders_after start effects (call ∷ calls) =
+    folders_by (effect_at effects (length calls)) call (folders_after start effects calls)
 
 -- a call may answer so where names lead to these folders and files and nobody else writes
 abbrev pub MayAnswer : Folders → FileState → SystemCall → Type 0
@@ -172,9 +181,9 @@ MayAnswer folders held (OpenCall above name opened) = folder_in folders above na
 MayAnswer folders held (NoFolderCall above name found) = IsNoFolder folders held (folder_in folders above name) found
 MayAnswer folders held call = Unit {0}
 
--- what the last of these calls told, if it was a look
+-- what the last of these calls reported, if it was a look
 abbrev pub looked_of : List SystemCall → Option Look
-looked_of (LookCall place (Ok found) ∷ calls) = Some (record { place = place; told = found })
+looked_of (LookCall place (Ok found) ∷ calls) = Some (record { place = place; reported = found })
 looked_of calls = None
 
 -- the names that files were given or lost by these calls, the newest first
@@ -196,9 +205,10 @@ changes_of (RemoveFolderCall place is_done ∷ calls) = changes_of calls
 
 -- each of these calls was answered so
 abbrev pub IsHonest : FolderStart → List (Place × (ℕ × (List ℕ × Bool))) → List ℕ → List SystemCall → Type 0
-IsHonest start files fates [] = Unit {0}
-IsHonest start files fates (call ∷ calls) =
-    MayAnswer (folders_after start fates calls) (held_after files fates calls) call × IsHonest start files fates calls
+IsHonest start files effects [] = Unit {0}
+IsHonest start files effects (call ∷ calls) =
+    MayAnswer (folders_after start effects calls) (held_after files effects calls) call
+    × IsHonest start files effects calls
 
 -- what a reading of this kind answered
 abbrev pub reading_of_kind : ReadKind → List ℕ → Result Reading FolderFault
@@ -216,7 +226,8 @@ call_of (kind.Rename from to is_done) name other = RenameCall (place_in from nam
 call_of (kind.Link from to is_done) name other = LinkCall (place_in from name) (place_in to other) is_done
 call_of (kind.Remove folder is_done) name other = RemoveCall (place_in folder name) is_done
 call_of (kind.Look folder answer) name other = LookCall (place_in folder name) answer
-call_of (kind.Read folder said limit answer) name bytes = ReadCall (place_in folder name) said limit (reading_of_kind answer bytes)
+call_of (kind.Read folder said limit answer) name bytes =
+    ReadCall (place_in folder name) said limit (reading_of_kind answer bytes)
 call_of (kind.Root opened) name other = RootCall opened
 call_of (kind.Open above opened) name other = OpenCall above name opened
 call_of (kind.NoFolder above found) name other = NoFolderCall above name found

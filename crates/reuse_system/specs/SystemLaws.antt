@@ -1,5 +1,6 @@
--- What each call of the system makes of the files that names lead to, and what it tells of them.
-use Rattle.std.specs.Prelude.{◌≡◌, ◌≢◌, ◌⊎◌, ℕ, Bool, true, false, IsTrue, List, [], ◌++◌, length, Option, None, Some, Result, Ok, Err}
+-- What each call of the system makes of the files that names lead to, and what it reports of them.
+use Rattle.std.specs.Prelude.{◌≡◌, ◌≢◌, ◌⊎◌, ℕ, Bool, true, false, IsTrue, List, [], ◌++◌, length, Option, None, Some}
+use Rattle.std.specs.Prelude.{Result, Ok, Err}
 use Rattle.reuse_store.specs.declared.store.Reading.{Reading}
 use Rattle.reuse_system.specs.FileStates.{FileKey, StateFile, Place, FileState, file, IsNot}
 use Rattle.reuse_system.specs.Folders.{Folders, folder_in, IsAlikeFoldersBut, IsBare, IsGrown}
@@ -34,9 +35,9 @@ pub record IsMade (place : Place) (key : FileKey) (old new : FileState) : Type 0
   pub others : IsAlikeBut place old new
 
 -- the file got these bytes at its end, and a loss of power surely leaves it what it has now, or not
-pub record IsFilled (key : FileKey) (bytes : List ℕ) (is_lasting : Bool) (old new : FileState) : Type 0 where
-  pub here : (place : Place) (had : List ℕ) (was_lasting : Bool) → old place ≡ file key had was_lasting
-      → new place ≡ file key (had ++ bytes) is_lasting
+pub record IsFilled (key : FileKey) (bytes : List ℕ) (is_durable : Bool) (old new : FileState) : Type 0 where
+  pub here : (place : Place) (had : List ℕ) (was_durable : Bool) → old place ≡ file key had was_durable
+      → new place ≡ file key (had ++ bytes) is_durable
   pub others : IsAlikeButFile key old new
 
 abbrev pub IsAppended : FileKey → List ℕ → FileState → FileState → Type 0
@@ -44,7 +45,7 @@ IsAppended key bytes old new = IsFilled key bytes false old new
 
 -- a loss of power leaves the file its bytes
 pub record IsSynced (key : FileKey) (old new : FileState) : Type 0 where
-  pub here : (place : Place) (had : List ℕ) (is_lasting : Bool) → old place ≡ file key had is_lasting
+  pub here : (place : Place) (had : List ℕ) (is_durable : Bool) → old place ≡ file key had is_durable
       → new place ≡ file key had true
   pub others : IsAlikeButFile key old new
 
@@ -83,21 +84,23 @@ pub record IsLinked (from to : Place) (old new : FileState) : Type 0 where
 abbrev pub MayBeLinked : Place → Place → FileState → FileState → Type 0
 MayBeLinked from to old new = IsAlike old new ⊎ IsLinked from to old new
 
--- what a look may tell of a name that leads to this file, or to none
+-- what a look may report of a name that leads to this file, or to none
 abbrev pub IsSeen : Option StateFile → Result Found FolderFault → Type 0
 IsSeen one (Ok (found.File status)) = (held : StateFile) × (one ≡ Some held) × (length held.bytes ≡ status.len)
 IsSeen one (Ok found) = one ≡ None
 IsSeen one (Err fault) = Unit {0}
 
--- what may be told where a name leads to this folder, or to none, and no folder is opened: a bare repository of git is told as a link is
+-- what may be reported where a name leads to this folder, or to none, and no folder is opened: a bare repository of git
+-- is reported as a link is
 abbrev pub IsNoFolder : Folders → FileState → Option Identity → Found → Type 0
 IsNoFolder folders held one found.Other = (one ≡ None) ⊎ IsBare folders held one
 IsNoFolder folders held one found = one ≡ None
 
--- what opening the folder of this name in a folder may tell
+-- what opening the folder of this name in a folder may report
 abbrev pub IsOpenedBelow : Folders → FileState → Identity → List ℕ → Result Below FolderFault → Type 0
 IsOpenedBelow folders held above name (Ok (below.Folder folder)) = folder_in folders above name ≡ Some folder.identity
-IsOpenedBelow folders held above name (Ok (below.Other found)) = IsNoFolder folders held (folder_in folders above name) found
+IsOpenedBelow folders held above name (Ok (below.Other found)) =
+    IsNoFolder folders held (folder_in folders above name) found
 IsOpenedBelow folders held above name (Err fault) = Unit {0}
 
 -- what a reading may answer of it: what is read of a reader that has its bytes

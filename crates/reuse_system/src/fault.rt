@@ -11,7 +11,7 @@ use thiserror::Error;
 
 /// What keeps a folder from doing what it is asked.
 #[derive(Clone, Copy, Debug, Error)]
-pub enum Obstacle {
+pub enum IoReason {
     /// The system refused a call.
     #[error("{0}")]
     System(io::Error),
@@ -40,7 +40,7 @@ pub enum Obstacle {
 pub enum FolderFault {
     /// The system refused a call, or what stands there is nothing that a store may hold.
     #[error("{0}")]
-    Device(Obstacle),
+    Device(IoReason),
     /// The path is a folder with files in it, or a part above it is a file.
     #[error("a folder with files stands there, or a file above")]
     Clash,
@@ -56,7 +56,7 @@ impl From<io::Error> for FolderFault {
         if error.kind() == ErrorKind::OutOfMemory {
             FolderFault::Memory
         } else {
-            FolderFault::Device(Obstacle::System(error))
+            FolderFault::Device(IoReason::System(error))
         }
     }
 }
@@ -75,7 +75,7 @@ impl From<PathError> for FolderFault {
 
     fn from(error: PathError) -> FolderFault {
         match error {
-            PathError::BadPath => FolderFault::Device(Obstacle::BadName),
+            PathError::BadPath => FolderFault::Device(IoReason::BadName),
             PathError::Memory => FolderFault::Memory,
         }
     }

@@ -6,7 +6,7 @@
 ghost use Rattle.std.specs.Prelude.{◌≡◌, ◌++◌, IfOk, Ok, length, nat_lt, string_bytes, true};
 
 use crate::bare::is_bare_repository;
-use crate::fault::{FolderFault, Obstacle};
+use crate::fault::{FolderFault, IoReason};
 use crate::owner::Owner;
 use crate::place::{FileStatus, Found, Identity, is_long_name, look_at};
 use crate::process::ProcessIds;
@@ -38,7 +38,7 @@ pub struct OpenFolder {
     passes_group: bool,
 }
 
-/// From where a path through an open folder is told.
+/// Where paths through an open folder start.
 #[derive(Clone, Copy)]
 pub enum Start {
     /// From the root of the file system.
@@ -118,9 +118,9 @@ impl OpenFolder {
         })
     }
 
-    /// From now on paths through the folder, and through those below it, are told from there. If
+    /// From now on paths through the folder, and through those below it, start there. If
     /// handles aren't shown they stay.
-    pub fn tell_from(&mut self, alloc: Global, start: Start) -> Result<(), AllocError>
+    pub fn set_path_start(&mut self, alloc: Global, start: Start) -> Result<(), AllocError>
         ensures { self.new.identity ≡ self.old.identity }
     {
         if self.environment.is_shown {
@@ -139,7 +139,7 @@ impl OpenFolder {
         if self.identity == seen {
             Ok(self)
         } else {
-            Err(FolderFault::Device(Obstacle::Changing))
+            Err(FolderFault::Device(IoReason::Changing))
         }
     }
 
@@ -173,7 +173,7 @@ impl OpenFolder {
         if root_identity(rt, path.as_str())? == self.identity {
             Ok(())
         } else {
-            Err(FolderFault::Device(Obstacle::Changing))
+            Err(FolderFault::Device(IoReason::Changing))
         }
     }
 
@@ -206,7 +206,7 @@ impl OpenFolder {
     }
 
     /// What stands at this name. Where it is longer than any name can be, nothing does, though the
-    /// system tells that as a fault.
+    /// system reports that as a fault.
     pub fn look(&self, rt: &impl Files, alloc: Global, name: &str) -> Result<Found, FolderFault>
         ensures long { nat_lt 255 (length name.now) ≡ true → result ≡ Ok Found.Nothing }
     {
@@ -217,7 +217,7 @@ impl OpenFolder {
     }
 
     /// The folder of this name, opened, or what stands there in its place. A bare repository of git
-    /// is no folder of a tree, and is told as a link is.
+    /// is no folder of a tree, and is reported as a link is.
     ///
     /// # Errors
     /// `Changing` if something took its place while it was opened; else what the system says.
@@ -279,12 +279,12 @@ impl OpenFolder {
         OpenFolder::of(alloc, handle, path, self.environment)
     }
 
-    /// Makes lasting which names the folder has. A file system that can't sync folders does that in
+    /// Makes durable which names the folder has. A file system that can't sync folders does that in
     /// its own way.
     pub fn sync(&self) -> Result<(), FolderFault> {
         match self.handle.sync_all() {
             Err(error) if !is_without_sync(&error) => {
-                Err(FolderFault::Device(Obstacle::System(error)))
+                Err(FolderFault::Device(IoReason::System(error)))
             }
             Ok(()) | Err(_) => Ok(()),
         }
@@ -294,7 +294,7 @@ impl OpenFolder {
 /// The path of the root with a slash at its end, which leads to a folder or nowhere.
 fn root_path(alloc: Global, root: &str) -> Result<String, FolderFault> {
     if root.is_empty() {
-        return Err(FolderFault::Device(Obstacle::NoRoot));
+        return Err(FolderFault::Device(IoReason::NoRoot));
     }
     let mut path = String::from_str(alloc, root)?;
     path.push('/')?;
@@ -312,12 +312,12 @@ fn root_identity(rt: &impl Files, path: &str) -> Result<Identity, FolderFault> {
 fn open_folder(rt: &impl Files<File = File>, path: &str) -> Result<File, FolderFault> {
     match fs::open(rt, path) {
         Ok(handle) => Ok(handle),
-        Err(error) if is_of_change(&error) => Err(FolderFault::Device(Obstacle::Changing)),
+        Err(error) if is_of_change(&error) => Err(FolderFault::Device(IoReason::Changing)),
         Err(error) => Err(error.into()),
     }
 }
 
-/// Whether this tells that what was seen isn't there any more.
+/// Whether this reports that what was seen isn't there any more.
 fn is_of_change(error: &io::Error) -> bool {
     matches!(
         error.kind(),
@@ -328,7 +328,7 @@ fn is_of_change(error: &io::Error) -> bool {
     )
 }
 
-/// Whether this tells that a file can't be opened for writing.
+/// Whether this reports that a file can't be opened for writing.
 fn is_of_writing(error: &io::Error) -> bool {
     matches!(
         error.kind(),

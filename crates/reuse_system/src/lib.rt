@@ -10,7 +10,7 @@ mod bare;
 pub mod fault;
 mod file_reading;
 pub mod handle;
-pub mod kept_out;
+pub mod ignored;
 pub mod new_name;
 pub mod owner;
 pub mod parts_writer;

@@ -1,11 +1,11 @@
 //! Names of new files: in the journal's folder, or beside the files that they are to be.
 ghost use Rattle.std.specs.Prelude.{◌≡◌, IfOk, IsTrue, string_bytes, true};
-ghost use Rattle.reuse_system.specs.Asides.{beside_name};
-ghost use Rattle.reuse_system.specs.KeptOut.{is_new_name};
+ghost use Rattle.reuse_system.specs.TempFiles.{beside_name};
+ghost use Rattle.reuse_system.specs.Ignored.{is_new_name};
 
 use crate::fault::FolderFault;
 use crate::handle::OpenFolder;
-use crate::kept_out::is_new_name;
+use crate::ignored::is_new_name;
 use reuse_change::layout::{NEW, NEW_BESIDE};
 use std::alloc::{AllocError, Global};
 use std::fs::{self, File};

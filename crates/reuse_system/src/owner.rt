@@ -2,7 +2,8 @@
 //! as a new one, which belongs to the process. It is given to the old one's owner and group, if the
 //! process may do that. These are the rules alone; tests/owners.sh tests that they are followed.
 ghost use Rattle.std.specs.Prelude.{◌≡◌, ◌≢◌, ℕ, Bool, IsTrue, false};
-ghost use Rattle.reuse_system.specs.Owners.{access, covers, gives_user, gives_group, kept_owner, cannot_keep, owner_of_new, rights_of_mode};
+ghost use Rattle.reuse_system.specs.Owners.{access, covers, gives_user, gives_group, kept_owner, cannot_keep};
+ghost use Rattle.reuse_system.specs.Owners.{owner_of_new, rights_of_mode};
 
 /// The owner and the group of a file or a folder, by number.
 #[derive(Clone, Copy, PartialEq, Eq)]
@@ -99,7 +100,8 @@ impl Process {
             → user ≢ made.user
             → access user is_member (kept_owner self.now owner made) rights ≡ access user is_member owner rights }
         ensures kept { result ≡ false → (made : Owner) → (is_member : ℕ → Bool) → IsTrue (is_member owner.group)
-            → IsTrue (covers (access owner.user is_member (kept_owner self.now owner made) rights) (access owner.user is_member owner rights)) }
+            → IsTrue (covers (access owner.user is_member (kept_owner self.now owner made) rights)
+            (access owner.user is_member owner rights)) }
     {
         let loses_user = !self.gives_user(owner.user);
         let loses_group = !self.gives_group(owner.group);

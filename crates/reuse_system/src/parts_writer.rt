@@ -2,10 +2,10 @@
 ghost use Rattle.std.specs.Prelude.{◌≡◌, MatchResult};
 ghost use Rattle.reuse_change.specs.Parts.{joined};
 ghost use Rattle.reuse_system.specs.SystemLaws.{IsAlikeButFile, IsAppended};
-ghost use Rattle.reuse_system.specs.Asides.{key_of};
+ghost use Rattle.reuse_system.specs.TempFiles.{key_of};
 
-use crate::system::{Aside, System};
-use reuse_change::Parts;
+use crate::system::{System, TempFile};
+use reuse_change::Pieces;
 use std::io;
 
 /// Parts that are no longer than this together are joined, and go out by one call of the system. A
@@ -17,31 +17,31 @@ const MOST_JOINED: usize = 32_768;
 /// which they are joined in `room`. What the file has then is what it had, and the parts joined.
 pub fn write_parts<S: System>(
     system: &mut S,
-    aside: &Aside,
+    temp_file: &TempFile,
     room: &mut Vec<u8>,
-    parts: Parts,
+    parts: Pieces,
 ) -> io::Result<()>
     ensures appended { MatchResult result
-        (λ _. IsAppended (key_of aside.now) (joined parts.entry) (S.holds system.old) (S.holds system.new))
-        (λ _. IsAlikeButFile (key_of aside.now) (S.holds system.old) (S.holds system.new)) }
+        (λ _. IsAppended (key_of temp_file.now) (joined parts.entry) (S.holds system.old) (S.holds system.new))
+        (λ _. IsAlikeButFile (key_of temp_file.now) (S.holds system.old) (S.holds system.new)) }
     ensures still { S.folders system.new ≡ S.folders system.old }
     ensures earlier { S.honest system.new → S.honest system.old }
     ensures changes { S.changes system.new ≡ S.changes system.old }
 {
-    let Parts {
+    let Pieces {
         front,
         middle,
         back,
     } = parts;
     let length = front.len().saturating_add(middle.len());
     if length.saturating_add(back.len()) > MOST_JOINED {
-        system.append(aside, front)?;
-        system.append(aside, middle)?;
-        return system.append(aside, back);
+        system.append(temp_file, front)?;
+        system.append(temp_file, middle)?;
+        return system.append(temp_file, back);
     }
     room.clear();
     room.extend_from_slice(front)?;
     room.extend_from_slice(middle)?;
     room.extend_from_slice(back)?;
-    system.append(aside, room)
+    system.append(temp_file, room)
 }

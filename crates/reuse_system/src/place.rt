@@ -25,7 +25,7 @@ pub struct Identity {
 }
 
 impl Identity {
-    /// That of the file or folder of which the system tells this.
+    /// That of the file or folder of which the system reports this.
     pub fn of(metadata: &Metadata) -> Identity {
         Identity {
             device: metadata.dev(),
@@ -50,7 +50,7 @@ impl Identity {
 }
 
 impl Owner {
-    /// That of the file or folder of which the system tells this.
+    /// That of the file or folder of which the system reports this.
     pub fn of(metadata: &Metadata) -> Owner {
         Owner {
             user: metadata.uid(),
@@ -59,7 +59,7 @@ impl Owner {
     }
 }
 
-/// When something was done with a file, as the system tells it.
+/// When something was done with a file, as the system reports it.
 #[derive(Clone, Copy, PartialEq, Eq)]
 struct Stamp {
     seconds: i64,
@@ -117,7 +117,7 @@ impl FileVersion {
     }
 }
 
-/// What the system tells of a regular file.
+/// What the system reports of a regular file.
 #[derive(Clone, Copy)]
 pub struct FileStatus {
     /// How many bytes it has.
@@ -132,7 +132,7 @@ pub struct FileStatus {
 }
 
 impl FileStatus {
-    /// What the system tells here.
+    /// What the system reports here.
     pub fn of(metadata: &Metadata) -> FileStatus {
         FileStatus {
             len: metadata.len(),
@@ -150,12 +150,12 @@ impl FileStatus {
         Rights::of_mode(self.mode)
     }
 
-    /// Whether the system tells this of the same regular file.
+    /// Whether the system reports this of the same regular file.
     pub fn is_of(&self, metadata: &Metadata) -> bool {
         metadata.is_file() && Identity::of(metadata) == self.version.identity
     }
 
-    /// Whether the system tells this of the same file with the same bytes.
+    /// Whether the system reports this of the same file with the same bytes.
     pub fn is_same(&self, other: &FileStatus) -> bool
         ensures { IsTrue result → self.now.version ≡ other.now.version }
     {

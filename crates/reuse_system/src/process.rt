@@ -1,4 +1,4 @@
-//! Which process this is, and which user and groups it acts for, as the system tells.
+//! Which process this is, and which user and groups it acts for, as the system reports.
 ghost use Rattle.std.specs.Prelude.{◌≡◌, ◌==◌};
 
 use crate::owner::Process;
@@ -64,13 +64,13 @@ impl Process {
     /// none.
     pub fn current(rt: &impl Files<File = File>, alloc: Global) -> Process {
         match read_status(rt, alloc) {
-            Ok(status) => Process::told(alloc, lines_behind_name(&status)),
-            Err(_) => Process::told(alloc, ""),
+            Ok(status) => Process::parse(alloc, lines_behind_name(&status)),
+            Err(_) => Process::parse(alloc, ""),
         }
     }
 
-    /// The process of which this text of the system's tells.
-    fn told(alloc: Global, status: &str) -> Process {
+    /// The process of which this text of the system's reports.
+    fn parse(alloc: Global, status: &str) -> Process {
         let user = effective_of(status, USERS);
         let group = effective_of(status, GROUP);
         let mut groups = Vec::new(alloc);
@@ -113,7 +113,7 @@ fn number_of(status: &str, key: &str, place: usize) -> Option<u32> {
     None
 }
 
-/// Adds the effective group, which is this one, and the others that this text tells.
+/// Adds the effective group, which is this one, and the others that this text reports.
 fn push_groups(groups: &mut Vec<u32>, group: u32, status: &str) -> Result<(), AllocError> {
     groups.push(group)?;
     for line in status.lines() {

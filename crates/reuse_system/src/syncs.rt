@@ -1,6 +1,6 @@
 //! Whether what is written is synced.
 
-/// Whether what is written is made lasting.
+/// Whether what is written is made durable.
 #[derive(Clone, Copy, Debug, PartialEq, Eq)]
 pub enum Syncs {
     /// Each new file is synced, and at barriers each folder that got or lost a name.

@@ -1,6 +1,6 @@
 //! The calls of the system that make, remove and open folders, and those that change regular files,
-//! look at them or read them: what they make of these, and what they tell of them. What is told
-//! holds as long as nobody else writes in the folders.
+//! look at them or read them: what they make of these, and what they report of them. What is
+//! reported holds as long as nobody else writes in the folders.
 ghost use Rattle.std.specs.Prelude.{◌≡◌, ◌∷◌, List, Option, Some, is_ok, IfOk, IfSome, MatchResult};
 ghost use Rattle.reuse_system.specs.FileStates.{FileState};
 ghost use Rattle.reuse_system.specs.Folders.{Folders};
@@ -23,9 +23,9 @@ use std::fs::{File, Permissions};
 use std::io;
 use std::os::unix::fs::{PermissionsExt, fchown};
 
-/// A new file that is written aside and has no name of its own yet.
+/// A new temporary file that is written and has no name of its own yet.
 #[derive(Drop)]
-pub struct Aside {
+pub struct TempFile {
     file: File,
     /// Where it was made, as the system takes it.
     path: String,
@@ -36,7 +36,7 @@ pub struct Aside {
     number: u64,
 }
 
-impl Aside {
+impl TempFile {
     /// Whose it is.
     pub fn owner(&self) -> io::Result<Owner> {
         Ok(Owner::of(&self.file.metadata()?))
@@ -67,11 +67,13 @@ pub struct OpenedFile {
     name: String,
 }
 
-/// The calls of the system on folders and files. What a call tells of them holds if the system is
+/// The calls of the system on folders and files. What a call reports of them holds if the system is
 /// honest after the call; what is said of `holds` and `folders` holds always.
 pub trait System {
-    ghost use Rattle.reuse_system.specs.SystemLaws.{IsAlikeBut, IsAlikeButFile, IsMade, IsAppended, IsSynced, IsRenamed, IsRemoved, IsLinked, MayBeLinked, MayBeRenamed, IsFolderMade, IsFolderRemoved, IsSeen, IsReadOf, IsOpenedBelow};
-    ghost use Rattle.reuse_system.specs.Asides.{name_in, place_of, opened_at, key_of};
+    ghost use Rattle.reuse_system.specs.SystemLaws.{IsAlikeBut, IsAlikeButFile, IsMade, IsAppended, IsSynced};
+    ghost use Rattle.reuse_system.specs.SystemLaws.{IsRenamed, IsRemoved, IsLinked, MayBeLinked, MayBeRenamed};
+    ghost use Rattle.reuse_system.specs.SystemLaws.{IsFolderMade, IsFolderRemoved, IsSeen, IsReadOf, IsOpenedBelow};
+    ghost use Rattle.reuse_system.specs.TempFiles.{name_in, place_of, opened_at, key_of};
     ghost use Rattle.reuse_system.specs.NameChanges.{change_at, change_of_free};
     ghost use Rattle.reuse_system.specs.Within.{IsWithin};
 
@@ -81,71 +83,74 @@ pub trait System {
     /// The root, and what else names lead to.
     ghost folders: { Self → Folders };
 
-    /// What the last call told, if it was a look.
+    /// What the last call reported, if it was a look.
     ghost looked: { Self → Option Look };
 
     /// The names that files were given or lost so far, the newest first, each with what a look
-    /// directly before told of it. It tells what was there, whoever has written it.
+    /// directly before reported of it. It reports what was there, whoever has written it.
     ghost changes: { Self → List NameChange };
 
-    /// So far nobody else has written in the folders, and what was told of a file is what it is. A
-    /// call can lose this, and never gain it.
+    /// So far nobody else has written in the folders, and what was reported of a file is what it
+    /// is. A call can lose this, and never gain it.
     ghost honest: { Self → Type 0 };
 
     /// Makes an empty file of this name, and of this mode where one is given. It fails where
     /// anything has the name.
-    fn make(&mut self, folder: &OpenFolder, name: &str, mode: Option<u32>) -> io::Result<Aside>
+    fn make(&mut self, folder: &OpenFolder, name: &str, mode: Option<u32>) -> io::Result<TempFile>
         ensures made { MatchResult result
-            (λ aside. (place_of aside ≡ name_in folder.now name.now)
-            × IsMade (name_in folder.now name.now) (key_of aside) (holds self.old) (holds self.new))
+            (λ temp_file. (place_of temp_file ≡ name_in folder.now name.now)
+            × IsMade (name_in folder.now name.now) (key_of temp_file) (holds self.old) (holds self.new))
             (λ _. IsAlikeBut (name_in folder.now name.now) (holds self.old) (holds self.new)) }
         ensures still { folders self.new ≡ folders self.old }
         ensures earlier { honest self.new → honest self.old }
         ensures changes { changes self.new ≡ changes self.old };
 
     /// Writes these bytes to the end of the file. Where that fails, any may be written.
-    fn append(&mut self, aside: &Aside, bytes: &[u8]) -> io::Result<()>
+    fn append(&mut self, temp_file: &TempFile, bytes: &[u8]) -> io::Result<()>
         ensures appended { MatchResult result
-            (λ _. IsAppended (key_of aside.now) bytes.now (holds self.old) (holds self.new))
-            (λ _. IsAlikeButFile (key_of aside.now) (holds self.old) (holds self.new)) }
+            (λ _. IsAppended (key_of temp_file.now) bytes.now (holds self.old) (holds self.new))
+            (λ _. IsAlikeButFile (key_of temp_file.now) (holds self.old) (holds self.new)) }
         ensures still { folders self.new ≡ folders self.old }
         ensures earlier { honest self.new → honest self.old }
         ensures changes { changes self.new ≡ changes self.old };
 
-    /// Makes the bytes of the file lasting.
-    fn sync_data(&mut self, aside: &Aside) -> io::Result<()>
+    /// Makes the bytes of the file durable.
+    fn sync_data(&mut self, temp_file: &TempFile) -> io::Result<()>
         ensures synced { MatchResult result
-            (λ _. IsSynced (key_of aside.now) (holds self.old) (holds self.new))
-            (λ _. IsAlikeButFile (key_of aside.now) (holds self.old) (holds self.new)) }
+            (λ _. IsSynced (key_of temp_file.now) (holds self.old) (holds self.new))
+            (λ _. IsAlikeButFile (key_of temp_file.now) (holds self.old) (holds self.new)) }
         ensures still { folders self.new ≡ folders self.old }
         ensures earlier { honest self.new → honest self.old }
         ensures changes { changes self.new ≡ changes self.old };
 
     /// Gives the file another name, in place of what has it. Where that fails, it may be done.
-    fn rename(&mut self, aside: &Aside, folder: &OpenFolder, name: &str) -> io::Result<()>
+    fn rename(&mut self, temp_file: &TempFile, folder: &OpenFolder, name: &str) -> io::Result<()>
         ensures renamed { MatchResult result
-            (λ _. IsRenamed (place_of aside.now) (name_in folder.now name.now) (holds self.old) (holds self.new))
-            (λ _. MayBeRenamed (place_of aside.now) (name_in folder.now name.now) (holds self.old) (holds self.new)) }
+            (λ _. IsRenamed (place_of temp_file.now) (name_in folder.now name.now) (holds self.old) (holds self.new))
+            (λ _. MayBeRenamed (place_of temp_file.now) (name_in folder.now name.now) (holds self.old)
+            (holds self.new)) }
         ensures still { folders self.new ≡ folders self.old }
         ensures earlier { honest self.new → honest self.old }
-        ensures changes { changes self.new ≡ change_at (looked self.old) (name_in folder.now name.now) ∷ changes self.old };
+        ensures changes { changes self.new ≡ change_at (looked self.old)
+            (name_in folder.now name.now) ∷ changes self.old };
 
-    /// Gives the file this name too. It fails where anything has the name; where it fails otherwise,
-    /// it may be done.
-    fn link(&mut self, aside: &Aside, folder: &OpenFolder, name: &str) -> io::Result<()>
+    /// Gives the file this name too. It fails where anything has the name; where it fails
+    /// otherwise, it may be done.
+    fn link(&mut self, temp_file: &TempFile, folder: &OpenFolder, name: &str) -> io::Result<()>
         ensures linked { MatchResult result
-            (λ _. IsLinked (place_of aside.now) (name_in folder.now name.now) (holds self.old) (holds self.new))
-            (λ _. MayBeLinked (place_of aside.now) (name_in folder.now name.now) (holds self.old) (holds self.new)) }
+            (λ _. IsLinked (place_of temp_file.now) (name_in folder.now name.now) (holds self.old) (holds self.new))
+            (λ _. MayBeLinked (place_of temp_file.now) (name_in folder.now name.now) (holds self.old)
+            (holds self.new)) }
         ensures still { folders self.new ≡ folders self.old }
         ensures earlier { honest self.new → honest self.old }
         ensures changes { changes self.new ≡ change_of_free (name_in folder.now name.now) ∷ changes self.old };
 
-    /// Removes what stands where the file was made. A fault of that tells no more.
-    fn discard(&mut self, aside: &Aside)
-        ensures others { IsAlikeBut (place_of aside.now) (holds self.old) (holds self.new) }
+    /// Removes what stands where the file was made. A fault of that reports no more.
+    fn discard(&mut self, temp_file: &TempFile)
+        ensures others { IsAlikeBut (place_of temp_file.now) (holds self.old) (holds self.new) }
         ensures still { folders self.new ≡ folders self.old }
         ensures earlier { honest self.new → honest self.old }
-        ensures changes { changes self.new ≡ change_at (looked self.old) (place_of aside.now) ∷ changes self.old };
+        ensures changes { changes self.new ≡ change_at (looked self.old) (place_of temp_file.now) ∷ changes self.old };
 
     /// Removes the file of this name. Where that fails, it may be done.
     fn remove(&mut self, folder: &OpenFolder, name: &str) -> io::Result<()>
@@ -154,7 +159,8 @@ pub trait System {
             (λ _. IsAlikeBut (name_in folder.now name.now) (holds self.old) (holds self.new)) }
         ensures still { folders self.new ≡ folders self.old }
         ensures earlier { honest self.new → honest self.old }
-        ensures changes { changes self.new ≡ change_at (looked self.old) (name_in folder.now name.now) ∷ changes self.old };
+        ensures changes { changes self.new ≡ change_at (looked self.old)
+            (name_in folder.now name.now) ∷ changes self.old };
 
     /// Makes a folder of this name. Where that fails, it may be done.
     fn make_folder(&mut self, above: &OpenFolder, name: &str) -> io::Result<()>
@@ -166,7 +172,8 @@ pub trait System {
     /// Removes the empty folder of this name. Where that fails, it may be done.
     fn remove_folder(&mut self, above: &OpenFolder, name: &str) -> io::Result<()>
         ensures kept { holds self.new ≡ holds self.old }
-        ensures removed { IsFolderRemoved (name_in above.now name.now) (folders self.old) (folders self.new) (is_ok result) }
+        ensures removed { IsFolderRemoved (name_in above.now name.now) (folders self.old) (folders self.new)
+            (is_ok result) }
         ensures earlier { honest self.new → honest self.old }
         ensures changes { changes self.new ≡ changes self.old };
 
@@ -205,7 +212,8 @@ pub trait System {
         ensures earlier { honest self.new → honest self.old }
         ensures seen { honest self.new → IsSeen (holds self.new (name_in folder.now name.now)) result }
         ensures changes { changes self.new ≡ changes self.old }
-        ensures looked { IfOk result (λ found. looked self.new ≡ Some (record { place = name_in folder.now name.now; told = found })) };
+        ensures looked { IfOk result
+            (λ found. looked self.new ≡ Some (record { place = name_in folder.now name.now; reported = found })) };
 
     /// Opens the regular file that was seen at this name just before, or gives nothing if something
     /// else has taken its place.

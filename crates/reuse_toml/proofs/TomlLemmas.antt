@@ -146,12 +146,13 @@ module _ (a : Amendments) (place : TomlPlace) (text : List ℕ) where
   amended-end (b ∷ bytes) whole none so = absurd (omega arith)
 
 -- an answer that stops a search is its own
-pub toml-stop : {X Y : Type 0} (due : Result X AmendTomlRefusal) (whole : Result Y AmendTomlRefusal)
-    (e : AmendTomlRefusal) → (due ≡ Err e → whole ≡ Err e) → IsTomlAnswer due (Err e) → IsTomlAnswer whole (Err e)
-toml-stop due whole BadExpression f is = f is
-toml-stop due whole CannotBeAmended f is = f is
-toml-stop due whole TooLong f is = f is
-toml-stop due whole (Memory e) f is = tt
+pub toml-stop : {X Y : Type 0} (expected : Result X AmendTomlRefusal) (whole : Result Y AmendTomlRefusal)
+    (e : AmendTomlRefusal) → (expected ≡ Err e → whole ≡ Err e) → IsTomlAnswer expected (Err e)
+    → IsTomlAnswer whole (Err e)
+toml-stop expected whole BadExpression f is = f is
+toml-stop expected whole CannotBeAmended f is = f is
+toml-stop expected whole TooLong f is = f is
+toml-stop expected whole (Memory e) f is = tt
 
 -- ---- texts that begin alike
 
@@ -206,10 +207,11 @@ alike-end xs ys i whole high low so =
 
 -- ---- answers
 
--- the answer that is due, in another form
-pub answer-of : {X : Type 0} (due other : Result X AmendTomlRefusal) (r : Result X AmendTomlRefusal) → due ≡ other
-    → IsTomlAnswer other r → IsTomlAnswer due r
-answer-of due other r same is = subst (λ d. IsTomlAnswer d r) (sym same) is
+-- the answer that is expected, in another form
+pub answer-of : {X : Type 0} (expected other : Result X AmendTomlRefusal) (r : Result X AmendTomlRefusal)
+    → expected ≡ other
+    → IsTomlAnswer other r → IsTomlAnswer expected r
+answer-of expected other r same is = subst (λ d. IsTomlAnswer d r) (sym same) is
 
 pub amendment-is : (a : Amendments) (file : List ℕ) (found : Option Members) → read_toml file ≡ found
     → toml_amendment_of a file ≡ table_amended a file found

@@ -4,10 +4,10 @@ use Rattle.reuse_toml.specs.declared.toml_values.AmendTomlRefusal.{AmendTomlRefu
 use Rattle.reuse_toml.specs.declared.toml_values.AmendTomlRefusal.TheVariants.{BadExpression, CannotBeAmended, TooLong}
 use Rattle.reuse_toml.specs.declared.toml_values.AmendTomlRefusal.TheVariants.{Memory}
 
--- the answer that is due, or want of memory, which may take its place
+-- the answer that is expected, or an allocation failure, which may take its place
 abbrev pub IsTomlAnswer : {X : Type 0} → Result X AmendTomlRefusal → Result X AmendTomlRefusal → Type 0
-IsTomlAnswer due (Ok x) = due ≡ Ok x
-IsTomlAnswer due (Err BadExpression) = due ≡ Err BadExpression
-IsTomlAnswer due (Err CannotBeAmended) = due ≡ Err CannotBeAmended
-IsTomlAnswer due (Err TooLong) = due ≡ Err TooLong
-IsTomlAnswer due (Err (Memory e)) = Unit {0}
+IsTomlAnswer expected (Ok x) = expected ≡ Ok x
+IsTomlAnswer expected (Err BadExpression) = expected ≡ Err BadExpression
+IsTomlAnswer expected (Err CannotBeAmended) = expected ≡ Err CannotBeAmended
+IsTomlAnswer expected (Err TooLong) = expected ≡ Err TooLong
+IsTomlAnswer expected (Err (Memory e)) = Unit {0}

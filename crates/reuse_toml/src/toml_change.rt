@@ -218,9 +218,9 @@ fn amend_table(
 ///
 /// # Errors
 /// `BadExpression` where a licence leaves the grammar, and `TooLong` where the result is over 16
-/// MiB. `CannotBeAmended` where the file is no TOML in UTF-8, where a string on several lines or one
-/// that stands alone would have to go or to change, and where the new text, read back, isn't the old
-/// table with these values amended.
+/// MiB. `CannotBeAmended` where the file is no TOML in UTF-8, where a string on several lines or
+/// one that stands alone would have to go or to change, and where the new text, read back, isn't
+/// the old table with these values amended.
 pub fn amend_toml(
     alloc: Global,
     file: &[u8],

@@ -13,10 +13,10 @@ pub fn toml_texts_are_their_pieces()
     ensures { (text : List ℕ) → flat_map (λ piece. piece) (pieces_of text) ≡ text }
 {}
 
-/// A changed file is read as the old table with the values of the two keys amended, which is another
-/// table, and all of it but strings and commas stays byte for byte, its comments too. The change
-/// stands in the file, and the result is another file of at most 16 MiB. A file that stays is read as
-/// a table in which no value changes.
+/// A changed file is read as the old table with the values of the two keys amended, which is
+/// another table, and all of it but strings and commas stays byte for byte, its comments too. The
+/// change stands in the file, and the result is another file of at most 16 MiB. A file that stays
+/// is read as a table in which no value changes.
 pub fn amended_files_are_read_as_amended_tables()
     ensures judged { (a : Amendments) (file : List ℕ) (change : TomlSplice)
         → toml_amendment_of a file ≡ Ok (Some change)

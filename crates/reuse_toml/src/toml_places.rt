@@ -1,6 +1,6 @@
-//! Where a piece of a `REUSE.toml` stands. It knows the headers `[[annotations]]`, the two keys whose
-//! values are amended, and lists of values. All else is passed over with its brackets counted. What
-//! it misses is found when the result is read back.
+//! Where a piece of a `REUSE.toml` stands. It knows the headers `[[annotations]]`, the two keys
+//! whose values are amended, and lists of values. All else is passed over with its brackets
+//! counted. What it misses is found when the result is read back.
 ghost use Rattle.std.specs.Prelude.{◌≡◌};
 ghost use Rattle.std.specs.Prelude.{codes};
 ghost use Rattle.reuse_toml.specs.TomlPlaces.{key_named, is_name, key_of_piece, behind_word, deeper, at_line};

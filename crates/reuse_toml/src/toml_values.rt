@@ -5,7 +5,9 @@ ghost use Rattle.toml.specs.Data.{as_str};
 ghost use Rattle.toml.specs.View.{view};
 ghost use Rattle.toml.specs.Parse.{parse_value};
 ghost use Rattle.reuse_amend.specs.AmendmentViews.{IsAnswer};
-ghost use Rattle.reuse_toml.specs.TomlValues.{notice_lead, without_lead, value_amended, value_written, spelled, is_literal, goes_over_lines, respelled, piece_becomes, string_amended, unless_removed, piece_amended};
+ghost use Rattle.reuse_toml.specs.TomlValues.{notice_lead, without_lead, value_amended, value_written, spelled};
+ghost use Rattle.reuse_toml.specs.TomlValues.{is_literal, goes_over_lines, respelled, piece_becomes, string_amended};
+ghost use Rattle.reuse_toml.specs.TomlValues.{unless_removed, piece_amended};
 ghost use Rattle.reuse_toml.specs.TomlAnswers.{IsTomlAnswer};
 
 use crate::toml_pieces::{PieceKind, is_multi_line};

@@ -397,11 +397,11 @@ entry_found d entry e =
     let when = bind_some _ (field_in moment_in (codes "when") format.0.1) entry known.2 in
     let end = bind_some _ (if_none_left when.0.1) entry when.2 in
     let cs = bind_some _ (changes_in format.0.0 changes.0.0) entry end.2 in
-    let told = field_found moment_in (codes "when") format.0.1 when.0 when.1 in
-    let moment = moment_found told.0 when.0.0 told.1 in
+    let reported = field_found moment_in (codes "when") format.0.1 when.0 when.1 in
+    let moment = moment_found reported.0 when.0.0 reported.1 in
     let values = changes_found format.0.0 changes.0.0 cs.0 cs.1 in
     let IsAs : Change → Type 0 = λ c. is_sealed c ≡ format.0.0 in
-    let fourth = told.2 ∙ ap₂ (member (codes "when")) moment.0 (none_left_found when.0.1 end.0 end.1) in
+    let fourth = reported.2 ∙ ap₂ (member (codes "when")) moment.0 (none_left_found when.0.1 end.0 end.1) in
     let third =
     field_is format_in (λ b. count (format_number b)) format_found (codes "format") command.0.1 format.0 format.1
     ∙ ap (member (codes "format") (count (format_number format.0.0))) fourth in

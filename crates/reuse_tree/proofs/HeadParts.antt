@@ -69,12 +69,12 @@ mapped_found : {A B : Type 0} (f : A → B) (o : Option A) (y : B) → option_ma
 mapped_found f None y e = absurd (none-some y e)
 mapped_found f (Some x) y e = (x, refl, same_Some (f x) y e)
 
--- the number of what is under way, if anything is, has six digits
+-- the number of what is pending, if anything is, has six digits
 abbrev pub FitsSix : Option Pending → Type 0
 FitsSix None = ⊤
 FitsSix (Some p) = p.entry < 1000000
 
--- the number of what is under way, if anything is, has 32 bits
+-- the number of what is pending, if anything is, has 32 bits
 abbrev pub FitsSmall : Option Pending → Type 0
 FitsSmall None = ⊤
 FitsSmall (Some p) = p.entry < 2 ^ 32

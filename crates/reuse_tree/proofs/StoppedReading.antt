@@ -7,9 +7,9 @@ use Rattle.reuse_json.specs.declared.fault.DecodeFault.TheVariants.{NotGood, Mem
 
 -- the fault of the step is handed on
 pub stopped : {A : Type 0} (answer : Result A DecodeFault) (fault : DecodeFault) (read : Option A)
-    → IsErrAnd answer (λ told. told ≡ fault) → Fails fault read → Gives answer read
+    → IsErrAnd answer (λ reported. reported ≡ fault) → Fails fault read → Gives answer read
 stopped (Ok found) fault read is fails = absurd is
-stopped (Err told) fault read is fails = subst (λ (e : DecodeFault). Fails e read) (sym is) fails
+stopped (Err reported) fault read is fails = subst (λ (e : DecodeFault). Fails e read) (sym is) fails
 
 -- the step itself
 pub here : {A B : Type 0} (fault : DecodeFault) (o : Option A) (f : A → Option B) → Fails fault o

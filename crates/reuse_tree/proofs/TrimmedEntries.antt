@@ -31,8 +31,8 @@ use Rattle.reuse_change.specs.declared.command_name.CommandName.{CommandName}
 use Rattle.reuse_json.specs.declared.entry.Entry.{Entry}
 use Rattle.reuse_json.specs.declared.fault.DecodeFault.{DecodeFault}
 use Rattle.reuse_json.specs.declared.fault.DecodeFault.TheVariants.{NotGood, Memory}
-use Rattle.reuse_json.specs.declared.room.Room.{Room}
-use Rattle.reuse_json.specs.declared.room.Room.TheVariants as room
+use Rattle.reuse_json.specs.declared.length_limit.LengthLimit.{LengthLimit}
+use Rattle.reuse_json.specs.declared.length_limit.LengthLimit.TheVariants as room
 use Rattle.reuse_tree.proofs.EntryParts.{change_found, changes_found, changes_again, command_there, command_again}
 use Rattle.reuse_tree.proofs.EntryParts.{moment_found, moment_again, known_again}
 use Rattle.reuse_json.proofs.JsonParts.{bind_some, first_member_found, field_found, field_is, none_left_found}
@@ -69,7 +69,7 @@ object_whole false trimmed ms clean same = absurd (false≢true clean)
 
 -- where nothing was left out, the trimmed value is the value
 mutual
-  pub trim_whole : (r : Room) (d : Data) → is_clean (trim r d) ≡ true → trim r d ≡ d
+  pub trim_whole : (r : LengthLimit) (d : Data) → is_clean (trim r d) ≡ true → trim r d ≡ d
   trim_whole r null clean = refl
   trim_whole r (boolean b) clean = refl
   trim_whole r (number n) clean = refl
@@ -79,17 +79,17 @@ mutual
   trim_whole r (object ms) clean = object_whole (nat_le (members_len ms) (most r)) (trim_members (inner r) ms) ms clean
       (λ h. members_whole (inner r) ms h)
 
-  items_whole : (r : Room) (ds : Items) → are_clean (trim_items r ds) ≡ true → trim_items r ds ≡ ds
+  items_whole : (r : LengthLimit) (ds : Items) → are_clean (trim_items r ds) ≡ true → trim_items r ds ≡ ds
   items_whole r no_items clean = refl
   items_whole r (item d ds) clean = let both = and_parts _ _ clean in
       ap₂ item (trim_whole r d both.0) (items_whole r ds both.1)
 
-  members_whole : (r : Room) (ms : Members) → have_clean (trim_members r ms) ≡ true → trim_members r ms ≡ ms
+  members_whole : (r : LengthLimit) (ms : Members) → have_clean (trim_members r ms) ≡ true → trim_members r ms ≡ ms
   members_whole r no_members clean = refl
   members_whole r (member k d ms) clean = let both = and_parts _ _ clean in
       ap₂ (member k) (trim_whole r d both.0) (members_whole r ms both.1)
 
-pub whole_is : (r : Room) (d e : Data) → trim r d ≡ e → is_clean e ≡ true → d ≡ e
+pub whole_is : (r : LengthLimit) (d e : Data) → trim r d ≡ e → is_clean e ≡ true → d ≡ e
 whole_is r d e is clean = sym (trim_whole r d (ap is_clean is ∙ clean)) ∙ is
 
 -- ---- a change
@@ -248,9 +248,9 @@ frame_found d f e =
     let known = bind_some _ (if_known format.0.0 command.0.0) f format.2 in
     let when = bind_some _ (field_in moment_in (codes "when") format.0.1) f known.2 in
     let end = bind_some _ (if_none_left when.0.1) f when.2 in
-    let told = field_found moment_in (codes "when") format.0.1 when.0 when.1 in
-    let moment = moment_found told.0 when.0.0 told.1 in
-    let fourth = told.2 ∙ ap₂ (member (codes "when")) moment.0 (none_left_found when.0.1 end.0 end.1) in
+    let reported = field_found moment_in (codes "when") format.0.1 when.0 when.1 in
+    let moment = moment_found reported.0 when.0.0 reported.1 in
+    let fourth = reported.2 ∙ ap₂ (member (codes "when")) moment.0 (none_left_found when.0.1 end.0 end.1) in
     let third =
     field_is format_in (λ b. count (format_number b)) format_found (codes "format") command.0.1 format.0 format.1
     ∙ ap (member (codes "format") (count (format_number format.0.0))) fourth in
@@ -279,7 +279,7 @@ on_object : (few : Bool) (ms found : Members) → cond few (object ms) (boolean 
 on_object true ms found e = same_Some ms found (ap as_object e)
 on_object false ms found e = absurd (none-some found (ap as_object e))
 
-object_before : (r : Room) (d : Data) (found : Members) → trim r d ≡ object found
+object_before : (r : LengthLimit) (d : Data) (found : Members) → trim r d ≡ object found
     → (ms : Members) × (d ≡ object ms) × (trim_members (inner r) ms ≡ found)
 object_before r null found e = absurd (none-some found (ap as_object e))
 object_before r (boolean b) found e = absurd (none-some found (ap as_object e))
@@ -298,7 +298,8 @@ abbrev front : Members → Option (List ℕ × Data × Members)
 front no_members = None
 front (member k d ms) = Some (k, d, ms)
 
-member_before : (r : Room) (ms : Members) (k : List ℕ) (d : Data) (rest : Members) → trim_members r ms ≡ member k d rest
+member_before : (r : LengthLimit) (ms : Members) (k : List ℕ) (d : Data) (rest : Members)
+    → trim_members r ms ≡ member k d rest
     → (e : Data) × (es : Members) × (ms ≡ member k e es) × (trim r e ≡ d) × (trim_members r es ≡ rest)
 member_before r no_members k d rest e = absurd (none-some _ (ap front e))
 member_before r (member l x xs) k d rest e =
@@ -310,7 +311,7 @@ member_before r (member l x xs) k d rest e =
       ap (λ (p : List ℕ × Data × Members). p.2) same,
     )
 
-none_before : (r : Room) (ms : Members) → trim_members r ms ≡ no_members → ms ≡ no_members
+none_before : (r : LengthLimit) (ms : Members) → trim_members r ms ≡ no_members → ms ≡ no_members
 none_before r no_members e = refl
 none_before r (member k d ms) e = absurd (none-some _ (sym (ap front e)))
 
@@ -398,11 +399,12 @@ frame_refused r text d e x is trimmed gives h other =
     ap (λ y. frame_in (trim room.Entry y)) (same_json text x d other is) ∙ sym (ap frame_in trimmed) ∙ none
 
 -- a fault that is right, if the text is refused rightly
-pub fault_answers : (r : Result Entry DecodeFault) (told : DecodeFault) (entry : Entry) → IsErrAnd r (λ e. e ≡ told)
-    → (told ≡ NotGood → ⊥) → IsAnswer r entry
-fault_answers (Ok found) told entry is never = absurd is
-fault_answers (Err NotGood) told entry is never = never (sym is)
-fault_answers (Err Memory) told entry is never = tt
+pub fault_answers : (r : Result Entry DecodeFault) (reported : DecodeFault) (entry : Entry)
+    → IsErrAnd r (λ e. e ≡ reported)
+    → (reported ≡ NotGood → ⊥) → IsAnswer r entry
+fault_answers (Ok found) reported entry is never = absurd is
+fault_answers (Err NotGood) reported entry is never = never (sym is)
+fault_answers (Err Memory) reported entry is never = tt
 
 pub not_none : {A : Type 0} (o : Option A) (x : A) → o ≡ None → o ≡ Some x → ⊥
 not_none o x none some = none-some x (sym none ∙ some)

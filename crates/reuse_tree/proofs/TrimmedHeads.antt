@@ -13,7 +13,7 @@ use Rattle.reuse_json.specs.Trimmed.{trim, trim_items}
 use Rattle.reuse_json.specs.declared.fault.DecodeFault.{DecodeFault}
 use Rattle.reuse_tree.specs.declared.journal.head.Head.{Head}
 use Rattle.reuse_tree.specs.declared.journal.head.Pending.{Pending}
-use Rattle.reuse_json.specs.declared.room.Room.TheVariants as room
+use Rattle.reuse_json.specs.declared.length_limit.LengthLimit.TheVariants as room
 use Rattle.reuse_tree.proofs.HeadParts.{head_found, head_again, small_from_sound}
 use Rattle.reuse_json.proofs.JsonParts.{IfOk-from_gives, IsAnswer-from_gives, same_json}
 use Rattle.reuse_tree.proofs.TrimmedEntries.{is_clean, are_clean, whole_is}

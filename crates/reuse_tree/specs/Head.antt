@@ -1,4 +1,4 @@
--- The head of the journal: which entries are done, which are undone, and which is under way.
+-- The head of the journal: which entries are done, which are undone, and which is pending.
 use Rattle.std.specs.Prelude.{◌≡◌, ◌≢◌, ℕ, ◌<◌, ◌≤◌, ◌-◌, Bool, List, [], ◌∷◌, ◌++◌, length, map, All, AllPairs}
 use Rattle.std.specs.Prelude.{slice_get, codes, decimal, Option, Some, None, ⊤}
 use Rattle.std.specs.List.{join_with_byte}
@@ -37,7 +37,7 @@ direction_name Do = codes "do"
 direction_name Undo = codes "undo"
 direction_name Redo = codes "redo"
 
--- what is under way, or null
+-- what is pending, or null
 abbrev pub pending_text : Option Pending → List ℕ
 pending_text None = codes "null"
 pending_text (Some p) =
@@ -50,7 +50,7 @@ head_text h = codes "{\"done\":" ++ numbers_text h.done ++ codes ",\"format\":2,
 
 -- ---- the value that is read
 
--- what is under way: null, or an object with just these keys and values
+-- what is pending: null, or an object with just these keys and values
 abbrev pub pending_value : Option Pending → Data
 pending_value None = null
 pending_value (Some p) =
@@ -79,14 +79,14 @@ listed h = h.done ++ h.undone
 abbrev pub last_of : List ℕ → Option ℕ
 last_of ns = slice_get ns (length ns - 1)
 
--- The entry that is under way fits the lists: a new one has the next number, one that is being undone is the last of
+-- The entry that is pending fits the lists: a new one has the next number, one that is being undone is the last of
 -- done, one that is being redone is the last of undone.
 abbrev pub FitsDirection : ℕ → PendingDirection → ℕ → List ℕ → List ℕ → Type 0
 FitsDirection entry Do next done undone = (entry ≡ next) × (entry ≤ LAST_NUMBER)
 FitsDirection entry Undo next done undone = last_of done ≡ Some entry
 FitsDirection entry Redo next done undone = last_of undone ≡ Some entry
 
--- so does what is under way, if anything is
+-- so does what is pending, if anything is
 abbrev pub PendingFits : Option Pending → ℕ → List ℕ → List ℕ → Type 0
 PendingFits None next done undone = ⊤
 PendingFits (Some p) next done undone = FitsDirection p.entry p.direction next done undone

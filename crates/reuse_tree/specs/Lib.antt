@@ -7,7 +7,7 @@ pub use Rattle.reuse_change.specs.Parts
 pub use Rattle.reuse_change.specs.Digest
 pub use Rattle.reuse_change.specs.Change
 pub use Rattle.reuse_store.specs.Store
-pub use Rattle.reuse_store.specs.Lasting
+pub use Rattle.reuse_store.specs.Durable
 pub use Rattle.reuse_store.specs.StoreLaws
 pub use Rattle.reuse_store.specs.Asked
 pub use Rattle.reuse_store.specs.Calls

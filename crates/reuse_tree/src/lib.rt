@@ -8,12 +8,12 @@ pub use journal::{
     decode_entry, decode_head, encode_entry, encode_head, is_too_many,
 };
 pub use reuse_change::{
-    Change, ChangeState, CommandName, Digest, Direction, Items, Moment, NoPruning, Parts,
-    PathError, PathText, Pruning, Seal, is_among, is_clash, is_folder, is_pruned, is_wanted,
+    Change, ChangeState, CommandName, Digest, Direction, FixedList, Moment, NoPruning, PathError,
+    PathText, Pieces, Pruning, Seal, is_among, is_clash, is_folder, is_pruned, is_wanted,
     paths_beneath,
 };
 pub use reuse_store::{
-    Asked, CallRecord, Cause, FaultyStore, FileWrite, FuseStore, MemoryStore, OnceStore, Reading,
-    Store, StoreFault, WatchedStore, Watcher, apply_change, apply_changes, is_clash_at,
+    CallRecord, Cause, FaultyStore, FileWrite, FuseStore, MemoryStore, OnceStore, Reading, Store,
+    StoreFault, StoreRequest, WatchedStore, Watcher, apply_change, apply_changes, is_clash_at,
     is_folder_at, laws,
 };

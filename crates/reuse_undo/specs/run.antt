@@ -1,7 +1,7 @@
 -- What a line asks a session for, and what comes of it.
 pub mod AfterStops
 pub mod Called
-pub mod CarriedOut
+pub mod RunResult
 pub mod Drawn
 pub mod LinesInTurn
 pub mod Recoveries

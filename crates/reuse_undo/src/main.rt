@@ -4,23 +4,23 @@
 ghost use Rattle.std.specs.Prelude.{◌≡◌, if◌then◌else◌, string_bytes, true};
 ghost use Rattle.std.specs.Option.{option_map};
 ghost use Rattle.reuse_arguments.specs.ListedCommands.{IsReadWithList};
-ghost use Rattle.reuse_shown.specs.declared.shown_name.Names.TheVariants as names;
+ghost use Rattle.reuse_shown.specs.declared.shown_name.NameDisplay.TheVariants as names;
 
 mod laws;
 mod print;
 mod run;
 
-use print::report::{tell_outcome, tell_words};
+use print::report::{report_arguments, report_outcome};
 use print::status::{Ending, exit_status};
 use reuse_arguments::file_list::with_list;
 use reuse_arguments::line::{Line, LineFault};
 use reuse_arguments::words::finder::Clap;
-use reuse_arguments::words::{Said, words_to_command};
+use reuse_arguments::words::{ParsedArguments, words_to_command};
 use reuse_session::Moment;
 use reuse_shown::error_output::ErrorOutput;
-use reuse_shown::shown_name::Names;
-use run::carried_out::CarriedOut;
-use run::locked::{Extras, run_line};
+use reuse_shown::shown_name::NameDisplay;
+use run::locked::{RunOptions, run_line};
+use run::run_result::RunResult;
 use std::alloc::Global;
 use std::env;
 use std::fs::File;
@@ -49,18 +49,22 @@ fn read_words<R: Env + AllocGlobal>(rt: &R, alloc: Global) -> Result<Vec<String>
 }
 
 /// What the words say that the program was called with.
-fn said_in<R: Env + AllocGlobal>(rt: &R, alloc: Global, moment: Moment) -> Said {
+fn said_in<R: Env + AllocGlobal>(rt: &R, alloc: Global, moment: Moment) -> ParsedArguments {
     match read_words(rt, alloc) {
         Ok(words) => words_to_command(&Clap, alloc, words.as_slice(), moment),
-        Err(fault) => Said::fault(fault),
+        Err(fault) => ParsedArguments::fault(fault),
     }
 }
 
 /// The line that was said, with the list of files that it names.
-fn whole_line<R: Files + Input>(rt: &R, alloc: Global, said: Said) -> Result<Line, LineFault>
+fn whole_line<R: Files + Input>(
+    rt: &R,
+    alloc: Global,
+    said: ParsedArguments,
+) -> Result<Line, LineFault>
     ensures { IsReadWithList (option_map string_bytes said.files_from) said.line result }
 {
-    let Said {
+    let ParsedArguments {
         verbose: _,
         settings: _,
         files_from,
@@ -78,37 +82,37 @@ struct Terminals {
 
 impl Terminals {
     /// What is reported beside the answer, and how a call works, by what the words say.
-    fn extras(self, said: &Said) -> Extras
+    fn run_options(self, said: &ParsedArguments) -> RunOptions
         ensures settings { result.settings ≡ said.now.settings }
         ensures notes { result.notes ≡ (if self.errors then true else said.now.verbose) }
         ensures progress { result.progress ≡ self.errors }
         ensures names { result.names ≡ (if self.output then names.Escaped else names.AsTheyAre) }
     {
-        Extras {
+        RunOptions {
             notes: self.errors || said.verbose,
             progress: self.errors,
-            names: Names::on(self.output),
+            names: NameDisplay::on(self.output),
             settings: said.settings,
         }
     }
 }
 
 /// Carries out a line, and reports what came of it.
-fn run_and_tell<R: Runtime + Files<File = File> + AllocGlobal>(
+fn run_and_report<R: Runtime + Files<File = File> + AllocGlobal>(
     rt: &R,
     errors: &ErrorOutput<'_, R>,
     alloc: Global,
     line: Line,
-    extras: Extras,
+    run_options: RunOptions,
 ) -> Ending {
     let on_change = line.change_status;
-    let carried_out = run_line(rt, alloc, line, extras);
-    tell_outcome(errors, &carried_out, extras.notes);
-    let CarriedOut {
+    let run_result = run_line(rt, alloc, line, run_options);
+    report_outcome(errors, &run_result, run_options.notes);
+    let RunResult {
         ending,
         rolled_back: _,
         diagnostics: _,
-    } = carried_out;
+    } = run_result;
     Ending::of_call(ending, on_change)
 }
 
@@ -119,13 +123,13 @@ fn run_program<R: Runtime + Files<File = File> + AllocGlobal>(
     terminals: Terminals,
 ) -> Ending {
     let said = said_in(rt, alloc, moment);
-    let errors = ErrorOutput::new(rt, alloc, Names::on(terminals.errors));
-    let extras = terminals.extras(&said);
+    let errors = ErrorOutput::new(rt, alloc, NameDisplay::on(terminals.errors));
+    let run_options = terminals.run_options(&said);
     match whole_line(rt, alloc, said) {
-        Ok(line) => run_and_tell(rt, &errors, alloc, line, extras),
+        Ok(line) => run_and_report(rt, &errors, alloc, line, run_options),
         Err(fault) => {
-            let is_told = tell_words(rt, &errors, &fault, extras.notes);
-            Ending::NoLine { fault, is_told }
+            let is_reported = report_arguments(rt, &errors, &fault, run_options.notes);
+            Ending::NoLine { fault, is_reported }
         }
     }
 }

@@ -5,12 +5,12 @@
 //! noted of it (`diagnostics`). The root of the program calls it. Tested by `when.sh`, `folder.sh`,
 //! `owners.sh`, `nested_runs.sh` and `recover.sh` in `tests/`.
 mod above;
+pub(crate) mod access_refusal;
 mod answering;
-pub(crate) mod carried_out;
 pub(crate) mod damage;
-pub(crate) mod denial;
 pub(crate) mod diagnostics;
 mod line;
 pub(crate) mod locked;
 mod on_folder;
+pub(crate) mod run_result;
 mod texts;

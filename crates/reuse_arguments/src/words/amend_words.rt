@@ -1,13 +1,14 @@
 //! From the words of `amend` to what it changes. All texts lose their outer spaces, and none that
-//! is sought may be empty then.
+//! is searched for may be empty then.
 ghost use Rattle.std.specs.Prelude.{◌≡◌, map};
 ghost use Rattle.std.specs.List.{list_all, list_any};
 ghost use Rattle.reuse_notice.specs.Adding.{is_space};
 ghost use Rattle.std.specs.Option.{option_map};
-ghost use Rattle.reuse_arguments.specs.AmendSteps.{all_removed, all_replaced, prefix_read, removed, replaced, sought_read, with_holder, with_prefix, with_until};
+ghost use Rattle.reuse_arguments.specs.AmendSteps.{all_removed, all_replaced, prefix_read, removed, replaced};
+ghost use Rattle.reuse_arguments.specs.AmendSteps.{searched_read, with_holder, with_prefix, with_until};
 ghost use Rattle.reuse_arguments.specs.AmendWords.{amendments_read, in_turn, is_amending, steps_of};
 ghost use Rattle.reuse_arguments.specs.Found.{found_in, is_given};
-ghost use Rattle.reuse_arguments.specs.LineFaults.{IsDue, IsDueAs};
+ghost use Rattle.reuse_arguments.specs.LineFaults.{IsExpected, IsExpectedAs};
 
 use crate::amend_options::AMENDING;
 use crate::line::LineFault;
@@ -37,9 +38,9 @@ impl Part {
         old: &str,
         new: &str,
     ) -> Result<(), LineFault>
-        ensures { IsDueAs (λ _. amendments.new) (replaced self old.now new.now amendments.old) result }
+        ensures { IsExpectedAs (λ _. amendments.new) (replaced self old.now new.now amendments.old) result }
     {
-        let old = sought(alloc, old)?;
+        let old = searched(alloc, old)?;
         match self {
             Part::Licence => amendments.replace_licence(alloc, old, new)?,
             Part::Holder => amendments.replace_holder(alloc, old, new)?,
@@ -50,9 +51,9 @@ impl Part {
 
     // The text goes.
     fn remove(self, alloc: Global, amendments: &mut Amendments, text: &str) -> Result<(), LineFault>
-        ensures { IsDueAs (λ _. amendments.new) (removed self text.now amendments.old) result }
+        ensures { IsExpectedAs (λ _. amendments.new) (removed self text.now amendments.old) result }
     {
-        let text = sought(alloc, text)?;
+        let text = searched(alloc, text)?;
         match self {
             Part::Licence => amendments.remove_licence(alloc, text)?,
             Part::Holder => amendments.remove_holder(alloc, text)?,
@@ -68,7 +69,7 @@ impl Part {
         amendments: &mut Amendments,
         texts: &[&str],
     ) -> Result<(), LineFault>
-        ensures { IsDueAs (λ _. amendments.new)
+        ensures { IsExpectedAs (λ _. amendments.new)
             (all_replaced self (map (λ text. text.now) texts.now) amendments.old) result }
     {
         let mut texts = texts;
@@ -89,7 +90,7 @@ impl Part {
         amendments: &mut Amendments,
         texts: &[&str],
     ) -> Result<(), LineFault>
-        ensures { IsDueAs (λ _. amendments.new)
+        ensures { IsExpectedAs (λ _. amendments.new)
             (all_removed self (map (λ text. text.now) texts.now) amendments.old) result }
     {
         let mut texts = texts;
@@ -105,7 +106,7 @@ impl Part {
 /// and contributors come in this order, of each the replacements first; then the year, the prefix
 /// and the holder.
 pub fn read_amendments(alloc: Global, matches: &ArgMatches<'_>) -> Result<Amendments, LineFault>
-    ensures { IsDue (amendments_read (found_in matches.now)) result }
+    ensures { IsExpected (amendments_read (found_in matches.now)) result }
 {
     if !is_amending(matches) {
         return Err(LineFault::NothingToAmend);
@@ -120,7 +121,7 @@ fn amend(
     amendments: &mut Amendments,
     matches: &ArgMatches<'_>,
 ) -> Result<(), LineFault>
-    ensures { IsDueAs (λ _. amendments.new) (in_turn (steps_of (found_in matches.now)) amendments.old) result }
+    ensures { IsExpectedAs (λ _. amendments.new) (in_turn (steps_of (found_in matches.now)) amendments.old) result }
 {
     Part::Licence.replace_all(alloc, amendments, values(matches, "replace-license"))?;
     Part::Licence.remove_all(alloc, amendments, values(matches, "remove-license"))?;
@@ -159,7 +160,7 @@ fn set_until(
     amendments: &mut Amendments,
     year: Option<&str>,
 ) -> Result<(), LineFault>
-    ensures { IsDueAs (λ _. amendments.new)
+    ensures { IsExpectedAs (λ _. amendments.new)
         (with_until (option_map (λ text. text.now) year.entry) amendments.old) result }
 {
     match year {
@@ -173,7 +174,7 @@ fn set_prefix(
     amendments: &mut Amendments,
     name: Option<&str>,
 ) -> Result<(), LineFault>
-    ensures { IsDueAs (λ _. amendments.new)
+    ensures { IsExpectedAs (λ _. amendments.new)
         (with_prefix (option_map (λ text. text.now) name.entry) amendments.old) result }
 {
     let Some(name) = name else {
@@ -188,26 +189,26 @@ fn set_holder(
     amendments: &mut Amendments,
     holder: Option<&str>,
 ) -> Result<(), LineFault>
-    ensures { IsDueAs (λ _. amendments.new)
+    ensures { IsExpectedAs (λ _. amendments.new)
         (with_holder (option_map (λ text. text.now) holder.entry) amendments.old) result }
 {
     let Some(holder) = holder else {
         return Ok(());
     };
-    let holder = sought(alloc, holder)?;
+    let holder = searched(alloc, holder)?;
     Ok(amendments.set_holder(alloc, holder)?)
 }
 
 /// The prefix of this name.
 pub fn prefix_in(alloc: Global, name: &str) -> Result<Prefix, LineFault>
-    ensures { IsDue (prefix_read name.now) result }
+    ensures { IsExpected (prefix_read name.now) result }
 {
     or_unread(alloc, prefix_of_name(name), "a prefix that nothing reads")
 }
 
-/// A text that is sought in files, which isn't empty.
-fn sought<'a>(alloc: Global, text: &'a str) -> Result<&'a str, LineFault>
-    ensures { IsDueAs (λ found. found.now) (sought_read text.now) result }
+/// A text that is searched for in files, which isn't empty.
+fn searched<'a>(alloc: Global, text: &'a str) -> Result<&'a str, LineFault>
+    ensures { IsExpectedAs (λ found. found.now) (searched_read text.now) result }
 {
     if is_blank(text) {
         let refusal = NoticeRefusal::BadText(Bytes::from_slice(alloc, b"")?);

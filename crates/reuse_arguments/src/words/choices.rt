@@ -1,6 +1,7 @@
 //! What flags choose.
 ghost use Rattle.std.specs.Prelude.{◌≡◌};
-ghost use Rattle.reuse_arguments.specs.Choices.{change_status_of, form_of, format_of, how_of, is_dry_run, settings_of, unknown_of};
+ghost use Rattle.reuse_arguments.specs.Choices.{change_status_of, form_of, format_of, how_of, is_dry_run, settings_of};
+ghost use Rattle.reuse_arguments.specs.Choices.{unknown_of};
 ghost use Rattle.reuse_arguments.specs.Found.{found_in};
 
 use crate::line::{ChangeStatus, OutputFormat};
@@ -54,8 +55,8 @@ pub fn is_dry_run(matches: &ArgMatches<'_>) -> bool
 pub fn read_change_status(matches: &ArgMatches<'_>) -> ChangeStatus
     ensures { result ≡ change_status_of (found_in matches.now) }
 {
-    let is_told = flag(matches, "check") || flag(matches, "exit-non-zero-on-change");
-    ChangeStatus::of(is_told)
+    let is_reported = flag(matches, "check") || flag(matches, "exit-non-zero-on-change");
+    ChangeStatus::of(is_reported)
 }
 
 /// In which form the answer is printed.

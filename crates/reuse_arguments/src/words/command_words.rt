@@ -1,9 +1,10 @@
 //! From the words of `annotate` and `amend` to the commands that they ask for.
 ghost use Rattle.std.specs.Prelude.{◌≡◌, ◌≤◌};
 ghost use Rattle.std.specs.Option.{option_map};
-ghost use Rattle.reuse_arguments.specs.CommandWords.{additions_read, amend_read, annotate_read, named_prefix, scope_read};
+ghost use Rattle.reuse_arguments.specs.CommandWords.{additions_read, amend_read, annotate_read, named_prefix};
+ghost use Rattle.reuse_arguments.specs.CommandWords.{scope_read};
 ghost use Rattle.reuse_arguments.specs.Found.{found_in};
-ghost use Rattle.reuse_arguments.specs.LineFaults.{IsDue};
+ghost use Rattle.reuse_arguments.specs.LineFaults.{IsExpected};
 
 use crate::line::LineFault;
 use crate::words::amend_words::{prefix_in, read_amendments};
@@ -22,7 +23,7 @@ pub fn read_annotate(
     year: u16,
 ) -> Result<Command, LineFault>
     requires { year ≤ 9999 }
-    ensures { IsDue (annotate_read (found_in matches.now) year) result }
+    ensures { IsExpected (annotate_read (found_in matches.now) year) result }
 {
     let places = read_places(alloc, matches)?;
     let additions = read_additions(alloc, matches, year)?;
@@ -37,7 +38,7 @@ pub fn read_annotate(
 
 /// What `amend` is asked for.
 pub fn read_amend(alloc: Global, matches: &ArgMatches<'_>) -> Result<Command, LineFault>
-    ensures { IsDue (amend_read (found_in matches.now)) result }
+    ensures { IsExpected (amend_read (found_in matches.now)) result }
 {
     let places = read_places(alloc, matches)?;
     let amendments = read_amendments(alloc, matches)?;
@@ -55,7 +56,7 @@ fn read_additions(
     year: u16,
 ) -> Result<Additions, LineFault>
     requires { year ≤ 9999 }
-    ensures { IsDue (additions_read (found_in matches.now) year) result }
+    ensures { IsExpected (additions_read (found_in matches.now) year) result }
 {
     let prefix = prefix_named(alloc, value(matches, "copyright-prefix"))?;
     Ok(Additions::new(
@@ -71,7 +72,7 @@ fn read_additions(
 }
 
 fn prefix_named(alloc: Global, name: Option<&str>) -> Result<Prefix, LineFault>
-    ensures { IsDue (named_prefix (option_map (λ text. text.now) name.entry)) result }
+    ensures { IsExpected (named_prefix (option_map (λ text. text.now) name.entry)) result }
 {
     match name {
         Some(name) => prefix_in(alloc, name),
@@ -81,7 +82,7 @@ fn prefix_named(alloc: Global, name: Option<&str>) -> Result<Prefix, LineFault>
 
 /// Which files are taken. Options that a subcommand hasn't are as if they weren't given.
 fn read_scope(alloc: Global, matches: &ArgMatches<'_>) -> Result<Scope, LineFault>
-    ensures { IsDue (scope_read (found_in matches.now)) result }
+    ensures { IsExpected (scope_read (found_in matches.now)) result }
 {
     let style = read_style(alloc, matches)?;
     let excluded = read_globs(alloc, matches)?;

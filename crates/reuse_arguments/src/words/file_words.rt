@@ -2,9 +2,11 @@
 ghost use Rattle.std.specs.Prelude.{◌≡◌, IfOk, map, string_bytes};
 ghost use Rattle.std.specs.Option.{option_map};
 ghost use Rattle.clap.specs.Simple.{subcommand_rows_of};
-ghost use Rattle.reuse_arguments.specs.FileWords.{files_from_of, globs_of, globs_read, ids_of, number_read, place_read, places_read, root_of, step_read, steps_read, style_read, texts_folder_read};
+ghost use Rattle.reuse_arguments.specs.FileWords.{files_from_of, globs_of, globs_read, ids_of, number_read, place_read};
+ghost use Rattle.reuse_arguments.specs.FileWords.{places_read, root_of, step_read, steps_read, style_read};
+ghost use Rattle.reuse_arguments.specs.FileWords.{texts_folder_read};
 ghost use Rattle.reuse_arguments.specs.Found.{found_in};
-ghost use Rattle.reuse_arguments.specs.LineFaults.{IsDue, IsDueAs, all_read, each_read};
+ghost use Rattle.reuse_arguments.specs.LineFaults.{IsExpected, IsExpectedAs, all_read, each_read};
 
 use crate::glob_word::globs_of_word;
 use crate::line::LineFault;
@@ -47,13 +49,13 @@ pub fn read_files_from(
 
 /// The places.
 pub fn read_places(alloc: Global, matches: &ArgMatches<'_>) -> Result<Places, LineFault>
-    ensures { IsDue (places_read (found_in matches.now)) result }
+    ensures { IsExpected (places_read (found_in matches.now)) result }
 {
     Ok(Places::new(places_of(alloc, values(matches, "PATH"))?))
 }
 
 fn places_of(alloc: Global, words: &[&str]) -> Result<Vec<Place>, LineFault>
-    ensures { IsDueAs (λ places. places.items) (each_read place_read (map (λ word. word.now) words.now)) result }
+    ensures { IsExpectedAs (λ places. places.items) (each_read place_read (map (λ word. word.now) words.now)) result }
 {
     let mut places = Vec::new(alloc);
     for word in words {
@@ -63,7 +65,7 @@ fn places_of(alloc: Global, words: &[&str]) -> Result<Vec<Place>, LineFault>
 }
 
 fn read_place(alloc: Global, word: &str) -> Result<Place, LineFault>
-    ensures { IsDue (place_read word.now) result }
+    ensures { IsExpected (place_read word.now) result }
 {
     match place_of_word(alloc, word)? {
         Some(place) => Ok(place),
@@ -73,13 +75,13 @@ fn read_place(alloc: Global, word: &str) -> Result<Place, LineFault>
 
 /// The globs that exclude files.
 pub fn read_globs(alloc: Global, matches: &ArgMatches<'_>) -> Result<Globs, LineFault>
-    ensures { IsDue (globs_read (found_in matches.now)) result }
+    ensures { IsExpected (globs_read (found_in matches.now)) result }
 {
     Ok(Globs::new(globs_in(alloc, values(matches, "exclude"))?))
 }
 
 fn globs_in(alloc: Global, words: &[&str]) -> Result<Vec<Glob>, LineFault>
-    ensures { IsDueAs (λ globs. globs.items) (all_read globs_of (map (λ word. word.now) words.now)) result }
+    ensures { IsExpectedAs (λ globs. globs.items) (all_read globs_of (map (λ word. word.now) words.now)) result }
 {
     let mut globs = Vec::new(alloc);
     for word in words {
@@ -90,7 +92,7 @@ fn globs_in(alloc: Global, words: &[&str]) -> Result<Vec<Glob>, LineFault>
 }
 
 fn read_glob(alloc: Global, word: &str) -> Result<Vec<Glob>, LineFault>
-    ensures { IsDueAs (λ globs. globs.items) (globs_of word.now) result }
+    ensures { IsExpectedAs (λ globs. globs.items) (globs_of word.now) result }
 {
     match globs_of_word(alloc, word)? {
         Some(globs) => Ok(globs),
@@ -100,7 +102,7 @@ fn read_glob(alloc: Global, word: &str) -> Result<Vec<Glob>, LineFault>
 
 /// The style of all files, where one is named.
 pub fn read_style(alloc: Global, matches: &ArgMatches<'_>) -> Result<Option<Style>, LineFault>
-    ensures { IsDue (style_read (found_in matches.now)) result }
+    ensures { IsExpected (style_read (found_in matches.now)) result }
 {
     let Some(name) = value(matches, "style") else {
         return Ok(None);
@@ -111,7 +113,7 @@ pub fn read_style(alloc: Global, matches: &ArgMatches<'_>) -> Result<Option<Styl
 
 /// The folder of the licence texts.
 pub fn read_texts(alloc: Global, matches: &ArgMatches<'_>) -> Result<String, LineFault>
-    ensures { IsDueAs string_bytes (texts_folder_read (found_in matches.now)) result }
+    ensures { IsExpectedAs string_bytes (texts_folder_read (found_in matches.now)) result }
 {
     match value(matches, "texts") {
         Some(folder) => Ok(String::from_str(alloc, folder)?),
@@ -138,14 +140,14 @@ fn ids_in(alloc: Global, words: &[&str]) -> Result<Vec<Bytes>, AllocError>
 
 /// The number of a step.
 pub fn read_step(alloc: Global, matches: &ArgMatches<'_>) -> Result<u32, LineFault>
-    ensures { IsDue (step_read (found_in matches.now)) result }
+    ensures { IsExpected (step_read (found_in matches.now)) result }
 {
     or_unread(alloc, number(matches, "NUMBER"), "no number of a step")
 }
 
 /// The steps to be forgotten.
 pub fn read_steps(alloc: Global, matches: &ArgMatches<'_>) -> Result<Steps, LineFault>
-    ensures { IsDue (steps_read (found_in matches.now)) result }
+    ensures { IsExpected (steps_read (found_in matches.now)) result }
 {
     if flag(matches, "all") {
         return Ok(Steps::All);
@@ -155,7 +157,8 @@ pub fn read_steps(alloc: Global, matches: &ArgMatches<'_>) -> Result<Steps, Line
 }
 
 fn numbers_in(alloc: Global, words: &[&str]) -> Result<Vec<u32>, LineFault>
-    ensures { IsDueAs (λ numbers. numbers.items) (each_read number_read (map (λ word. word.now) words.now)) result }
+    ensures { IsExpectedAs (λ numbers. numbers.items)
+        (each_read number_read (map (λ word. word.now) words.now)) result }
 {
     let mut numbers = Vec::new(alloc);
     for word in words {
@@ -165,7 +168,7 @@ fn numbers_in(alloc: Global, words: &[&str]) -> Result<Vec<u32>, LineFault>
 }
 
 fn read_number(alloc: Global, word: &str) -> Result<u32, LineFault>
-    ensures { IsDue (number_read word.now) result }
+    ensures { IsExpected (number_read word.now) result }
 {
     or_unread(alloc, number_of(word), "a number that nothing reads")
 }

@@ -7,7 +7,8 @@ use clap::{ArgMatches, Error};
 use std::alloc::Global;
 
 /// Finds options and arguments in the words of a command line, or refuses them. What it answers to
-/// which words it says itself. So what the program says of words is what was answered to just these.
+/// which words it says itself. So what the program says of words is what was answered to just
+/// these.
 pub trait Finder {
     ghost use Rattle.std.specs.Prelude.{ℕ, List, Result, map, string_bytes};
     ghost use Rattle.clap.specs.declared.error.Error.{Error};

@@ -5,7 +5,7 @@
 //! a command line without global options, and this one has five. So such words are answered by a
 //! fault, all in this one way.
 ghost use Rattle.std.specs.Prelude.{◌≡◌, IfOk, Some};
-ghost use Rattle.reuse_arguments.specs.LineFaults.{IsDue, mistake_of, or_mistake, unread};
+ghost use Rattle.reuse_arguments.specs.LineFaults.{IsExpected, mistake_of, or_mistake, unread};
 
 use crate::line::LineFault;
 use std::alloc::{AllocError, Global};
@@ -19,7 +19,7 @@ pub fn unread(alloc: Global, text: &str) -> Result<LineFault, AllocError>
 
 /// What was read, or else the fault.
 pub fn or_unread<T: Drop>(alloc: Global, found: Option<T>, text: &str) -> Result<T, LineFault>
-    ensures { IsDue (or_mistake found (unread text.now)) result }
+    ensures { IsExpected (or_mistake found (unread text.now)) result }
 {
     match found {
         Some(read) => Ok(read),

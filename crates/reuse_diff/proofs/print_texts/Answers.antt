@@ -8,10 +8,14 @@ use Rattle.reuse_diff.proofs.print_texts.Goals as goal
 
 pub returns-in_ok-print_named : goal.returns-in_ok-print_named
 returns-in_ok-print_named g c =
-    found-hunk (names_text c.args.turn.path.now (option_copied c.args.turn.before) (option_copied c.args.turn.after)) (unwrap_or (option_copied c.args.turn.before) []) (unwrap_or (option_copied c.args.turn.after) [])
-    c.bytes_of.result.now c.bytes_of-2.result.now c.in_ok-hunk.field-0 c.in-Some.hunk _ _ c.bytes_of.ensures c.bytes_of-2.ensures c.in-Some.is c.in_ok-hunk.ensures.same c.in_ok-hunk.ensures.hunk c.in_ok-print_named.ensures
+    found-hunk (names_text c.args.input.path.now (option_copied c.args.input.before) (option_copied c.args.input.after))
+    (unwrap_or (option_copied c.args.input.before) []) (unwrap_or (option_copied c.args.input.after) [])
+    c.bytes_of.result.now c.bytes_of-2.result.now c.in_ok-hunk.field-0 c.in-Some.hunk _ _ c.bytes_of.ensures
+    c.bytes_of-2.ensures c.in-Some.is c.in_ok-hunk.ensures.same c.in_ok-hunk.ensures.hunk c.in_ok-print_named.ensures
 
 pub returns-in_default : goal.returns-in_default
 returns-in_default g c =
-    found-none (names_text c.args.turn.path.now (option_copied c.args.turn.before) (option_copied c.args.turn.after)) (unwrap_or (option_copied c.args.turn.before) []) (unwrap_or (option_copied c.args.turn.after) [])
-    c.bytes_of.result.now c.bytes_of-2.result.now c.in_ok-hunk.field-0 _ c.bytes_of.ensures c.bytes_of-2.ensures c.in_default.is c.in_ok-hunk.ensures.same
+    found-none (names_text c.args.input.path.now (option_copied c.args.input.before) (option_copied c.args.input.after))
+    (unwrap_or (option_copied c.args.input.before) []) (unwrap_or (option_copied c.args.input.after) [])
+    c.bytes_of.result.now c.bytes_of-2.result.now c.in_ok-hunk.field-0 _ c.bytes_of.ensures c.bytes_of-2.ensures
+    c.in_default.is c.in_ok-hunk.ensures.same

@@ -1,20 +1,20 @@
-//! Writing several files at once. All are written aside before the data of the first is synced, so
-//! that the system syncs them together; then each is given its name, in order.
+//! Writing several files at once. All are written to temporary files before the data of the first
+//! is synced, so that the system syncs them together; then each is given its name, in order.
 ghost use Rattle.std.specs.Prelude.{◌≡◌, ◌<◌, ◌≤◌, List, [], ◌∷◌, IfErr, IfOk, length};
 ghost use Rattle.std.specs.List.{All};
-ghost use Rattle.reuse_system.specs.Asides.{place_of};
+ghost use Rattle.reuse_system.specs.TempFiles.{place_of};
 ghost use Rattle.reuse_system.specs.NameChanges.{OnlyChanges};
-ghost use Rattle.reuse_folder.specs.Seen.{AreKnown, IsKnownAside, IsNewFile, IsSeenBefore, LoseNoEdits};
+ghost use Rattle.reuse_folder.specs.Seen.{AreKnown, IsKnownTempFile, IsNewFile, IsSeenBefore, LoseNoEdits};
 ghost use Rattle.reuse_folder.specs.declared.folder.seen.ReadPath.{ReadPath};
 
 use super::RootFolder;
 use super::seen::{Expected, ReadPath, expected_at};
-use reuse_change::{Parts, PathText};
-use reuse_disk::{Content, Target, name_aside};
+use reuse_change::{PathText, Pieces};
+use reuse_disk::{Content, Target, name_temp_file};
 use reuse_store::FileWrite;
 use reuse_system::fault::FolderFault;
 use reuse_system::place::{FileStatus, folder_and_name};
-use reuse_system::system::{Aside, HostSystem, System};
+use reuse_system::system::{HostSystem, System, TempFile};
 use std::alloc::{AllocError, Global};
 use std::fs::File;
 use std::mem;
@@ -73,34 +73,36 @@ impl Seen {
     }
 }
 
-/// A file that is written aside, and what is to stand at its path directly before it gets its name.
+/// A temporary file that is written, and what is to stand at its path directly before it gets its
+/// name.
 #[derive(Drop)]
 struct NewContent {
-    aside: Aside,
+    temp_file: TempFile,
     seen: Option<FileStatus>,
 }
 
 /// Removes new files that get no name.
-fn remove_all<S: System>(system: &mut S, asides: &[NewContent])
+fn remove_all<S: System>(system: &mut S, temp_files: &[NewContent])
     ensures still { S.folders system.new ≡ S.folders system.old }
     ensures earlier { S.honest system.new → S.honest system.old }
-    ensures changes { All (λ one. IsNewFile (place_of one.aside)) asides.now
+    ensures changes { All (λ one. IsNewFile (place_of one.temp_file)) temp_files.now
         → OnlyChanges IsNewFile (S.changes system.old) (S.changes system.new) }
 {
-    for one in asides {
-        system.discard(&one.aside);
+    for one in temp_files {
+        system.discard(&one.temp_file);
     }
 }
 
 impl<R: Files<File = File> + AllocGlobal + Clone + Drop> RootFolder<R> {
     /// Makes each path hold what it is given, one after the other, up to the first that fails. New
-    /// files that follow on each other are all written aside before the data of the first is
-    /// synced: so the system syncs them together.
+    /// files that follow on each other are all written to temporary files before the data of the
+    /// first is synced: so the system syncs them together.
     pub fn write_all(&mut self, alloc: Global, writes: &[FileWrite]) -> Result<(), Stop>
         ensures stop { IfErr result (λ stop. stop.made < length writes.now) }
         // No path changes at which something else stands than was read there.
         ensures keeps_edits { LoseNoEdits self.old.reads.items writes.now
-            (⟦<HostSystem<R> as System>⟧.changes self.old.system) (⟦<HostSystem<R> as System>⟧.changes self.new.system) }
+            (⟦<HostSystem<R> as System>⟧.changes self.old.system)
+            (⟦<HostSystem<R> as System>⟧.changes self.new.system) }
     {
         let reads = mem::replace(&mut self.reads, Vec::new(alloc));
         let mut seen = Seen::before(reads, writes.first());
@@ -128,7 +130,8 @@ impl<R: Files<File = File> + AllocGlobal + Clone + Drop> RootFolder<R> {
         ensures some { IfOk result (λ count. (0 < count) × (count ≤ length writes.now)) }
         ensures stop { IfErr result (λ stop. stop.made < length writes.now) }
         ensures keeps_edits { LoseNoEdits seen.old.reads.items writes.now
-            (⟦<HostSystem<R> as System>⟧.changes self.old.system) (⟦<HostSystem<R> as System>⟧.changes self.new.system) }
+            (⟦<HostSystem<R> as System>⟧.changes self.old.system)
+            (⟦<HostSystem<R> as System>⟧.changes self.new.system) }
         ensures reads { seen.new.reads ≡ seen.old.reads }
     {
         if let Some(FileWrite { path, file: None }) = writes.first() {
@@ -137,108 +140,122 @@ impl<R: Files<File = File> + AllocGlobal + Clone + Drop> RootFolder<R> {
                 .map_err(Stop::at_first)?;
             return Ok(1);
         }
-        match self.write_aside(alloc, writes, seen) {
-            Ok(asides) => {
-                self.name_all(alloc, writes, &asides)?;
-                Ok(asides.len().clamp(1, writes.len()))
+        match self.write_temp_file(alloc, writes, seen) {
+            Ok(temp_files) => {
+                self.name_all(alloc, writes, &temp_files)?;
+                Ok(temp_files.len().clamp(1, writes.len()))
             }
             Err(fault) => Err(Stop::at_first(fault)),
         }
     }
 
-    /// Writes the new files up to the first removal aside, or up to one that fails, if it isn't the
-    /// first.
-    fn write_aside(
+    /// Writes the new files up to the first removal to temporary files, or up to one that fails, if
+    /// it isn't the first.
+    fn write_temp_file(
         &mut self,
         alloc: Global,
         writes: &[FileWrite],
         seen: &mut Seen,
     ) -> Result<Vec<NewContent>, FolderFault>
-        ensures changes { OnlyChanges IsNewFile (⟦<HostSystem<R> as System>⟧.changes self.old.system) (⟦<HostSystem<R> as System>⟧.changes self.new.system) }
-        ensures known { IfOk result (λ asides. AreKnown seen.old.reads.items writes.now asides.items) }
+        ensures changes { OnlyChanges IsNewFile (⟦<HostSystem<R> as System>⟧.changes self.old.system)
+            (⟦<HostSystem<R> as System>⟧.changes self.new.system) }
+        ensures known { IfOk result (λ temp_files. AreKnown seen.old.reads.items writes.now temp_files.items) }
         ensures reads { seen.new.reads ≡ seen.old.reads }
     {
-        let mut asides = Vec::new(alloc);
+        let mut temp_files = Vec::new(alloc);
         for write in writes {
             let Some(parts) = write.file else {
                 break;
             };
-            match self.write_one_aside(alloc, write, parts, asides.len(), seen) {
-                Ok(aside) => asides.push(aside).map_err(AllocError::from)?,
-                Err(fault) if asides.is_empty() => return Err(fault),
+            match self.write_one_temp_file(alloc, write, parts, temp_files.len(), seen) {
+                Ok(temp_file) => temp_files.push(temp_file).map_err(AllocError::from)?,
+                Err(fault) if temp_files.is_empty() => return Err(fault),
                 Err(_) => break,
             }
         }
-        Ok(asides)
+        Ok(temp_files)
     }
 
-    fn write_one_aside(
+    fn write_one_temp_file(
         &mut self,
         alloc: Global,
         write: &FileWrite,
-        parts: Parts,
+        parts: Pieces,
         number: usize,
         seen: &mut Seen,
     ) -> Result<NewContent, FolderFault>
-        ensures changes { OnlyChanges IsNewFile (⟦<HostSystem<R> as System>⟧.changes self.old.system) (⟦<HostSystem<R> as System>⟧.changes self.new.system) }
-        ensures known { IfOk result (IsKnownAside seen.old.reads.items write.now.path.now) }
+        ensures changes { OnlyChanges IsNewFile (⟦<HostSystem<R> as System>⟧.changes self.old.system)
+            (⟦<HostSystem<R> as System>⟧.changes self.new.system) }
+        ensures known { IfOk result (IsKnownTempFile seen.old.reads.items write.now.path.now) }
         ensures reads { seen.new.reads ≡ seen.old.reads }
     {
         let (folder, _) = folder_and_name(write.path.text());
         let found = self.make_room(alloc, write.path, seen.next_at(write.path))?;
         self.unsynced.note(alloc, folder)?;
         let mut new_file = self.take_new_file(alloc)?;
-        if let Err(fault) = self.trail.enter_seen(&mut self.system, alloc, folder) {
+        if let Err(fault) = self
+            .open_folders
+            .enter_seen(&mut self.system, alloc, folder)
+        {
             // The new files before this one are still to be named, by the folder that it holds
             // open.
             self.new_file = Some(new_file);
             return Err(fault);
         }
-        let target = self.trail.current()?;
+        let target = self.open_folders.current()?;
         let content = Content {
             parts,
-            wanted: self.keeping.wanted(target, found),
+            wanted: self.ownership.wanted(target, found),
             found,
         };
-        let aside = new_file.write_one_aside(&mut self.system, alloc, number, content);
-        if aside.is_ok() {
-            self.keeping
+        let temp_file = new_file.write_one_temp_file(&mut self.system, alloc, number, content);
+        if temp_file.is_ok() {
+            self.ownership
                 .note_written(write.path.text(), found, new_file.kept());
         }
         self.new_file = Some(new_file);
-        let aside = aside?;
-        Ok(NewContent { aside, seen: found })
+        let temp_file = temp_file?;
+        Ok(NewContent {
+            temp_file,
+            seen: found,
+        })
     }
 
-    /// Makes the data of the new files lasting and gives each its name, in order: the first so many
+    /// Makes the data of the new files durable and gives each its name, in order: the first so many
     /// writes are made by that. Where one fails, the others behind it are removed.
     fn name_all(
         &mut self,
         alloc: Global,
         writes: &[FileWrite],
-        asides: &[NewContent],
+        temp_files: &[NewContent],
     ) -> Result<(), Stop>
         requires { 0 < length writes.now }
         ensures stop { IfErr result (λ stop. stop.made < length writes.now) }
-        ensures keeps_edits { (reads : List ReadPath) → AreKnown reads writes.now asides.now
-            → LoseNoEdits reads writes.now (⟦<HostSystem<R> as System>⟧.changes self.old.system) (⟦<HostSystem<R> as System>⟧.changes self.new.system) }
+        ensures keeps_edits { (reads : List ReadPath) → AreKnown reads writes.now temp_files.now
+            → LoseNoEdits reads writes.now (⟦<HostSystem<R> as System>⟧.changes self.old.system)
+            (⟦<HostSystem<R> as System>⟧.changes self.new.system) }
     {
-        if let Err(fault) = self.sync_all(writes, asides) {
-            remove_all(&mut self.system, asides);
+        if let Err(fault) = self.sync_all(writes, temp_files) {
+            remove_all(&mut self.system, temp_files);
             return Err(Stop::at_first(fault));
         }
-        self.name_each(alloc, writes, asides)
+        self.name_each(alloc, writes, temp_files)
     }
 
-    /// Makes the data of the new files lasting.
-    fn sync_all(&mut self, writes: &[FileWrite], asides: &[NewContent]) -> Result<(), FolderFault>
-        ensures { ⟦<HostSystem<R> as System>⟧.changes self.new.system ≡ ⟦<HostSystem<R> as System>⟧.changes self.old.system }
+    /// Makes the data of the new files durable.
+    fn sync_all(
+        &mut self,
+        writes: &[FileWrite],
+        temp_files: &[NewContent],
+    ) -> Result<(), FolderFault>
+        ensures { ⟦<HostSystem<R> as System>⟧.changes self.new.system
+            ≡ ⟦<HostSystem<R> as System>⟧.changes self.old.system }
     {
-        for (at, new) in asides.iter().enumerate() {
+        for (at, new) in temp_files.iter().enumerate() {
             let Some(write) = writes.get(at) else {
                 return Ok(());
             };
-            self.sync_aside(&new.aside, write.path)?;
+            self.sync_temp_file(&new.temp_file, write.path)?;
         }
         Ok(())
     }
@@ -248,30 +265,32 @@ impl<R: Files<File = File> + AllocGlobal + Clone + Drop> RootFolder<R> {
         &mut self,
         alloc: Global,
         writes: &[FileWrite],
-        asides: &[NewContent],
+        temp_files: &[NewContent],
     ) -> Result<(), Stop>
         ensures stop { IfErr result (λ stop. stop.made < length writes.now) }
-        ensures keeps_edits { (reads : List ReadPath) → AreKnown reads writes.now asides.now
-            → LoseNoEdits reads writes.now (⟦<HostSystem<R> as System>⟧.changes self.old.system) (⟦<HostSystem<R> as System>⟧.changes self.new.system) }
+        ensures keeps_edits { (reads : List ReadPath) → AreKnown reads writes.now temp_files.now
+            → LoseNoEdits reads writes.now (⟦<HostSystem<R> as System>⟧.changes self.old.system)
+            (⟦<HostSystem<R> as System>⟧.changes self.new.system) }
     {
         for (made, write) in writes.iter().enumerate() {
-            let Some(new) = asides.get(made) else {
+            let Some(new) = temp_files.get(made) else {
                 return Ok(());
             };
             if let Err(fault) = self.name_one(alloc, new, write) {
-                remove_all(&mut self.system, &asides[made..]);
+                remove_all(&mut self.system, &temp_files[made..]);
                 return Err(Stop { made, fault });
             }
         }
         Ok(())
     }
 
-    /// Makes the data of the new file lasting that is to get this path.
-    fn sync_aside(&mut self, aside: &Aside, path: &PathText) -> Result<(), FolderFault>
-        ensures { ⟦<HostSystem<R> as System>⟧.changes self.new.system ≡ ⟦<HostSystem<R> as System>⟧.changes self.old.system }
+    /// Makes the data of the new file durable that is to get this path.
+    fn sync_temp_file(&mut self, temp_file: &TempFile, path: &PathText) -> Result<(), FolderFault>
+        ensures { ⟦<HostSystem<R> as System>⟧.changes self.new.system
+            ≡ ⟦<HostSystem<R> as System>⟧.changes self.old.system }
     {
         let unsynced = &mut self.unsynced;
-        Ok(unsynced.sync_data(&mut self.system, aside, path.text())?)
+        Ok(unsynced.sync_data(&mut self.system, temp_file, path.text())?)
     }
 
     /// Gives the new file its name, if what was seen at the path stands there. If that leads to
@@ -282,21 +301,23 @@ impl<R: Files<File = File> + AllocGlobal + Clone + Drop> RootFolder<R> {
         new: &NewContent,
         write: &FileWrite,
     ) -> Result<(), FolderFault>
-        ensures { (reads : List ReadPath) → IsKnownAside reads write.now.path.now new.now
-            → LoseNoEdits reads (write.now ∷ []) (⟦<HostSystem<R> as System>⟧.changes self.old.system) (⟦<HostSystem<R> as System>⟧.changes self.new.system) }
+        ensures { (reads : List ReadPath) → IsKnownTempFile reads write.now.path.now new.now
+            → LoseNoEdits reads (write.now ∷ []) (⟦<HostSystem<R> as System>⟧.changes self.old.system)
+            (⟦<HostSystem<R> as System>⟧.changes self.new.system) }
     {
         let path = write.path.text();
         let (folder, name) = folder_and_name(path);
-        self.trail.enter_seen(&mut self.system, alloc, folder)?;
+        self.open_folders
+            .enter_seen(&mut self.system, alloc, folder)?;
         let target = Target {
-            folder: self.trail.current()?,
+            folder: self.open_folders.current()?,
             name,
             path,
         };
-        if name_aside(&mut self.system, &new.aside, target, new.seen)? {
+        if name_temp_file(&mut self.system, &new.temp_file, target, new.seen)? {
             return Ok(());
         }
-        self.system.discard(&new.aside);
+        self.system.discard(&new.temp_file);
         match write.file {
             Some(parts) => {
                 let expected = Expected::of(new.seen);

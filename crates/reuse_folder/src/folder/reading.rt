@@ -2,7 +2,7 @@
 //! its place, a link too, it isn't read.
 ghost use Rattle.std.specs.Prelude.{◌≡◌, ◌≤◌, ◌⊎◌, ℕ, [], IfOk, IfSome, IsTrue, None, Some, length};
 ghost use Rattle.reuse_folder.specs.Seen.{expected_of, IsNoted, IsSeenBefore};
-ghost use Rattle.reuse_system.specs.KeptOut.{is_kept_out};
+ghost use Rattle.reuse_system.specs.Ignored.{is_ignored};
 ghost use Rattle.reuse_system.specs.Within.{IsWithin};
 
 use super::RootFolder;
@@ -10,8 +10,8 @@ use super::seen::ReadPath;
 use crate::rolled_back::Foreign;
 use reuse_change::PathText;
 use reuse_store::Reading;
-use reuse_system::fault::{FolderFault, Obstacle};
-use reuse_system::kept_out::is_kept_out;
+use reuse_system::fault::{FolderFault, IoReason};
+use reuse_system::ignored::is_ignored;
 use reuse_system::place::{FileStatus, Place, folder_and_name};
 use reuse_system::system::{HostSystem, System};
 use reuse_text::Bytes;
@@ -24,10 +24,10 @@ const MOST_SEEN: usize = 1_024;
 
 impl<R: Files<File = File> + AllocGlobal + Clone + Drop> RootFolder<R> {
     ghost use Rattle.reuse_folder.specs.FolderReads.{IsPlaceAt, IsReadAt, IsReadIn, IsReadWith, LiesIn};
-    ghost use Rattle.reuse_disk.specs.Trails.{current_of};
+    ghost use Rattle.reuse_disk.specs.OpenFolders.{current_of};
 
-    /// The bytes of the regular file at the path, where they are at most `limit`. One that is longer
-    /// isn't opened, so it needn't be readable.
+    /// The bytes of the regular file at the path, where they are at most `limit`. One that is
+    /// longer isn't opened, so it needn't be readable.
     pub fn read(
         &mut self,
         alloc: Global,
@@ -35,22 +35,26 @@ impl<R: Files<File = File> + AllocGlobal + Clone + Drop> RootFolder<R> {
         limit: usize,
     ) -> Result<Reading, FolderFault>
         ensures within { IfOk result (IsWithin limit) }
-        ensures kept_out { IsTrue (is_kept_out path.now) → IfOk result (λ reading. reading ≡ Reading.Absent) }
-        ensures kept { ⟦<HostSystem<R> as System>⟧.holds self.new.system ≡ ⟦<HostSystem<R> as System>⟧.holds self.old.system }
-        ensures changes { ⟦<HostSystem<R> as System>⟧.changes self.new.system ≡ ⟦<HostSystem<R> as System>⟧.changes self.old.system }
-        ensures still { ⟦<HostSystem<R> as System>⟧.folders self.new.system ≡ ⟦<HostSystem<R> as System>⟧.folders self.old.system }
+        ensures ignored { IsTrue (is_ignored path.now) → IfOk result (λ reading. reading ≡ Reading.Absent) }
+        ensures kept { ⟦<HostSystem<R> as System>⟧.holds self.new.system
+            ≡ ⟦<HostSystem<R> as System>⟧.holds self.old.system }
+        ensures changes { ⟦<HostSystem<R> as System>⟧.changes self.new.system
+            ≡ ⟦<HostSystem<R> as System>⟧.changes self.old.system }
+        ensures still { ⟦<HostSystem<R> as System>⟧.folders self.new.system
+            ≡ ⟦<HostSystem<R> as System>⟧.folders self.old.system }
         ensures earlier { ⟦<HostSystem<R> as System>⟧.honest self.new.system
             → ⟦<HostSystem<R> as System>⟧.honest self.old.system }
         // Of a file that is remembered the bytes aren't read again.
         ensures read { ⟦<HostSystem<R> as System>⟧.honest self.new.system → self.old.remembered.files.items ≡ []
-            → IfOk result (IsReadAt (⟦<HostSystem<R> as System>⟧.folders self.new.system) (⟦<HostSystem<R> as System>⟧.holds self.new.system) path.now limit) }
+            → IfOk result (IsReadAt (⟦<HostSystem<R> as System>⟧.folders self.new.system)
+            (⟦<HostSystem<R> as System>⟧.holds self.new.system) path.now limit) }
         ensures noted { IfOk result (λ _. IsNoted self.new.reads.items path.now) }
     {
         let Place::File(status) = self.look(alloc, path)? else {
             self.note_read(alloc, path, None)?;
             return Ok(Reading::Absent);
         };
-        self.keeping.note_read(path.text(), status);
+        self.ownership.note_read(path.text(), status);
         if let Some(bytes) = self.take_remembered(path, status, limit) {
             self.note_read(alloc, path, Some(status))?;
             return Ok(Reading::Found(bytes));
@@ -58,7 +62,7 @@ impl<R: Files<File = File> + AllocGlobal + Clone + Drop> RootFolder<R> {
         self.read_seen(alloc, path, limit, status)
     }
 
-    /// The same; what stands at the path and is neither a file nor a folder is told so.
+    /// The same; what stands at the path and is neither a file nor a folder is reported so.
     pub fn read_with(
         &mut self,
         alloc: Global,
@@ -67,16 +71,21 @@ impl<R: Files<File = File> + AllocGlobal + Clone + Drop> RootFolder<R> {
         foreign: Foreign,
     ) -> Result<Reading, FolderFault>
         ensures within { IfOk result (IsWithin limit) }
-        ensures kept { ⟦<HostSystem<R> as System>⟧.holds self.new.system ≡ ⟦<HostSystem<R> as System>⟧.holds self.old.system }
-        ensures changes { ⟦<HostSystem<R> as System>⟧.changes self.new.system ≡ ⟦<HostSystem<R> as System>⟧.changes self.old.system }
-        ensures still { ⟦<HostSystem<R> as System>⟧.folders self.new.system ≡ ⟦<HostSystem<R> as System>⟧.folders self.old.system }
-        ensures earlier { ⟦<HostSystem<R> as System>⟧.honest self.new.system → ⟦<HostSystem<R> as System>⟧.honest self.old.system }
+        ensures kept { ⟦<HostSystem<R> as System>⟧.holds self.new.system
+            ≡ ⟦<HostSystem<R> as System>⟧.holds self.old.system }
+        ensures changes { ⟦<HostSystem<R> as System>⟧.changes self.new.system
+            ≡ ⟦<HostSystem<R> as System>⟧.changes self.old.system }
+        ensures still { ⟦<HostSystem<R> as System>⟧.folders self.new.system
+            ≡ ⟦<HostSystem<R> as System>⟧.folders self.old.system }
+        ensures earlier { ⟦<HostSystem<R> as System>⟧.honest self.new.system
+            → ⟦<HostSystem<R> as System>⟧.honest self.old.system }
         ensures read { ⟦<HostSystem<R> as System>⟧.honest self.new.system → self.old.remembered.files.items ≡ []
-            → IfOk result (IsReadWith foreign (⟦<HostSystem<R> as System>⟧.folders self.new.system) (⟦<HostSystem<R> as System>⟧.holds self.new.system) path.now limit) }
+            → IfOk result (IsReadWith foreign (⟦<HostSystem<R> as System>⟧.folders self.new.system)
+            (⟦<HostSystem<R> as System>⟧.holds self.new.system) path.now limit) }
     {
         let reading = self.read(alloc, path, limit)?;
         match (&reading, foreign) {
-            (Reading::Absent, Foreign::TooLong) if !is_kept_out(path.text()) => {
+            (Reading::Absent, Foreign::TooLong) if !is_ignored(path.text()) => {
                 self.foreign_or(alloc, path, reading)
             }
             _ => Ok(reading),
@@ -92,12 +101,18 @@ impl<R: Files<File = File> + AllocGlobal + Clone + Drop> RootFolder<R> {
         reading: Reading,
     ) -> Result<Reading, FolderFault>
         ensures within { (limit : ℕ) → IsWithin limit reading → IfOk result (IsWithin limit) }
-        ensures kept { ⟦<HostSystem<R> as System>⟧.holds self.new.system ≡ ⟦<HostSystem<R> as System>⟧.holds self.old.system }
-        ensures changes { ⟦<HostSystem<R> as System>⟧.changes self.new.system ≡ ⟦<HostSystem<R> as System>⟧.changes self.old.system }
-        ensures still { ⟦<HostSystem<R> as System>⟧.folders self.new.system ≡ ⟦<HostSystem<R> as System>⟧.folders self.old.system }
-        ensures earlier { ⟦<HostSystem<R> as System>⟧.honest self.new.system → ⟦<HostSystem<R> as System>⟧.honest self.old.system }
-        ensures told { ⟦<HostSystem<R> as System>⟧.honest self.new.system
-            → IfOk result (λ told. (told ≡ reading) ⊎ ((told ≡ Reading.TooLong) × IsPlaceAt (⟦<HostSystem<R> as System>⟧.folders self.new.system) (⟦<HostSystem<R> as System>⟧.holds self.new.system) path.now (current_of self.new.trail) Place.Other)) }
+        ensures kept { ⟦<HostSystem<R> as System>⟧.holds self.new.system
+            ≡ ⟦<HostSystem<R> as System>⟧.holds self.old.system }
+        ensures changes { ⟦<HostSystem<R> as System>⟧.changes self.new.system
+            ≡ ⟦<HostSystem<R> as System>⟧.changes self.old.system }
+        ensures still { ⟦<HostSystem<R> as System>⟧.folders self.new.system
+            ≡ ⟦<HostSystem<R> as System>⟧.folders self.old.system }
+        ensures earlier { ⟦<HostSystem<R> as System>⟧.honest self.new.system
+            → ⟦<HostSystem<R> as System>⟧.honest self.old.system }
+        ensures reported { ⟦<HostSystem<R> as System>⟧.honest self.new.system
+            → IfOk result (λ reported. (reported ≡ reading) ⊎ ((reported ≡ Reading.TooLong) × IsPlaceAt
+            (⟦<HostSystem<R> as System>⟧.folders self.new.system) (⟦<HostSystem<R> as System>⟧.holds self.new.system)
+            path.now (current_of self.new.open_folders) Place.Other)) }
     {
         match self.look(alloc, path)? {
             Place::Other => Ok(Reading::TooLong),
@@ -114,7 +129,7 @@ impl<R: Files<File = File> + AllocGlobal + Clone + Drop> RootFolder<R> {
         limit: usize,
     ) -> Option<Bytes>
         ensures system { self.new.system ≡ self.old.system }
-        ensures trail { self.new.trail ≡ self.old.trail }
+        ensures open_folders { self.new.open_folders ≡ self.old.open_folders }
         ensures within { IfSome result (λ bytes. length bytes ≤ limit) }
         ensures none { self.old.remembered.files.items ≡ [] → result ≡ None }
     {
@@ -139,15 +154,22 @@ impl<R: Files<File = File> + AllocGlobal + Clone + Drop> RootFolder<R> {
         status: FileStatus,
     ) -> Result<Reading, FolderFault>
         ensures within { IfOk result (IsWithin limit) }
-        ensures kept { ⟦<HostSystem<R> as System>⟧.holds self.new.system ≡ ⟦<HostSystem<R> as System>⟧.holds self.old.system }
-        ensures changes { ⟦<HostSystem<R> as System>⟧.changes self.new.system ≡ ⟦<HostSystem<R> as System>⟧.changes self.old.system }
-        ensures still { ⟦<HostSystem<R> as System>⟧.folders self.new.system ≡ ⟦<HostSystem<R> as System>⟧.folders self.old.system }
+        ensures kept { ⟦<HostSystem<R> as System>⟧.holds self.new.system
+            ≡ ⟦<HostSystem<R> as System>⟧.holds self.old.system }
+        ensures changes { ⟦<HostSystem<R> as System>⟧.changes self.new.system
+            ≡ ⟦<HostSystem<R> as System>⟧.changes self.old.system }
+        ensures still { ⟦<HostSystem<R> as System>⟧.folders self.new.system
+            ≡ ⟦<HostSystem<R> as System>⟧.folders self.old.system }
         ensures earlier { ⟦<HostSystem<R> as System>⟧.honest self.new.system
             → ⟦<HostSystem<R> as System>⟧.honest self.old.system }
         ensures read { ⟦<HostSystem<R> as System>⟧.honest self.new.system
-            → LiesIn (⟦<HostSystem<R> as System>⟧.folders self.old.system) path.now (current_of self.old.trail) (Place.File status)
-            → IsPlaceAt (⟦<HostSystem<R> as System>⟧.folders self.old.system) (⟦<HostSystem<R> as System>⟧.holds self.old.system) path.now (current_of self.old.trail) (Place.File status)
-            → IfOk result (IsReadAt (⟦<HostSystem<R> as System>⟧.folders self.new.system) (⟦<HostSystem<R> as System>⟧.holds self.new.system) path.now limit) }
+            → LiesIn (⟦<HostSystem<R> as System>⟧.folders self.old.system) path.now (current_of self.old.open_folders)
+            (Place.File status)
+            → IsPlaceAt (⟦<HostSystem<R> as System>⟧.folders self.old.system)
+            (⟦<HostSystem<R> as System>⟧.holds self.old.system) path.now (current_of self.old.open_folders)
+            (Place.File status)
+            → IfOk result (IsReadAt (⟦<HostSystem<R> as System>⟧.folders self.new.system)
+            (⟦<HostSystem<R> as System>⟧.holds self.new.system) path.now limit) }
         ensures noted { IfOk result (λ _. IsNoted self.new.reads.items path.now) }
     {
         match self.read_anew(alloc, path, limit, status)? {
@@ -164,23 +186,27 @@ impl<R: Files<File = File> + AllocGlobal + Clone + Drop> RootFolder<R> {
         limit: usize,
     ) -> Result<Reading, FolderFault>
         ensures within { IfOk result (IsWithin limit) }
-        ensures kept { ⟦<HostSystem<R> as System>⟧.holds self.new.system ≡ ⟦<HostSystem<R> as System>⟧.holds self.old.system }
-        ensures changes { ⟦<HostSystem<R> as System>⟧.changes self.new.system ≡ ⟦<HostSystem<R> as System>⟧.changes self.old.system }
-        ensures still { ⟦<HostSystem<R> as System>⟧.folders self.new.system ≡ ⟦<HostSystem<R> as System>⟧.folders self.old.system }
+        ensures kept { ⟦<HostSystem<R> as System>⟧.holds self.new.system
+            ≡ ⟦<HostSystem<R> as System>⟧.holds self.old.system }
+        ensures changes { ⟦<HostSystem<R> as System>⟧.changes self.new.system
+            ≡ ⟦<HostSystem<R> as System>⟧.changes self.old.system }
+        ensures still { ⟦<HostSystem<R> as System>⟧.folders self.new.system
+            ≡ ⟦<HostSystem<R> as System>⟧.folders self.old.system }
         ensures earlier { ⟦<HostSystem<R> as System>⟧.honest self.new.system
             → ⟦<HostSystem<R> as System>⟧.honest self.old.system }
         ensures read { ⟦<HostSystem<R> as System>⟧.honest self.new.system
-            → IfOk result (IsReadAt (⟦<HostSystem<R> as System>⟧.folders self.new.system) (⟦<HostSystem<R> as System>⟧.holds self.new.system) path.now limit) }
+            → IfOk result (IsReadAt (⟦<HostSystem<R> as System>⟧.folders self.new.system)
+            (⟦<HostSystem<R> as System>⟧.holds self.new.system) path.now limit) }
         ensures noted { IfOk result (λ _. IsNoted self.new.reads.items path.now) }
     {
         let Place::File(status) = self.look(alloc, path)? else {
             self.note_read(alloc, path, None)?;
             return Ok(Reading::Absent);
         };
-        self.keeping.note_read(path.text(), status);
+        self.ownership.note_read(path.text(), status);
         match self.read_anew(alloc, path, limit, status)? {
             Some(reading) => Ok(reading),
-            None => Err(FolderFault::Device(Obstacle::Changing)),
+            None => Err(FolderFault::Device(IoReason::Changing)),
         }
     }
 
@@ -194,15 +220,21 @@ impl<R: Files<File = File> + AllocGlobal + Clone + Drop> RootFolder<R> {
         status: FileStatus,
     ) -> Result<Option<Reading>, FolderFault>
         ensures within { IfOk result (λ read. IfSome read (IsWithin limit)) }
-        ensures kept { ⟦<HostSystem<R> as System>⟧.holds self.new.system ≡ ⟦<HostSystem<R> as System>⟧.holds self.old.system }
-        ensures changes { ⟦<HostSystem<R> as System>⟧.changes self.new.system ≡ ⟦<HostSystem<R> as System>⟧.changes self.old.system }
-        ensures still { ⟦<HostSystem<R> as System>⟧.folders self.new.system ≡ ⟦<HostSystem<R> as System>⟧.folders self.old.system }
+        ensures kept { ⟦<HostSystem<R> as System>⟧.holds self.new.system
+            ≡ ⟦<HostSystem<R> as System>⟧.holds self.old.system }
+        ensures changes { ⟦<HostSystem<R> as System>⟧.changes self.new.system
+            ≡ ⟦<HostSystem<R> as System>⟧.changes self.old.system }
+        ensures still { ⟦<HostSystem<R> as System>⟧.folders self.new.system
+            ≡ ⟦<HostSystem<R> as System>⟧.folders self.old.system }
         ensures earlier { ⟦<HostSystem<R> as System>⟧.honest self.new.system
             → ⟦<HostSystem<R> as System>⟧.honest self.old.system }
-        ensures trail { self.new.trail ≡ self.old.trail }
+        ensures open_folders { self.new.open_folders ≡ self.old.open_folders }
         ensures read { ⟦<HostSystem<R> as System>⟧.honest self.new.system
-            → IsPlaceAt (⟦<HostSystem<R> as System>⟧.folders self.old.system) (⟦<HostSystem<R> as System>⟧.holds self.old.system) path.now (current_of self.old.trail) (Place.File status)
-            → IfOk result (λ read. IfSome read (IsReadIn (current_of self.old.trail) path.now limit (⟦<HostSystem<R> as System>⟧.holds self.old.system))) }
+            → IsPlaceAt (⟦<HostSystem<R> as System>⟧.folders self.old.system)
+            (⟦<HostSystem<R> as System>⟧.holds self.old.system) path.now (current_of self.old.open_folders)
+            (Place.File status)
+            → IfOk result (λ read. IfSome read (IsReadIn (current_of self.old.open_folders) path.now limit
+            (⟦<HostSystem<R> as System>⟧.holds self.old.system))) }
         ensures noted { IfOk result (λ read. IfSome read (λ _. IsNoted self.new.reads.items path.now)) }
     {
         if status.len > limit as u64 {
@@ -210,7 +242,7 @@ impl<R: Files<File = File> + AllocGlobal + Clone + Drop> RootFolder<R> {
             return Ok(Some(Reading::TooLong));
         }
         let (_, name) = folder_and_name(path.text());
-        let folder = self.trail.current()?;
+        let folder = self.open_folders.current()?;
         let Some(file) = self.system.open(folder, name, status)? else {
             return Ok(None);
         };
@@ -228,7 +260,7 @@ impl<R: Files<File = File> + AllocGlobal + Clone + Drop> RootFolder<R> {
         reading: &Reading,
     ) -> Result<(), AllocError>
         ensures system { self.new.system ≡ self.old.system }
-        ensures trail { self.new.trail ≡ self.old.trail }
+        ensures open_folders { self.new.open_folders ≡ self.old.open_folders }
         ensures noted { IfOk result (λ _. IsNoted self.new.reads.items path.now) }
     {
         if let Reading::Found(bytes) = reading {
@@ -240,7 +272,7 @@ impl<R: Files<File = File> + AllocGlobal + Clone + Drop> RootFolder<R> {
     /// Forgets the older half of the paths that were read, if there are too many.
     fn forget_older_reads(&mut self)
         ensures system { self.new.system ≡ self.old.system }
-        ensures trail { self.new.trail ≡ self.old.trail }
+        ensures open_folders { self.new.open_folders ≡ self.old.open_folders }
     {
         if self.reads.len() >= MOST_SEEN {
             self.reads.reverse();
@@ -249,7 +281,7 @@ impl<R: Files<File = File> + AllocGlobal + Clone + Drop> RootFolder<R> {
         }
     }
 
-    /// The path was read, and this was told of the regular file there, if there was one.
+    /// The path was read, and this was reported of the regular file there, if there was one.
     fn note_read(
         &mut self,
         alloc: Global,
@@ -257,7 +289,7 @@ impl<R: Files<File = File> + AllocGlobal + Clone + Drop> RootFolder<R> {
         seen: Option<FileStatus>,
     ) -> Result<(), AllocError>
         ensures system { self.new.system ≡ self.old.system }
-        ensures trail { self.new.trail ≡ self.old.trail }
+        ensures open_folders { self.new.open_folders ≡ self.old.open_folders }
         ensures seen { IfOk result (λ _. IsSeenBefore self.new.reads.items path.now (expected_of seen)) }
         ensures noted { IfOk result (λ _. IsNoted self.new.reads.items path.now) }
     {

@@ -4,10 +4,10 @@ ghost use Rattle.reuse_folder.specs.Seen.{expected_of, IsSeenAs, IsSeenBefore};
 ghost use Rattle.reuse_folder.specs.declared.folder.seen.ReadPath.{ReadPath};
 
 use reuse_change::PathText;
-use reuse_system::fault::{FolderFault, Obstacle};
+use reuse_system::fault::{FolderFault, IoReason};
 use reuse_system::place::FileStatus;
 
-/// A path that was read, and what the system told of the regular file there, if there was one.
+/// A path that was read, and what the system reported of the regular file there, if there was one.
 #[derive(Drop)]
 pub struct ReadPath {
     pub path: PathText,
@@ -54,7 +54,7 @@ impl Expected {
         match self {
             Expected::Found => Ok(found),
             Expected::File(status) => Ok(status),
-            Expected::Nothing => Err(FolderFault::Device(Obstacle::Changing)),
+            Expected::Nothing => Err(FolderFault::Device(IoReason::Changing)),
         }
     }
 
@@ -67,7 +67,7 @@ impl Expected {
     {
         match self {
             Expected::Found | Expected::Nothing => Ok(()),
-            Expected::File(_) => Err(FolderFault::Device(Obstacle::Changing)),
+            Expected::File(_) => Err(FolderFault::Device(IoReason::Changing)),
         }
     }
 }

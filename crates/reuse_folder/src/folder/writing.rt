@@ -1,14 +1,14 @@
 //! Putting and removing a file. What a put makes of the names is stated by what each call of the
 //! system makes of them, whatever was there.
 ghost use Rattle.std.specs.Prelude.{◌≡◌, is_ok, IfOk, IsErr, IsTrue};
-ghost use Rattle.reuse_system.specs.KeptOut.{is_kept_out};
+ghost use Rattle.reuse_system.specs.Ignored.{is_ignored};
 
 use super::RootFolder;
 use super::seen::{Expected, expected_at};
 use reuse_change::layout::JOURNAL;
-use reuse_change::{Parts, PathText};
+use reuse_change::{PathText, Pieces};
 use reuse_disk::{Content, NewFile, Target, list_below, remove_folders, remove_seen};
-use reuse_system::fault::{FolderFault, Obstacle};
+use reuse_system::fault::{FolderFault, IoReason};
 use reuse_system::new_name::new_names;
 use reuse_system::place::{FileStatus, Place, folder_and_name};
 use reuse_system::system::{HostSystem, System};
@@ -17,7 +17,8 @@ use std::fs::File;
 use std::rt::Files;
 
 impl<R: Files<File = File> + AllocGlobal + Clone + Drop> RootFolder<R> {
-    ghost use Rattle.reuse_folder.specs.FolderWrites.{IsCleared, IsGone, IsPutAt, IsPutIn, IsRemovedAt, IsRemovedIn, IsStoredAt};
+    ghost use Rattle.reuse_folder.specs.FolderWrites.{IsCleared, IsGone, IsPutAt, IsPutIn, IsRemovedAt, IsRemovedIn};
+    ghost use Rattle.reuse_folder.specs.FolderWrites.{IsStoredAt};
     ghost use Rattle.reuse_disk.specs.Written.{is_kept};
     ghost use Rattle.reuse_folder.specs.Seen.{IsSeenAs, IsSeenBefore, LosesNoEdit, LosesNoEditAfter};
     ghost use Rattle.reuse_change.specs.Parts.{joined};
@@ -25,7 +26,7 @@ impl<R: Files<File = File> + AllocGlobal + Clone + Drop> RootFolder<R> {
     /// What is expected at the path, by the reads since the last write, which are forgotten.
     fn take_expected(&mut self, path: &PathText) -> Expected
         ensures kept { self.new.system ≡ self.old.system }
-        ensures trail { self.new.trail ≡ self.old.trail }
+        ensures open_folders { self.new.open_folders ≡ self.old.open_folders }
         ensures syncs { self.new.unsynced.syncs ≡ self.old.unsynced.syncs }
         ensures expected { IsSeenBefore self.old.reads.items path.now result }
     {
@@ -36,18 +37,25 @@ impl<R: Files<File = File> + AllocGlobal + Clone + Drop> RootFolder<R> {
 
     /// Makes the parts joined the file at the path, as a whole or not at all, and folders as
     /// needed.
-    pub fn put(&mut self, alloc: Global, path: &PathText, parts: Parts) -> Result<(), FolderFault>
+    pub fn put(&mut self, alloc: Global, path: &PathText, parts: Pieces) -> Result<(), FolderFault>
         ensures written { IsPutAt path.now (joined parts.entry) (is_kept self.old.unsynced.syncs)
-            (⟦<HostSystem<R> as System>⟧.holds self.old.system) (⟦<HostSystem<R> as System>⟧.holds self.new.system) (is_ok result) }
+            (⟦<HostSystem<R> as System>⟧.holds self.old.system) (⟦<HostSystem<R> as System>⟧.holds self.new.system)
+            (is_ok result) }
         ensures place { ⟦<HostSystem<R> as System>⟧.honest self.new.system
-            → IsPutIn (⟦<HostSystem<R> as System>⟧.folders self.new.system) path.now (joined parts.entry) (is_kept self.old.unsynced.syncs)
-            (⟦<HostSystem<R> as System>⟧.holds self.old.system) (⟦<HostSystem<R> as System>⟧.holds self.new.system) (is_ok result) }
+            → IsPutIn (⟦<HostSystem<R> as System>⟧.folders self.new.system) path.now (joined parts.entry)
+            (is_kept self.old.unsynced.syncs)
+            (⟦<HostSystem<R> as System>⟧.holds self.old.system) (⟦<HostSystem<R> as System>⟧.holds self.new.system)
+            (is_ok result) }
         ensures stands { ⟦<HostSystem<R> as System>⟧.honest self.new.system
-            → IfOk result (λ _. IsStoredAt (⟦<HostSystem<R> as System>⟧.folders self.new.system) (⟦<HostSystem<R> as System>⟧.holds self.new.system) path.now (joined parts.entry) (is_kept self.old.unsynced.syncs)) }
-        ensures earlier { ⟦<HostSystem<R> as System>⟧.honest self.new.system → ⟦<HostSystem<R> as System>⟧.honest self.old.system }
-        ensures kept_out { IsTrue (is_kept_out path.now) → IsErr result }
+            → IfOk result (λ _. IsStoredAt (⟦<HostSystem<R> as System>⟧.folders self.new.system)
+            (⟦<HostSystem<R> as System>⟧.holds self.new.system) path.now (joined parts.entry)
+            (is_kept self.old.unsynced.syncs)) }
+        ensures earlier { ⟦<HostSystem<R> as System>⟧.honest self.new.system
+            → ⟦<HostSystem<R> as System>⟧.honest self.old.system }
+        ensures ignored { IsTrue (is_ignored path.now) → IsErr result }
         // The file at the path stays if it isn't what was read there.
-        ensures keeps_edits { LosesNoEditAfter self.old.reads.items path.now (⟦<HostSystem<R> as System>⟧.changes self.old.system) (⟦<HostSystem<R> as System>⟧.changes self.new.system)
+        ensures keeps_edits { LosesNoEditAfter self.old.reads.items path.now
+            (⟦<HostSystem<R> as System>⟧.changes self.old.system) (⟦<HostSystem<R> as System>⟧.changes self.new.system)
             (⟦<HostSystem<R> as System>⟧.holds self.old.system) (⟦<HostSystem<R> as System>⟧.holds self.new.system) }
     {
         let expected = self.take_expected(path);
@@ -59,19 +67,26 @@ impl<R: Files<File = File> + AllocGlobal + Clone + Drop> RootFolder<R> {
         &mut self,
         alloc: Global,
         path: &PathText,
-        parts: Parts,
+        parts: Pieces,
         expected: Expected,
     ) -> Result<(), FolderFault>
         ensures written { IsPutAt path.now (joined parts.entry) (is_kept self.old.unsynced.syncs)
-            (⟦<HostSystem<R> as System>⟧.holds self.old.system) (⟦<HostSystem<R> as System>⟧.holds self.new.system) (is_ok result) }
+            (⟦<HostSystem<R> as System>⟧.holds self.old.system) (⟦<HostSystem<R> as System>⟧.holds self.new.system)
+            (is_ok result) }
         ensures place { ⟦<HostSystem<R> as System>⟧.honest self.new.system
-            → IsPutIn (⟦<HostSystem<R> as System>⟧.folders self.new.system) path.now (joined parts.entry) (is_kept self.old.unsynced.syncs)
-            (⟦<HostSystem<R> as System>⟧.holds self.old.system) (⟦<HostSystem<R> as System>⟧.holds self.new.system) (is_ok result) }
+            → IsPutIn (⟦<HostSystem<R> as System>⟧.folders self.new.system) path.now (joined parts.entry)
+            (is_kept self.old.unsynced.syncs)
+            (⟦<HostSystem<R> as System>⟧.holds self.old.system) (⟦<HostSystem<R> as System>⟧.holds self.new.system)
+            (is_ok result) }
         ensures stands { ⟦<HostSystem<R> as System>⟧.honest self.new.system
-            → IfOk result (λ _. IsStoredAt (⟦<HostSystem<R> as System>⟧.folders self.new.system) (⟦<HostSystem<R> as System>⟧.holds self.new.system) path.now (joined parts.entry) (is_kept self.old.unsynced.syncs)) }
-        ensures earlier { ⟦<HostSystem<R> as System>⟧.honest self.new.system → ⟦<HostSystem<R> as System>⟧.honest self.old.system }
-        ensures kept_out { IsTrue (is_kept_out path.now) → IsErr result }
-        ensures keeps_edits { LosesNoEdit path.now expected (⟦<HostSystem<R> as System>⟧.changes self.old.system) (⟦<HostSystem<R> as System>⟧.changes self.new.system)
+            → IfOk result (λ _. IsStoredAt (⟦<HostSystem<R> as System>⟧.folders self.new.system)
+            (⟦<HostSystem<R> as System>⟧.holds self.new.system) path.now (joined parts.entry)
+            (is_kept self.old.unsynced.syncs)) }
+        ensures earlier { ⟦<HostSystem<R> as System>⟧.honest self.new.system
+            → ⟦<HostSystem<R> as System>⟧.honest self.old.system }
+        ensures ignored { IsTrue (is_ignored path.now) → IsErr result }
+        ensures keeps_edits { LosesNoEdit path.now expected (⟦<HostSystem<R> as System>⟧.changes self.old.system)
+            (⟦<HostSystem<R> as System>⟧.changes self.new.system)
             (⟦<HostSystem<R> as System>⟧.holds self.old.system) (⟦<HostSystem<R> as System>⟧.holds self.new.system) }
     {
         let found = self.make_room(alloc, path, expected)?;
@@ -86,24 +101,27 @@ impl<R: Files<File = File> + AllocGlobal + Clone + Drop> RootFolder<R> {
         path: &PathText,
         expected: Expected,
     ) -> Result<Option<FileStatus>, FolderFault>
-        ensures kept { ⟦<HostSystem<R> as System>⟧.holds self.new.system ≡ ⟦<HostSystem<R> as System>⟧.holds self.old.system }
-        ensures changes { ⟦<HostSystem<R> as System>⟧.changes self.new.system ≡ ⟦<HostSystem<R> as System>⟧.changes self.old.system }
-        ensures earlier { ⟦<HostSystem<R> as System>⟧.honest self.new.system → ⟦<HostSystem<R> as System>⟧.honest self.old.system }
+        ensures kept { ⟦<HostSystem<R> as System>⟧.holds self.new.system
+            ≡ ⟦<HostSystem<R> as System>⟧.holds self.old.system }
+        ensures changes { ⟦<HostSystem<R> as System>⟧.changes self.new.system
+            ≡ ⟦<HostSystem<R> as System>⟧.changes self.old.system }
+        ensures earlier { ⟦<HostSystem<R> as System>⟧.honest self.new.system
+            → ⟦<HostSystem<R> as System>⟧.honest self.old.system }
         ensures syncs { self.new.unsynced.syncs ≡ self.old.unsynced.syncs }
-        ensures kept_out { IsTrue (is_kept_out path.now) → IsErr result }
+        ensures ignored { IsTrue (is_ignored path.now) → IsErr result }
         ensures seen { IfOk result (IsSeenAs expected) }
     {
         let (folder, _) = folder_and_name(path.text());
-        self.keeping.check_hold()?;
+        self.ownership.check_guard()?;
         match self.look_unless_seen(alloc, path, expected.read_file())? {
             Place::Nothing => {
                 expected.nothing()?;
-                self.trail
+                self.open_folders
                     .make(&mut self.system, alloc, folder, &mut self.unsynced)?;
                 Ok(None)
             }
             Place::File(status) => {
-                self.keeping.check(path.text(), status)?;
+                self.ownership.check(path.text(), status)?;
                 Ok(Some(expected.file(status)?))
             }
             Place::BelowFile => Err(FolderFault::Clash),
@@ -112,7 +130,7 @@ impl<R: Files<File = File> + AllocGlobal + Clone + Drop> RootFolder<R> {
                 self.clear_folder(alloc, path)?;
                 Ok(None)
             }
-            Place::Other => Err(FolderFault::Device(Obstacle::Foreign)),
+            Place::Other => Err(FolderFault::Device(IoReason::Foreign)),
         }
     }
 
@@ -121,30 +139,36 @@ impl<R: Files<File = File> + AllocGlobal + Clone + Drop> RootFolder<R> {
         &mut self,
         alloc: Global,
         path: &PathText,
-        parts: Parts,
+        parts: Pieces,
         found: Option<FileStatus>,
     ) -> Result<(), FolderFault>
         ensures written { IsPutAt path.now (joined parts.entry) (is_kept self.old.unsynced.syncs)
-            (⟦<HostSystem<R> as System>⟧.holds self.old.system) (⟦<HostSystem<R> as System>⟧.holds self.new.system) (is_ok result) }
+            (⟦<HostSystem<R> as System>⟧.holds self.old.system) (⟦<HostSystem<R> as System>⟧.holds self.new.system)
+            (is_ok result) }
         ensures place { ⟦<HostSystem<R> as System>⟧.honest self.new.system
-            → IsPutIn (⟦<HostSystem<R> as System>⟧.folders self.new.system) path.now (joined parts.entry) (is_kept self.old.unsynced.syncs)
-            (⟦<HostSystem<R> as System>⟧.holds self.old.system) (⟦<HostSystem<R> as System>⟧.holds self.new.system) (is_ok result) }
-        ensures earlier { ⟦<HostSystem<R> as System>⟧.honest self.new.system → ⟦<HostSystem<R> as System>⟧.honest self.old.system }
+            → IsPutIn (⟦<HostSystem<R> as System>⟧.folders self.new.system) path.now (joined parts.entry)
+            (is_kept self.old.unsynced.syncs)
+            (⟦<HostSystem<R> as System>⟧.holds self.old.system) (⟦<HostSystem<R> as System>⟧.holds self.new.system)
+            (is_ok result) }
+        ensures earlier { ⟦<HostSystem<R> as System>⟧.honest self.new.system
+            → ⟦<HostSystem<R> as System>⟧.honest self.old.system }
         ensures keeps_edits { (expected : Expected) → IsSeenAs expected found → LosesNoEdit path.now expected
-            (⟦<HostSystem<R> as System>⟧.changes self.old.system) (⟦<HostSystem<R> as System>⟧.changes self.new.system) (⟦<HostSystem<R> as System>⟧.holds self.old.system) (⟦<HostSystem<R> as System>⟧.holds self.new.system) }
+            (⟦<HostSystem<R> as System>⟧.changes self.old.system) (⟦<HostSystem<R> as System>⟧.changes self.new.system)
+            (⟦<HostSystem<R> as System>⟧.holds self.old.system) (⟦<HostSystem<R> as System>⟧.holds self.new.system) }
     {
         let (folder, name) = folder_and_name(path.text());
         self.unsynced.note(alloc, folder)?;
         let mut new_file = self.take_new_file(alloc)?;
-        self.trail.enter_seen(&mut self.system, alloc, folder)?;
+        self.open_folders
+            .enter_seen(&mut self.system, alloc, folder)?;
         let target = Target {
-            folder: self.trail.current()?,
+            folder: self.open_folders.current()?,
             name,
             path: path.text(),
         };
         let content = Content {
             parts,
-            wanted: self.keeping.wanted(target.folder, found),
+            wanted: self.ownership.wanted(target.folder, found),
             found,
         };
         let written = new_file.write(&mut self.system, alloc, target, content, &mut self.unsynced);
@@ -164,7 +188,7 @@ impl<R: Files<File = File> + AllocGlobal + Clone + Drop> RootFolder<R> {
         ensures { self.new.system ≡ self.old.system }
     {
         if is_done {
-            self.keeping
+            self.ownership
                 .note_written(path.text(), found, new_file.kept());
             self.new_file = Some(new_file);
         }
@@ -172,8 +196,11 @@ impl<R: Files<File = File> + AllocGlobal + Clone + Drop> RootFolder<R> {
 
     /// The place of new files, opened as needed.
     pub(super) fn take_new_file(&mut self, alloc: Global) -> Result<NewFile, FolderFault>
-        ensures cleared { IsCleared (⟦<HostSystem<R> as System>⟧.changes self.old.system) (⟦<HostSystem<R> as System>⟧.changes self.new.system) (⟦<HostSystem<R> as System>⟧.holds self.old.system) (⟦<HostSystem<R> as System>⟧.holds self.new.system) result }
-        ensures earlier { ⟦<HostSystem<R> as System>⟧.honest self.new.system → ⟦<HostSystem<R> as System>⟧.honest self.old.system }
+        ensures cleared { IsCleared (⟦<HostSystem<R> as System>⟧.changes self.old.system)
+            (⟦<HostSystem<R> as System>⟧.changes self.new.system) (⟦<HostSystem<R> as System>⟧.holds self.old.system)
+            (⟦<HostSystem<R> as System>⟧.holds self.new.system) result }
+        ensures earlier { ⟦<HostSystem<R> as System>⟧.honest self.new.system
+            → ⟦<HostSystem<R> as System>⟧.honest self.old.system }
         ensures syncs { self.new.unsynced.syncs ≡ self.old.unsynced.syncs }
     {
         match self.new_file.take() {
@@ -184,13 +211,16 @@ impl<R: Files<File = File> + AllocGlobal + Clone + Drop> RootFolder<R> {
 
     /// Opens the journal's folder for new files; it is made as needed.
     fn open_new_file(&mut self, alloc: Global) -> Result<NewFile, FolderFault>
-        ensures cleared { IsCleared (⟦<HostSystem<R> as System>⟧.changes self.old.system) (⟦<HostSystem<R> as System>⟧.changes self.new.system) (⟦<HostSystem<R> as System>⟧.holds self.old.system) (⟦<HostSystem<R> as System>⟧.holds self.new.system) result }
-        ensures earlier { ⟦<HostSystem<R> as System>⟧.honest self.new.system → ⟦<HostSystem<R> as System>⟧.honest self.old.system }
+        ensures cleared { IsCleared (⟦<HostSystem<R> as System>⟧.changes self.old.system)
+            (⟦<HostSystem<R> as System>⟧.changes self.new.system) (⟦<HostSystem<R> as System>⟧.holds self.old.system)
+            (⟦<HostSystem<R> as System>⟧.holds self.new.system) result }
+        ensures earlier { ⟦<HostSystem<R> as System>⟧.honest self.new.system
+            → ⟦<HostSystem<R> as System>⟧.honest self.old.system }
         ensures syncs { self.new.unsynced.syncs ≡ self.old.unsynced.syncs }
     {
-        self.trail
+        self.open_folders
             .make(&mut self.system, alloc, JOURNAL, &mut self.unsynced)?;
-        let folder = self.trail.current()?.try_clone(alloc)?;
+        let folder = self.open_folders.current()?.try_clone(alloc)?;
         let names = new_names(self.system.rt(), alloc, &folder)?;
         let new_file = NewFile::in_folder(alloc, folder);
         new_file.clear(&mut self.system, &names)?;
@@ -199,31 +229,39 @@ impl<R: Files<File = File> + AllocGlobal + Clone + Drop> RootFolder<R> {
 
     /// Removes a folder without files, so that a file can take its place; with files it is a clash.
     fn clear_folder(&mut self, alloc: Global, path: &PathText) -> Result<(), FolderFault>
-        ensures kept { ⟦<HostSystem<R> as System>⟧.holds self.new.system ≡ ⟦<HostSystem<R> as System>⟧.holds self.old.system }
-        ensures changes { ⟦<HostSystem<R> as System>⟧.changes self.new.system ≡ ⟦<HostSystem<R> as System>⟧.changes self.old.system }
-        ensures earlier { ⟦<HostSystem<R> as System>⟧.honest self.new.system → ⟦<HostSystem<R> as System>⟧.honest self.old.system }
+        ensures kept { ⟦<HostSystem<R> as System>⟧.holds self.new.system
+            ≡ ⟦<HostSystem<R> as System>⟧.holds self.old.system }
+        ensures changes { ⟦<HostSystem<R> as System>⟧.changes self.new.system
+            ≡ ⟦<HostSystem<R> as System>⟧.changes self.old.system }
+        ensures earlier { ⟦<HostSystem<R> as System>⟧.honest self.new.system
+            → ⟦<HostSystem<R> as System>⟧.honest self.old.system }
         ensures syncs { self.new.unsynced.syncs ≡ self.old.unsynced.syncs }
     {
-        let (system, trail) = (&mut self.system, &mut self.trail);
-        let files = list_below(system, alloc, trail, path.text(), &mut self.listed)?;
+        let (system, open_folders) = (&mut self.system, &mut self.open_folders);
+        let files = list_below(system, alloc, open_folders, path.text(), &mut self.listed)?;
         if !files.is_empty() {
             return Err(FolderFault::Clash);
         }
         let (folder, _) = folder_and_name(path.text());
         self.unsynced.note(alloc, folder)?;
-        remove_folders(system, alloc, trail, path.text())
+        remove_folders(system, alloc, open_folders, path.text())
     }
 
     /// Removes the regular file at the path, if there is one, and no folder.
     pub fn remove(&mut self, alloc: Global, path: &PathText) -> Result<(), FolderFault>
-        ensures removed { IsRemovedAt path.now (⟦<HostSystem<R> as System>⟧.holds self.old.system) (⟦<HostSystem<R> as System>⟧.holds self.new.system) }
-        ensures still { ⟦<HostSystem<R> as System>⟧.folders self.new.system ≡ ⟦<HostSystem<R> as System>⟧.folders self.old.system }
+        ensures removed { IsRemovedAt path.now (⟦<HostSystem<R> as System>⟧.holds self.old.system)
+            (⟦<HostSystem<R> as System>⟧.holds self.new.system) }
+        ensures still { ⟦<HostSystem<R> as System>⟧.folders self.new.system
+            ≡ ⟦<HostSystem<R> as System>⟧.folders self.old.system }
         ensures place { ⟦<HostSystem<R> as System>⟧.honest self.new.system
-            → IsRemovedIn (⟦<HostSystem<R> as System>⟧.folders self.new.system) path.now (⟦<HostSystem<R> as System>⟧.holds self.old.system) (⟦<HostSystem<R> as System>⟧.holds self.new.system) }
+            → IsRemovedIn (⟦<HostSystem<R> as System>⟧.folders self.new.system) path.now
+            (⟦<HostSystem<R> as System>⟧.holds self.old.system) (⟦<HostSystem<R> as System>⟧.holds self.new.system) }
         ensures gone { ⟦<HostSystem<R> as System>⟧.honest self.new.system
-            → IfOk result (λ _. IsGone (⟦<HostSystem<R> as System>⟧.folders self.new.system) (⟦<HostSystem<R> as System>⟧.holds self.new.system) path.now) }
+            → IfOk result (λ _. IsGone (⟦<HostSystem<R> as System>⟧.folders self.new.system)
+            (⟦<HostSystem<R> as System>⟧.holds self.new.system) path.now) }
         // The file at the path stays if it isn't what was read there.
-        ensures keeps_edits { LosesNoEditAfter self.old.reads.items path.now (⟦<HostSystem<R> as System>⟧.changes self.old.system) (⟦<HostSystem<R> as System>⟧.changes self.new.system)
+        ensures keeps_edits { LosesNoEditAfter self.old.reads.items path.now
+            (⟦<HostSystem<R> as System>⟧.changes self.old.system) (⟦<HostSystem<R> as System>⟧.changes self.new.system)
             (⟦<HostSystem<R> as System>⟧.holds self.old.system) (⟦<HostSystem<R> as System>⟧.holds self.new.system) }
     {
         let expected = self.take_expected(path);
@@ -237,13 +275,18 @@ impl<R: Files<File = File> + AllocGlobal + Clone + Drop> RootFolder<R> {
         path: &PathText,
         expected: Expected,
     ) -> Result<(), FolderFault>
-        ensures removed { IsRemovedAt path.now (⟦<HostSystem<R> as System>⟧.holds self.old.system) (⟦<HostSystem<R> as System>⟧.holds self.new.system) }
-        ensures still { ⟦<HostSystem<R> as System>⟧.folders self.new.system ≡ ⟦<HostSystem<R> as System>⟧.folders self.old.system }
+        ensures removed { IsRemovedAt path.now (⟦<HostSystem<R> as System>⟧.holds self.old.system)
+            (⟦<HostSystem<R> as System>⟧.holds self.new.system) }
+        ensures still { ⟦<HostSystem<R> as System>⟧.folders self.new.system
+            ≡ ⟦<HostSystem<R> as System>⟧.folders self.old.system }
         ensures place { ⟦<HostSystem<R> as System>⟧.honest self.new.system
-            → IsRemovedIn (⟦<HostSystem<R> as System>⟧.folders self.new.system) path.now (⟦<HostSystem<R> as System>⟧.holds self.old.system) (⟦<HostSystem<R> as System>⟧.holds self.new.system) }
+            → IsRemovedIn (⟦<HostSystem<R> as System>⟧.folders self.new.system) path.now
+            (⟦<HostSystem<R> as System>⟧.holds self.old.system) (⟦<HostSystem<R> as System>⟧.holds self.new.system) }
         ensures gone { ⟦<HostSystem<R> as System>⟧.honest self.new.system
-            → IfOk result (λ _. IsGone (⟦<HostSystem<R> as System>⟧.folders self.new.system) (⟦<HostSystem<R> as System>⟧.holds self.new.system) path.now) }
-        ensures keeps_edits { LosesNoEdit path.now expected (⟦<HostSystem<R> as System>⟧.changes self.old.system) (⟦<HostSystem<R> as System>⟧.changes self.new.system)
+            → IfOk result (λ _. IsGone (⟦<HostSystem<R> as System>⟧.folders self.new.system)
+            (⟦<HostSystem<R> as System>⟧.holds self.new.system) path.now) }
+        ensures keeps_edits { LosesNoEdit path.now expected (⟦<HostSystem<R> as System>⟧.changes self.old.system)
+            (⟦<HostSystem<R> as System>⟧.changes self.new.system)
             (⟦<HostSystem<R> as System>⟧.holds self.old.system) (⟦<HostSystem<R> as System>⟧.holds self.new.system) }
     {
         match self.look_unless_seen(alloc, path, expected.read_file())? {
@@ -252,7 +295,7 @@ impl<R: Files<File = File> + AllocGlobal + Clone + Drop> RootFolder<R> {
                 let (folder, name) = folder_and_name(path.text());
                 self.unsynced.note(alloc, folder)?;
                 let target = Target {
-                    folder: self.trail.current()?,
+                    folder: self.open_folders.current()?,
                     name,
                     path: path.text(),
                 };

@@ -1,6 +1,6 @@
 use Rattle.std.proofs.Common.{subst}
 use Rattle.reuse_lock.specs.Locks.{calls_of, IsGranted}
-use Rattle.reuse_lock.specs.declared.record.Hold.TheVariants.{Shared}
+use Rattle.reuse_lock.specs.declared.record.LockMode.TheVariants.{Shared}
 use Rattle.reuse_lock.proofs.LockLemmas.{locked_at, locked_at_none, on_ok}
 use Rattle.reuse_lock.proofs.+lock_at_slashes.Goals as goal
 

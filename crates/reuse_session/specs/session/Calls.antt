@@ -8,7 +8,8 @@ use Rattle.reuse_json.specs.EntryText.{entry_text}
 use Rattle.reuse_journal.specs.Journal.{State, ahead, next_count}
 use Rattle.reuse_journal.specs.JournalFiles.{head_path, entry_path, IsFree}
 use Rattle.reuse_plan.specs.Outcome.{edits_of, edit_count, recorded_size}
-use Rattle.reuse_session.specs.session.Session.{store_of, is_broken, memory_of, IsKept, IsRecordOf, StandsOn, StopsAfterReplay, StopsAfterRun}
+use Rattle.reuse_session.specs.session.Session.{store_of, is_broken, memory_of, IsKept, IsRecordOf, SimulatesState}
+use Rattle.reuse_session.specs.session.Session.{StopsAfterReplay, StopsAfterRun}
 use Rattle.reuse_journal.specs.Remembered.{listed_count, head_room, IsSameBut, IsSameButTwo, HasHeadText, HasEntryText}
 use Rattle.reuse_change.specs.Tree.{undo_folder_of}
 use Rattle.reuse_command.specs.declared.command.Command.{Command}
@@ -41,41 +42,43 @@ pub record IsCall {A S : Type 0} (store : Ghosts S) (result : Result A Refusal) 
   pub later : IsLater store (store_of old) (store_of new)
 
 -- What an undo or a redo leaves. It puts nothing in the journal but heads.
-pub record LeavesReplay {S : Type 0} (store : Ghosts S) (direction : Direction) (result : Result Response Refusal) (old new : Session S) : Type 0 where
+pub record LeavesReplay {S : Type 0} (store : Ghosts S) (direction : Direction) (result : Result Response Refusal)
+    (old new : Session S) : Type 0 where
   -- a refusal before the step is pending has only read
   pub early : IfErr result (λ refusal. IsEarly refusal → OnlyReads store (store_of old) (store_of new))
-  -- where it stops later something was put, and the files are in doubt between the standing before the call and that
-  -- after it
-  pub doubt : store.honest (store_of new) → (held : State) → StandsOn store.files old held
+  -- where it stops later something was put, and the files are in doubt between the committed state before the call and
+  -- that after it
+  pub doubt : store.honest (store_of new) → (held : State) → SimulatesState store.files old held
       → IfErr result (λ refusal. IsStop refusal → StopsAfterReplay direction held (files_of store new))
   pub late : IfErr result (λ refusal. IsStop refusal → store.written (store_of old) < store.written (store_of new))
   -- of the journal's files none but the head holds something else, which is its very text after a step
   pub folder : store.honest (store_of new) → IsSameBut head_path (folder_of store old) (folder_of store new)
   pub texts : store.honest (store_of new) → OnOk result (HasHeadText (memory_of new) (files_of store new))
   -- they take at most two heads
-  pub written : store.honest (store_of new) → (held : State) → StandsOn store.files old held
+  pub written : store.honest (store_of new) → (held : State) → SimulatesState store.files old held
       → store.written (store_of new) ≤ store.written (store_of old) + 2 * head_room (listed_count (memory_of old))
   -- and at most one put or removal is asked for beside them for each change of the step
-  pub mutations : store.honest (store_of new) → (held : State) → StandsOn store.files old held
+  pub mutations : store.honest (store_of new) → (held : State) → SimulatesState store.files old held
       → store.mutations (store_of new) ≤ store.mutations (store_of old) + next_count (ahead direction held.journal) + 2
-  -- a clash is told only where the head's path clashes, and as a stop, since nothing is put before the head; and
+  -- a clash is reported only where the head's path clashes, and as a stop, since nothing is put before the head; and
   -- nothing stops since a file has moved; where no path of a file of the journal is a folder, none becomes one
   pub clash : store.honest (store_of new) → IfErr result (HasClash ⊥ (Clashes (files_of store old) head_path))
   pub free : store.honest (store_of new) → IsFree (folder_of store old) → IsFree (folder_of store new)
 
 -- What a run leaves. It puts nothing in the journal but the next entry and heads.
-pub record LeavesRun {S : Type 0} (store : Ghosts S) (command : Command) (when : ℕ) (result : Result Response Refusal) (old new : Session S) : Type 0 where
+pub record LeavesRun {S : Type 0} (store : Ghosts S) (command : Command) (when : ℕ) (result : Result Response Refusal)
+    (old new : Session S) : Type 0 where
   -- a refusal before the step is pending changes nothing but the file of the next entry, which no head lists
   pub unchanged : store.honest (store_of new)
       → IfErr result (λ refusal. IsEarly refusal → IsSameBut (next_path old) (files_of store old) (files_of store new))
-  pub stands : store.honest (store_of new) → (held : State) → StandsOn store.files old held
-      → IfErr result (λ refusal. IsEarly refusal → StandsOn store.files new held)
-  pub early : store.honest (store_of new) → (held : State) → StandsOn store.files old held
+  pub stands : store.honest (store_of new) → (held : State) → SimulatesState store.files old held
+      → IfErr result (λ refusal. IsEarly refusal → SimulatesState store.files new held)
+  pub early : store.honest (store_of new) → (held : State) → SimulatesState store.files old held
       → IfErr result (λ refusal. IsEarly refusal
       → store.written (store_of new) ≤ store.written (store_of old) + recorded_size (edits_of command held.tree))
-  -- where it stops later more than the entry's text was put, and the files are in doubt between the standing before the
-  -- run and that after it
-  pub doubt : store.honest (store_of new) → (held : State) → StandsOn store.files old held
+  -- where it stops later more than the entry's text was put, and the files are in doubt between the committed state
+  -- before the run and that after it
+  pub doubt : store.honest (store_of new) → (held : State) → SimulatesState store.files old held
       → IfErr result (λ refusal. IsStop refusal → StopsAfterRun command when held (files_of store new))
   pub late : store.honest (store_of new) → IfErr result (λ refusal. IsStop refusal
       → (entry : Entry) × IsRecordOf command when (tree_of (files_of store old)) entry
@@ -92,15 +95,16 @@ pub record LeavesRun {S : Type 0} (store : Ghosts S) (command : Command) (when :
       × (length (entry_text entry) ≤ recorded_size (edits_of command (tree_of (files_of store old)))))
   -- they take at most the entry, which holds what the command removes and writes, and two heads: one of the entries
   -- that are listed before, and one of those done and the new one
-  pub written : store.honest (store_of new) → (held : State) → StandsOn store.files old held
+  pub written : store.honest (store_of new) → (held : State) → SimulatesState store.files old held
       → store.written (store_of new) ≤ store.written (store_of old) + recorded_size (edits_of command held.tree)
       + head_room (listed_count (memory_of old)) + head_room (length (memory_of old).done + 1)
   -- and at most one put or removal is asked for beside these three for each file that the command changes; before the
   -- step is pending at most the entry's
-  pub mutations : store.honest (store_of new) → store.mutations (store_of new) ≤ store.mutations (store_of old) + edit_count (edits_of command (tree_of (files_of store old))) + 3
+  pub mutations : store.honest (store_of new) → store.mutations (store_of new) ≤ store.mutations
+      (store_of old) + edit_count (edits_of command (tree_of (files_of store old))) + 3
   pub begins : IfErr result (λ refusal. IsEarly refusal
       → store.mutations (store_of new) ≤ store.mutations (store_of old) + 1)
-  -- a clash is told only where the path that is put clashes: the next entry's before the step is pending, and the
+  -- a clash is reported only where the path that is put clashes: the next entry's before the step is pending, and the
   -- head's from then on; and nothing stops since a file has moved; where no path of a file of the journal is a folder,
   -- none becomes one
   pub clash : store.honest (store_of new)

@@ -1,5 +1,7 @@
 -- Forgetting: steps are taken out of the history, and the tree stays.
-use Rattle.std.specs.Prelude.{◌≡◌, ◌≢◌, ◌⊎◌, ◌↔◌, ◌==◌, ◌||◌, ◌<◌, ◌≤◌, ◌+◌, ℕ, Bool, true, not, List, [], ◌∷◌, ◌++◌, length, map, reverse, filter, find, take, Option, Some, None, Result, Ok, Err, IfOk, IfErr}
+use Rattle.std.specs.Prelude.{◌≡◌, ◌≢◌, ◌⊎◌, ◌↔◌, ◌==◌, ◌||◌, ◌<◌, ◌≤◌, ◌+◌, ℕ, Bool, true, not, List, [], ◌∷◌, ◌++◌}
+use Rattle.std.specs.Prelude.{length, map, reverse, filter, find, take, Option, Some, None, Result, Ok, Err, IfOk}
+use Rattle.std.specs.Prelude.{IfErr}
 use Rattle.std.specs.List.{All, Contains, list_any}
 use Rattle.std.specs.List.Sorted.{IsStrictlyIncreasing}
 use Rattle.std.specs.FinMap.{get}
@@ -11,11 +13,11 @@ use Rattle.reuse_command.specs.Answer.{IsStop, HasClash}
 use Rattle.reuse_session.specs.session.Calls.{files_of, folder_of}
 use Rattle.reuse_journal.specs.Journal.{Recorded, Journal, State}
 use Rattle.reuse_journal.specs.JournalFiles.{head_path, entry_path, number_of, IsFree}
-use Rattle.reuse_journal.specs.Losses.{AreSafeOn, AreInDoubt, Earlier, IsSafe}
+use Rattle.reuse_journal.specs.Losses.{AllRecoverToTree, AreBetweenStates, Earlier, IsSafe}
 use Rattle.reuse_session.specs.session.Machine.{Kept, Snapshots}
-use Rattle.reuse_session.specs.session.Session.{store_of, memory_of, StandsOn}
+use Rattle.reuse_session.specs.session.Session.{store_of, memory_of, SimulatesState}
 use Rattle.reuse_journal.specs.Remembered.{listed_count, head_room, HasHeadText}
-use Rattle.reuse_journal.specs.Standing.{IsStanding}
+use Rattle.reuse_journal.specs.CommittedState.{IsCommittedState}
 use Rattle.reuse_command.specs.declared.reply.Refusal.{Refusal}
 use Rattle.reuse_command.specs.declared.failure.Failure.TheVariants as failures
 use Rattle.reuse_command.specs.declared.reply.Refusal.TheVariants as refusals
@@ -36,7 +38,8 @@ pub record AreInOrder (numbers ordered : List ℕ) : Type 0 where
 
 -- whether a step that is done or undone has the number
 abbrev pub has_step : Journal → ℕ → Bool
-has_step journal number = list_any (λ (step : Recorded). number_of step == number) journal.done || list_any (λ (step : Recorded). number_of step == number) journal.undone
+has_step journal number = list_any (λ (step : Recorded). number_of step == number) journal.done || list_any
+    (λ (step : Recorded). number_of step == number) journal.undone
 
 -- the numbers of all steps
 abbrev pub numbers_in : Journal → List ℕ
@@ -60,7 +63,7 @@ Forgets numbers old (Err (refusals.NoSuchStep number)) new =
     (first_absent old.journal numbers ≡ Some number) × (new ≡ old)
 Forgets numbers old (Err refusal) new = ⊥
 
--- ---- the machine
+-- ---- the model
 
 -- the numbers of all its steps
 abbrev pub numbers_of : Snapshots → List ℕ
@@ -94,7 +97,7 @@ snapshots_besides numbers state = record {
   used = state.used;
 }
 
--- what the machine answers to forgetting, and its state then: each number is that of a step, and they are gone; or the
+-- what the model answers to forgetting, and its state then: each number is that of a step, and they are gone; or the
 -- first that isn't is refused, and all stays
 abbrev pub ForgetsTo : List ℕ → Snapshots → Result (List ℕ) Refusal → Snapshots → Type 0
 ForgetsTo numbers state (Ok forgotten) next =
@@ -148,7 +151,8 @@ IsForgetRefusal (refusals.Failed (failures.Interrupted cause)) = Unit {0}
 IsForgetRefusal refusal = ⊥
 
 -- what forgetting leaves, whatever it answers
-pub record LeavesForgetting {S : Type 0} (store : Ghosts S) (numbers : List ℕ) (result : Result (List ℕ) Refusal) (old new : Session S) : Type 0 where
+pub record LeavesForgetting {S : Type 0} (store : Ghosts S) (numbers : List ℕ) (result : Result (List ℕ) Refusal)
+    (old new : Session S) : Type 0 where
   -- the tree stays, and of the journal's files none but the head's and those of the numbers differs
   pub tree : store.honest (store_of new) → tree_of (files_of store new) ≡ tree_of (files_of store old)
   pub folder : store.honest (store_of new) → IsSameButGone numbers (folder_of store old) (folder_of store new)
@@ -157,45 +161,46 @@ pub record LeavesForgetting {S : Type 0} (store : Ghosts S) (numbers : List ℕ)
       → IfOk result (λ forgotten. HasHeadText (memory_of new) (files_of store new)
       × AreGone numbers (files_of store new))
   -- Where it stops all files are as they were; or the head is put, and then the entries are gone from the highest
-  -- number on. So the files are the standing before the call or that after it.
-  pub stops : store.honest (store_of new) → (held : State) → StandsOn store.files old held
+  -- number on. So the files are the committed state before the call or that after it.
+  pub stops : store.honest (store_of new) → (held : State) → SimulatesState store.files old held
       → IfErr result (λ refusal. IsStop refusal → (files_of store new ≡ files_of store old)
       ⊎ (HasHeadText (memory_besides numbers (memory_of old)) (files_of store new)
       × AreGoneFromTheTop numbers (files_of store old) (files_of store new)))
-  pub doubt : store.honest (store_of new) → (held : State) → StandsOn store.files old held
-      → IfErr result (λ refusal. IsStop refusal → IsStanding (files_of store new) held
-      ⊎ IsStanding (files_of store new) (state_besides numbers held))
+  pub doubt : store.honest (store_of new) → (held : State) → SimulatesState store.files old held
+      → IfErr result (λ refusal. IsStop refusal → IsCommittedState (files_of store new) held
+      ⊎ IsCommittedState (files_of store new) (state_besides numbers held))
   pub order : IfErr result (λ refusal. IsStop refusal → (ordered : List ℕ) × AreInOrder numbers ordered)
   pub late : IfErr result (λ refusal. IsStop refusal → store.mutations (store_of old) < store.mutations (store_of new))
   -- it takes at most a head of the entries that are left, and asks for one put, and for at most one removal for each
   -- number
-  pub written : store.honest (store_of new) → (held : State) → StandsOn store.files old held
-      → store.written (store_of new) ≤ store.written (store_of old) + head_room (listed_count (memory_besides numbers (memory_of old)))
+  pub written : store.honest (store_of new) → (held : State) → SimulatesState store.files old held
+      → store.written (store_of new) ≤ store.written (store_of old) + head_room
+      (listed_count (memory_besides numbers (memory_of old)))
   pub mutations : store.mutations (store_of new) ≤ store.mutations (store_of old) + 1 + length numbers
-  -- a clash is told only where the head's path clashes; where no path of a file of the journal is a folder, none
+  -- a clash is reported only where the head's path clashes; where no path of a file of the journal is a folder, none
   -- becomes one
   pub clash : store.honest (store_of new) → IfErr result (HasClash ⊥ (Clashes (files_of store old) head_path))
   pub free : store.honest (store_of new) → IsFree (folder_of store old) → IsFree (folder_of store new)
 
--- What a loss of power may leave after forgetting, of what was safe on the standing: behind it each is the standing
--- without the steps; where it stops each is that, or safe on the standing before it, and the files are one of the two;
--- and else all is as it was.
+-- What a loss of power may leave after forgetting, of what was safe on the committed state: behind it each is the
+-- committed state without the steps; where it stops each is that, or safe on the committed state before it, and the
+-- files are one of the two; and else all is as it was.
 abbrev pub SurvivesForgetting : {S : Type 0} → Ghosts S → List ℕ → Earlier → State → Result (List ℕ) Refusal → S
     → Type 0
-SurvivesForgetting store numbers earlier held (Ok []) new = AreSafeOn store earlier held new
+SurvivesForgetting store numbers earlier held (Ok []) new = AllRecoverToTree store earlier held new
 SurvivesForgetting store numbers earlier held (Ok (number ∷ more)) new =
-    Leaves store new (λ left. IsStanding left (state_besides numbers held))
+    Leaves store new (λ left. IsCommittedState left (state_besides numbers held))
 SurvivesForgetting store numbers earlier held (Err (refusals.Failed (failures.Interrupted cause))) new =
-    Leaves store new (λ left. IsSafe earlier held left ⊎ IsStanding left (state_besides numbers held))
-    × AreInDoubt store (record { state = earlier.state; forgetting = true }) held (state_besides numbers held) new
-SurvivesForgetting store numbers earlier held (Err refusal) new = AreSafeOn store earlier held new
+    Leaves store new (λ left. IsSafe earlier held left ⊎ IsCommittedState left (state_besides numbers held))
+    × AreBetweenStates store (record { state = earlier.state; forgetting = true }) held (state_besides numbers held) new
+SurvivesForgetting store numbers earlier held (Err refusal) new = AllRecoverToTree store earlier held new
 
--- so it is from whatever standing all that might be left before was safe on
+-- so it is from whatever committed state all that might be left before was safe on
 abbrev pub SurvivesToForget : {S : Type 0} → Ghosts S → List ℕ → Result (List ℕ) Refusal → Session S → Session S
     → Type 0
 SurvivesToForget store numbers result old new =
-    store.honest (store_of new) → (earlier : Earlier) (held : State) → StandsOn store.files old held
-    → AreSafeOn store earlier held (store_of old)
+    store.honest (store_of new) → (earlier : Earlier) (held : State) → SimulatesState store.files old held
+    → AllRecoverToTree store earlier held (store_of old)
     → SurvivesForgetting store numbers earlier held result (store_of new)
 
 -- ---- for private clauses
@@ -224,8 +229,8 @@ PutsAndRemovesSome text paths before after =
 abbrev pub StopsWithRemovals : {S : Type 0} → Ghosts S → List ℕ → List (List ℕ) → (old new : S) → Type 0
 StopsWithRemovals store text paths old new =
     ((store.files new ≡ store.files old)
-    × Leaves store new (λ left. store.may_be old left
-    ⊎ ((kept : Files) × store.may_be old kept × Sets head_path (Some text) kept left)))
+    × Leaves store new (λ left. store.crash_states old left
+    ⊎ ((kept : Files) × store.crash_states old kept × Sets head_path (Some text) kept left)))
     ⊎ ((count : ℕ) × PutsAndRemoves text (take count paths) (store.files old) (store.files new)
-    × Leaves store new (λ left. store.may_be old left
-    ⊎ ((kept : Files) × store.may_be old kept × PutsAndRemovesSome text paths kept left)))
+    × Leaves store new (λ left. store.crash_states old left
+    ⊎ ((kept : Files) × store.crash_states old kept × PutsAndRemovesSome text paths kept left)))

@@ -1,5 +1,6 @@
 -- The reference model (it keeps whole copies of the trees before and after each step).
-use Rattle.std.specs.Prelude.{◌≡◌, ℕ, ◌+◌, Bool, true, false, List, [], ◌∷◌, ◌++◌, length, map, reverse, Result, Ok, Err, if◌then◌else◌}
+use Rattle.std.specs.Prelude.{◌≡◌, ℕ, ◌+◌, Bool, true, false, List, [], ◌∷◌, ◌++◌, length, map, reverse, Result, Ok}
+use Rattle.std.specs.Prelude.{Err, if◌then◌else◌}
 use Rattle.reuse_change.specs.Files.{Files, AreFiles}
 use Rattle.reuse_change.specs.Entry.{IsEntry, LeadsAll}
 use Rattle.reuse_command.specs.Command.{name_of}
@@ -81,7 +82,8 @@ ran s when command (Ok after) = taken s when command after (changed_paths s.tree
 
 -- a run of a command
 abbrev pub ran_by : Snapshots → Command → ℕ → Step
-ran_by s command when = if is_full (length s.past) s.used then (Err JournalFull, s) else ran s when (name_of command) (outcome_of command s.tree)
+ran_by s command when = if is_full (length s.past) s.used then (Err JournalFull, s)
+    else ran s when (name_of command) (outcome_of command s.tree)
 
 -- an undo of the last step, if that led to the tree: it goes back to the copy of the tree before
 abbrev pub undone : Snapshots → List Kept → Step

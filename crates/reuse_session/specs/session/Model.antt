@@ -1,4 +1,4 @@
--- What the model answers to a request, and the state in which it is then. What a step changed it tells by the trees
+-- What the model answers to a request, and the state in which it is then. What a step changed it reports by the trees
 -- before it and after it, so that a show, an undo, a redo and a revert go by some changes that lead from the one to the
 -- other. Where no step is missing, an undo and a redo by any such changes give one answer. All else is one answer.
 use Rattle.std.specs.Prelude.{◌≡◌, ◌⊎◌, ℕ, Bool, List, [], ◌∷◌, ◌++◌, Result, Ok, Err}
@@ -66,7 +66,8 @@ abbrev pub RevertsTo : Snapshots → ℕ → Bool → ℕ → Result Response Re
 RevertsTo state number skip_moved when answer next =
     ((answer ≡ Err (NoSuchStep number)) × IsUnkept number state.past × (next ≡ state))
     ⊎ ((changes : List Change) × LedBy number state.past changes
-    × (let ran = ran_by state (command_back state number skip_moved changes) when in AreOf (as_reverted changes ran.0, ran.1) answer next))
+    × (let ran = ran_by state (command_back state number skip_moved changes) when in
+    AreOf (as_reverted changes ran.0, ran.1) answer next))
 
 -- what it would do is what that run would do
 abbrev pub PreviewsBack : Snapshots → ℕ → Bool → Result (List PathOutcome) Refusal → Type 0

@@ -42,6 +42,7 @@ IsPreviewRefusal NothingToUndo = Unit {0}
 IsPreviewRefusal NothingToRedo = Unit {0}
 IsPreviewRefusal refusal = IsReadRefusal refusal
 
--- what a run of the command would do on a standing, path by path, or that the journal is full
+-- what a run of the command would do on a committed state, path by path, or that the journal is full
 abbrev pub run_path_outcomes_on : State → Command → Result (List PathOutcome) Refusal
-run_path_outcomes_on old command = if is_full (length old.journal.done) old.journal.used then Err JournalFull else Ok (path_outcomes_of command old.tree)
+run_path_outcomes_on old command = if is_full (length old.journal.done) old.journal.used then Err JournalFull
+    else Ok (path_outcomes_of command old.tree)

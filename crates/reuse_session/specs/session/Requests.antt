@@ -6,18 +6,19 @@ use Rattle.reuse_change.specs.Files.{Files, Clashes}
 use Rattle.reuse_change.specs.Tree.{undo_folder_of}
 use Rattle.reuse_store.specs.declared.store.Store.{Ghosts}
 use Rattle.reuse_change.specs.declared.direction.Direction.TheVariants as go
-use Rattle.reuse_command.specs.Answer.{IsEarly, IsStop, HasCause, HasClash, IsNoClash, RefusedAsRead, TellsNoFault, nothing_recovered}
+use Rattle.reuse_command.specs.Answer.{IsEarly, IsStop, HasCause, HasClash, IsNoClash, RefusedAsRead, DidNotFail}
+use Rattle.reuse_command.specs.Answer.{nothing_recovered}
 use Rattle.reuse_session.specs.session.Calls.{files_of, folder_of, IsCall}
 use Rattle.reuse_journal.specs.Journal.{Recorded, State, Undoes, Redoes, rows_in}
 use Rattle.reuse_journal.specs.JournalFiles.{head_path, entry_path, number_of, IsFree}
-use Rattle.reuse_journal.specs.Losses.{AreSafeOn, Survives, Earlier}
+use Rattle.reuse_journal.specs.Losses.{AllRecoverToTree, Survives, Earlier}
 use Rattle.reuse_session.specs.session.Forgetting.{asked_numbers, Forgets, IsSameButGone, SurvivesForgetting}
 use Rattle.reuse_session.specs.session.Previews.{run_path_outcomes_on, PreviewsReplay}
 use Rattle.reuse_session.specs.session.RevertCalls.{IsAfterRevert, Reverts, changed_or_none, touched_later}
-use Rattle.reuse_session.specs.session.Session.{store_of, is_broken, IsKept, IsReplay, IsRun, Runs, StandsOn}
+use Rattle.reuse_session.specs.session.Session.{store_of, is_broken, IsKept, IsReplay, IsRun, Runs, SimulatesState}
 use Rattle.reuse_journal.specs.Remembered.{IsSameBut, IsSameButTwo}
 use Rattle.reuse_session.specs.session.Showing.{IsUnused, ShowsIn}
-use Rattle.reuse_journal.specs.Standing.{InDoubt, IsStanding}
+use Rattle.reuse_journal.specs.CommittedState.{BetweenStates, IsCommittedState}
 use Rattle.reuse_command.specs.declared.command.Command.TheVariants.{Revert}
 use Rattle.reuse_command.specs.declared.failure.Failure.{Failure}
 use Rattle.reuse_command.specs.declared.failure.Failure.TheVariants.{Fault, Interrupted, Memory}
@@ -70,7 +71,8 @@ as_answer response (Err refusal) = Err refusal
 abbrev pub PreviewsRevert : ℕ → Bool → State → Result (List PathOutcome) Refusal → Type 0
 PreviewsRevert number skip_moved old answer =
     ((answer ≡ Err (NoSuchStep number)) × IsUnused number old.journal.done)
-    ⊎ ((step : Recorded) × Contains old.journal.done step × (number_of step ≡ number) × (answer ≡ run_path_outcomes_on old (Revert step.changes (touched_later number old.journal.done step.changes) skip_moved)))
+    ⊎ ((step : Recorded) × Contains old.journal.done step × (number_of step ≡ number) × (answer
+    ≡ run_path_outcomes_on old (Revert step.changes (touched_later number old.journal.done step.changes) skip_moved)))
 
 -- what a preview of a call answers
 abbrev pub Previews : Call → State → Result (List PathOutcome) Refusal → Type 0
@@ -120,8 +122,8 @@ IsAfter request old new = ⊥
 
 -- forgetting that stopped leaves the state before it or that after it; and else files are in doubt between the two
 abbrev pub IsLeftBetween : Request → State → State → Files → Type 0
-IsLeftBetween (requests.Forget steps) old new files = IsStanding files old ⊎ IsStanding files new
-IsLeftBetween request old new files = InDoubt old new files
+IsLeftBetween (requests.Forget steps) old new files = IsCommittedState files old ⊎ IsCommittedState files new
+IsLeftBetween request old new files = BetweenStates old new files
 
 -- what a request leaves that stopped
 abbrev pub IsStopped : Request → State → Files → Type 0
@@ -131,13 +133,13 @@ IsStopped request old files = (new : State) × IsAfter request old new × IsLeft
 abbrev pub Meets : Request → State → Result Response Refusal → Files → Type 0
 Meets request old (Err (Failed (Interrupted cause))) files =
     MayFail request (Interrupted cause) × IsStopped request old files
-Meets request old (Err (Failed failure)) files = MayFail request failure × IsStanding files old
-Meets request old answer files = (new : State) × LeadsTo request old answer new × IsStanding files new
+Meets request old (Err (Failed failure)) files = MayFail request failure × IsCommittedState files old
+Meets request old answer files = (new : State) × LeadsTo request old answer new × IsCommittedState files new
 
 -- ---- what it leaves, whatever it answers
 
--- A clash that is told is that of the path that is put: of the next entry, which a run and a revert alone put, or of
--- the head. What only reads tells none.
+-- A clash that is reported is that of the path that is put: of the next entry, which a run and a revert alone put, or
+-- of the head. What only reads reports none.
 abbrev pub HasCallClash : Request → State → Files → Refusal → Type 0
 HasCallClash (requests.Make (calls.Run command) when) old files =
     HasClash (Clashes files (entry_path (old.journal.used + 1))) (Clashes files head_path)
@@ -182,41 +184,44 @@ SurvivesRequest store (requests.Make call when) earlier held answer new =
 SurvivesRequest store (requests.Forget steps) earlier held answer new = (forgotten : Result (List ℕ) Refusal)
     × (answer ≡ as_answer responses.Forgotten forgotten)
     × SurvivesForgetting store (asked_numbers steps held.journal) earlier held forgotten new
-SurvivesRequest store request earlier held answer new = AreSafeOn store earlier held new
+SurvivesRequest store request earlier held answer new = AllRecoverToTree store earlier held new
 
 -- how a session answers a request
-pub record IsAnswered {S : Type 0} (store : Ghosts S) (request : Request) (answer : Result Response Refusal) (old new : Session S) : Type 0 where
+pub record IsAnswered {S : Type 0} (store : Ghosts S) (request : Request) (answer : Result Response Refusal)
+    (old new : Session S) : Type 0 where
   -- a session that was interrupted answers nothing more
   pub broken : (answer ≡ Err Broken) ↔ (is_broken old ≡ true)
   -- unless it fails, the answer and the state that is left are those of the request
-  pub exact : store.honest (store_of new) → (held : State) → StandsOn store.files old held
-      → TellsNoFault answer → (left : State) × StandsOn store.files new left × LeadsTo request held answer left
+  pub exact : store.honest (store_of new) → (held : State) → SimulatesState store.files old held
+      → DidNotFail answer → (left : State) × SimulatesState store.files new left × LeadsTo request held answer left
   -- one that failed early, or was refused, leaves the state, and one that stopped that or the next, or files in doubt
-  pub stands : store.honest (store_of new) → (held : State) → StandsOn store.files old held
-      → IfErr answer (λ refusal. IsEarly refusal → StandsOn store.files new held)
+  pub stands : store.honest (store_of new) → (held : State) → SimulatesState store.files old held
+      → IfErr answer (λ refusal. IsEarly refusal → SimulatesState store.files new held)
   pub unchanged : store.honest (store_of new) → StaysEarly request answer (files_of store old) (files_of store new)
-  pub doubt : store.honest (store_of new) → (held : State) → StandsOn store.files old held
+  pub doubt : store.honest (store_of new) → (held : State) → SimulatesState store.files old held
       → IfErr answer (λ refusal. IsStop refusal → IsStopped request held (files_of store new))
   pub fails : IfErr answer (IfFailed (MayFail request))
-  pub survives : store.honest (store_of new) → (earlier : Earlier) (held : State) → StandsOn store.files old held
-      → AreSafeOn store earlier held (store_of old) → SurvivesRequest store request earlier held answer (store_of new)
+  pub survives : store.honest (store_of new) → (earlier : Earlier) (held : State) → SimulatesState store.files old held
+      → AllRecoverToTree store earlier held (store_of old)
+      → SurvivesRequest store request earlier held answer (store_of new)
   -- what only reads reads alone
   pub reads_only : IsReading request → OnlyReads store (store_of old) (store_of new)
   pub kept : IsReading request → IsKept old new
-  pub clash : store.honest (store_of new) → (held : State) → StandsOn store.files old held
+  pub clash : store.honest (store_of new) → (held : State) → SimulatesState store.files old held
       → IfErr answer (HasCallClash request held (files_of store old))
-  -- where no path of a file of the journal is a folder, no clash is told, and none becomes one
-  pub unclashed : store.honest (store_of new) → (held : State) → StandsOn store.files old held
+  -- where no path of a file of the journal is a folder, no clash is reported, and none becomes one
+  pub unclashed : store.honest (store_of new) → (held : State) → SimulatesState store.files old held
       → IsFree (folder_of store old) → IfErr answer IsNoClash
   pub free : store.honest (store_of new) → IsFree (folder_of store old) → IsFree (folder_of store new)
-  pub folder : store.honest (store_of new) → (held : State) → StandsOn store.files old held
+  pub folder : store.honest (store_of new) → (held : State) → SimulatesState store.files old held
       → KeepsFolder request held (files_of store old) (files_of store new)
   -- what any call leaves
   pub call : IsCall store answer old new
 
 -- how a session is looked at: the store is read alone, what is remembered stays, and the call doesn't stop; a fault has
 -- its cause
-pub record ReadsOnlyWithCause {S A : Type 0} (store : Ghosts S) (answer : Result A Refusal) (old new : Session S) : Type 0 where
+pub record ReadsOnlyWithCause {S A : Type 0} (store : Ghosts S) (answer : Result A Refusal)
+    (old new : Session S) : Type 0 where
   pub reads : OnlyReads store (store_of old) (store_of new)
   pub kept : IsKept old new
   pub fails : RefusedAsRead store (store_of old) (store_of new) answer

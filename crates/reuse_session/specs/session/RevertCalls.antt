@@ -13,7 +13,7 @@ use Rattle.reuse_journal.specs.Journal.{Recorded, Journal, State}
 use Rattle.reuse_journal.specs.JournalFiles.{entry_path, number_of, EntrySays}
 use Rattle.reuse_change.specs.Listing.{is_among}
 use Rattle.reuse_session.specs.session.Machine.{Kept, Snapshots, ran_by}
-use Rattle.reuse_session.specs.session.Session.{store_of, StandsOn, StandsAt, Follows, IsRun, Runs}
+use Rattle.reuse_session.specs.session.Session.{store_of, SimulatesState, SimulatesInSession, Follows, IsRun, Runs}
 use Rattle.reuse_session.specs.session.Showing.{IsUnused, LedBy}
 use Rattle.reuse_change.specs.Tree.{changed_paths}
 use Rattle.reuse_command.specs.declared.command.Command.{Command}
@@ -49,7 +49,7 @@ touched_by steps path = list_any (λ (step : Recorded). touches step.changes pat
 abbrev pub touched_later : ℕ → List Recorded → List Change → List (List ℕ)
 touched_later number done changes = filter (touched_by (done_after number done)) (paths_of changes)
 
--- the same by the machine: the paths at which the trees before and after such a step differ
+-- the same by the model: the paths at which the trees before and after such a step differ
 abbrev pub kept_after : ℕ → List Kept → List Kept
 kept_after number steps = take_while (λ (kept : Kept). not (kept.label.number == number)) steps
 
@@ -81,14 +81,17 @@ IsAfterRevert number skip_moved when held next =
 abbrev pub left_of : List (List ℕ) → List (List ℕ) → List (List ℕ)
 left_of paths changed = filter (λ path. not (is_among changed path)) paths
 
--- A step of the number is done, its changes are taken back as by a run, and the step's other paths are told. What a
+-- A step of the number is done, its changes are taken back as by a run, and the step's other paths are reported. What a
 -- later step touched counts as moved.
-pub record TakesBack (number : ℕ) (skip_moved : Bool) (when : ℕ) (old : State) (result : Result Reverted Refusal) (new : State) : Type 0 where
+pub record TakesBack (number : ℕ) (skip_moved : Bool) (when : ℕ) (old : State) (result : Result Reverted Refusal)
+    (new : State) : Type 0 where
   pub step : Recorded
   pub is_done : Contains old.journal.done step
   pub numbered : number_of step ≡ number
-  pub runs : Runs (Revert step.changes (touched_later number old.journal.done step.changes) skip_moved) when old (as_run result) new
-  pub skipped : IfOk result (λ (reverted : Reverted). reverted.skipped ≡ left_of (paths_of step.changes) reverted.changed)
+  pub runs : Runs (Revert step.changes (touched_later number old.journal.done step.changes) skip_moved) when old
+      (as_run result) new
+  pub skipped : IfOk result
+      (λ (reverted : Reverted). reverted.skipped ≡ left_of (paths_of step.changes) reverted.changed)
 
 -- what a revert answers and leaves: where no step that is done has the number it is refused
 abbrev pub Reverts : ℕ → Bool → ℕ → State → Result Reverted Refusal → State → Type 0
@@ -96,13 +99,13 @@ Reverts number skip_moved when old (Err (NoSuchStep other)) new =
     (other ≡ number) × IsUnused number old.journal.done × (new ≡ old)
 Reverts number skip_moved when old result new = TakesBack number skip_moved when old result new
 
--- the same by the machine: no kept tree has the number; or the machine runs the command that takes back what the step
+-- the same by the model: no kept tree has the number; or the model runs the command that takes back what the step
 -- of the number changed, where no later step changed it
 abbrev pub RevertFollows : {S : Type 0} → (S → Files) → ℕ → Bool → ℕ → Snapshots → Result Reverted Refusal → Session S
     → Type 0
 RevertFollows files number skip_moved when state result new =
     ((result ≡ Err (NoSuchStep number)) × All (λ (kept : Kept). ¬ (kept.label.number ≡ number)) state.past
-    × StandsAt files new state)
+    × SimulatesInSession files new state)
     ⊎ ((changes : List Change) × LedBy number state.past changes
     × Follows files (as_run result) new
     (ran_by state (Revert changes (changed_later number state.past changes) skip_moved) when))
@@ -115,7 +118,7 @@ GivesRevert number skip_moved held (Ok command) =
     × (command ≡ Revert step.changes (touched_later number held.journal.done step.changes) skip_moved)
 GivesRevert number skip_moved held (Err refusal) = (refusal ≡ NoSuchStep number) × IsUnused number held.journal.done
 
--- the same by the machine
+-- the same by the model
 abbrev pub GivesRevertAt : ℕ → Bool → Snapshots → Result Command Refusal → Type 0
 GivesRevertAt number skip_moved state (Ok command) =
     (changes : List Change) × LedBy number state.past changes
@@ -132,6 +135,6 @@ LeavesRevert store number skip_moved when result old new =
     × RefusedAsRead store (store_of old) (store_of new) result)
     ⊎ ((entry : Entry) × (store.honest (store_of new) → EntrySays (get (folder_of store old) (entry_path number)) entry)
     × (touched : List (List ℕ))
-    × (store.honest (store_of new) → (held : State) → StandsOn store.files old held
+    × (store.honest (store_of new) → (held : State) → SimulatesState store.files old held
     → touched ≡ touched_later number held.journal.done entry.changes)
     × LeavesRun store (Revert entry.changes touched skip_moved) when (as_run result) old new)

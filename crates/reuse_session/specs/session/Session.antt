@@ -1,4 +1,4 @@
--- When a session stands at a state of the machine.
+-- When a session stands at a state of the model.
 use Rattle.std.specs.Prelude.{◌≡◌, ℕ, ◌+◌, ◌≤◌, Bool, true, false, List, [], ◌∷◌, length, Result, Ok, Err}
 use Rattle.reuse_change.specs.declared.layout.TheConstants.{LAST_NUMBER}
 use Rattle.std.specs.List.{All}
@@ -16,7 +16,7 @@ use Rattle.reuse_session.specs.session.Machine.{Connects, Kept, Snapshots, Step}
 use Rattle.reuse_journal.specs.Labels.{is_full}
 use Rattle.reuse_plan.specs.Outcome.{edits_of, outcome_of}
 use Rattle.reuse_plan.specs.Plan.{IsPlan, Records}
-use Rattle.reuse_journal.specs.Standing.{IsStanding, IsStep, InDoubt}
+use Rattle.reuse_journal.specs.CommittedState.{IsCommittedState, IsStep, BetweenStates}
 use Rattle.reuse_change.specs.Tree.{changed_paths}
 use Rattle.reuse_command.specs.declared.command.Command.{Command}
 use Rattle.reuse_json.specs.declared.entry.Entry.{Entry}
@@ -45,10 +45,10 @@ counts_of session = session.counts
 abbrev pub memory_of : {S : Type 0} → Session S → Memory
 memory_of session = session.history
 
--- the session isn't broken, its store's files are the standing, and it remembers its journal
-pub record StandsOn {S : Type 0} (files : S → Files) (session : Session S) (held : State) : Type 0 where
+-- the session isn't broken, its store's files are the committed state, and it remembers its journal
+pub record SimulatesState {S : Type 0} (files : S → Files) (session : Session S) (held : State) : Type 0 where
   pub whole : is_broken session ≡ false
-  pub standing : IsStanding (files (store_of session)) held
+  pub committed : IsCommittedState (files (store_of session)) held
   pub remembers : Remembers (memory_of session) held.journal
 
 -- what the session remembers, and whether it is broken, are as they were
@@ -63,24 +63,24 @@ HaveCopies (step ∷ steps) (kept ∷ others) =
 HaveCopies [] (kept ∷ others) = ⊥
 HaveCopies (step ∷ steps) [] = ⊥
 
--- a tree and a journal hold a state of the machine: the same tree, and the steps have the copies that are kept
-pub record HoldsSnapshots (held : State) (state : Snapshots) : Type 0 where
+-- a tree and a journal hold a state of the model: the same tree, and the steps have the copies that are kept
+pub record Simulates (held : State) (state : Snapshots) : Type 0 where
   pub tree : held.tree ≡ state.tree
   pub past : HaveCopies held.journal.done state.past
   pub future : HaveCopies held.journal.undone state.future
   pub used : held.journal.used ≡ state.used
 
--- the session stands on a standing that holds the state
-pub record StandsAt {S : Type 0} (files : S → Files) (session : Session S) (state : Snapshots) : Type 0 where
+-- the session stands on a committed state that holds the state
+pub record SimulatesInSession {S : Type 0} (files : S → Files) (session : Session S) (state : Snapshots) : Type 0 where
   pub held : State
-  pub stands : StandsOn files session held
-  pub holds : HoldsSnapshots held state
+  pub stands : SimulatesState files session held
+  pub holds : Simulates held state
 
--- the call answers as the machine does, and the session stands at its state
+-- the call answers as the model does, and the session stands at its state
 abbrev pub Follows : {S : Type 0} → (S → Files) → Result Response Refusal → Session S → Step → Type 0
-Follows files result session step = (result ≡ step.0) × StandsAt files session step.1
+Follows files result session step = (result ≡ step.0) × SimulatesInSession files session step.1
 
--- the second standing is that after a run of the command
+-- the second committed state is that after a run of the command
 pub record IsRun (command : Command) (when : ℕ) (first second : State) : Type 0 where
   pub step : Recorded
   pub label : step.label ≡ record { number = first.journal.used + 1; when = when; command = name_of command }
@@ -107,12 +107,13 @@ abbrev pub IsRecordOf : Command → ℕ → Files → Entry → Type 0
 IsRecordOf command when tree entry =
     (entry.command ≡ name_of command) × (entry.when ≡ when) × Records tree (edits_of command tree) entry.changes
 
--- a call that stopped on the way to the next standing: the files are in doubt between the two
+-- a call that stopped on the way to the next committed state: the files are in doubt between the two
 abbrev pub StopsAfterRun : Command → ℕ → State → Files → Type 0
-StopsAfterRun command when first files = (second : State) × IsRun command when first second × InDoubt first second files
+StopsAfterRun command when first files =
+    (second : State) × IsRun command when first second × BetweenStates first second files
 
--- the second standing is that after the last step was taken back, or the next one made again, on a tree on which each
--- of its changes can be gone through
+-- the second committed state is that after the last step was taken back, or the next one made again, on a tree on which
+-- each of its changes can be gone through
 pub record IsReplay (direction : Direction) (first second : State) : Type 0 where
   pub step : Recorded
   pub is_step : IsStep (listed_direction direction) step first second
@@ -120,7 +121,7 @@ pub record IsReplay (direction : Direction) (first second : State) : Type 0 wher
 
 abbrev pub StopsAfterReplay : Direction → State → Files → Type 0
 StopsAfterReplay direction first files =
-    (second : State) × IsReplay direction first second × InDoubt first second files
+    (second : State) × IsReplay direction first second × BetweenStates first second files
 
 -- ---- for private clauses
 
@@ -130,9 +131,10 @@ pub record IsPlanned (command : Command) (tree : Files) (changes : List Change) 
   pub plan : IsPlan (outcome_of command tree) tree changes
   pub recorded : Records tree (edits_of command tree) changes
 
--- the changes are those of a step from the first standing, whose journal is in the folder, to the second; the step is
--- pending so, and what is remembered after it is this
-pub record IsStepOf (folder : Files) (made : List Change) (pending : Pending) (moved : Memory) (first second : State) : Type 0 where
+-- the changes are those of a step from the first committed state, whose journal is in the folder, to the second; the
+-- step is pending so, and what is remembered after it is this
+pub record IsStepOf (folder : Files) (made : List Change) (pending : Pending) (moved : Memory)
+    (first second : State) : Type 0 where
   pub step : Recorded
   pub changes : step.changes ≡ made
   pub number : pending.entry ≡ number_of step

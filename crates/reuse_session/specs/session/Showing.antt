@@ -35,7 +35,7 @@ ShowsIn journal number (Ok shown) = Shows journal number shown
 ShowsIn journal number (Err refusal) =
     (refusal ≡ NoSuchStep number) × IsUnused number journal.done × IsUnused number journal.undone
 
--- ---- the machine
+-- ---- the model
 
 -- the steps that are done, or those that are undone
 abbrev pub kept_in : Bool → Snapshots → List Kept
@@ -49,7 +49,7 @@ pub record LedBy (number : ℕ) (steps : List Kept) (changes : List Change) : Ty
   pub numbered : kept.label.number ≡ number
   pub connects : Connects changes kept.before kept.after
 
--- what is shown is a step of the number: its row of the machine's log, and how its tree before it differs from that
+-- what is shown is a step of the number: its row of the model's log, and how its tree before it differs from that
 -- after it
 pub record ShowsAt (state : Snapshots) (number : ℕ) (shown : Shown) : Type 0 where
   pub step : LedBy number (kept_in shown.row.done state) shown.changes

@@ -11,10 +11,10 @@ use reuse_store::Store;
 use std::alloc::Global;
 
 impl<S: Store + Drop> Session<S> {
-    ghost use Rattle.reuse_command.specs.Answer.{TellsNoFault, nothing_recovered};
+    ghost use Rattle.reuse_command.specs.Answer.{DidNotFail, nothing_recovered};
     ghost use Rattle.reuse_journal.specs.Journal.{State};
     ghost use Rattle.reuse_session.specs.session.Requests.{IsAnswered, ReadsOnlyWithCause, Previews};
-    ghost use Rattle.reuse_session.specs.session.Session.{store_of, is_broken, StandsOn};
+    ghost use Rattle.reuse_session.specs.session.Session.{store_of, is_broken, SimulatesState};
 
     /// Answers a request. It is refused as the call is that it asks for.
     pub fn answer(&mut self, alloc: Global, request: &Request) -> Answer
@@ -69,8 +69,8 @@ impl<S: Store + Drop> Session<S> {
     /// `revert_command` is.
     pub fn preview_call(&mut self, alloc: Global, call: &Call) -> Result<PathOutcomes, Refusal>
         ensures broken { (result ≡ Err Refusal.Broken) ↔ (is_broken self.old ≡ true) }
-        ensures exact { S.honest (store_of self.new) → (held : State) → StandsOn S.files self.old held
-            → TellsNoFault result → Previews call.now held result }
+        ensures exact { S.honest (store_of self.new) → (held : State) → SimulatesState S.files self.old held
+            → DidNotFail result → Previews call.now held result }
         ensures reads_only { ReadsOnlyWithCause S.Store result self.old self.new }
     {
         match call {
@@ -91,8 +91,8 @@ impl<S: Store + Drop> Session<S> {
         skip_moved: bool,
     ) -> Result<PathOutcomes, Refusal>
         ensures broken { (result ≡ Err Refusal.Broken) ↔ (is_broken self.old ≡ true) }
-        ensures exact { S.honest (store_of self.new) → (held : State) → StandsOn S.files self.old held
-            → TellsNoFault result → Previews (Call.Revert number skip_moved) held result }
+        ensures exact { S.honest (store_of self.new) → (held : State) → SimulatesState S.files self.old held
+            → DidNotFail result → Previews (Call.Revert number skip_moved) held result }
         ensures reads_only { ReadsOnlyWithCause S.Store result self.old self.new }
     {
         match self.revert_command(alloc, number, skip_moved) {

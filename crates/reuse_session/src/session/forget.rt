@@ -3,12 +3,14 @@
 //! The head that no longer lists them is put first, with a barrier behind it, and then their
 //! entries are removed. So what a stop leaves is the history from before or the one from behind; an
 //! entry that is still there then is one that no head names, and its number isn't given out again.
-ghost use Rattle.std.specs.Prelude.{◌≡◌, ◌≢◌, ◌↔◌, ◌⊎◌, ◌<◌, ◌≤◌, ◌+◌, ℕ, List, [], None, Some, false, true, IfOk, IfErr, OnOk, OnErr, IsErrOf, length, map, reverse, take};
+ghost use Rattle.std.specs.Prelude.{◌≡◌, ◌≢◌, ◌↔◌, ◌⊎◌, ◌<◌, ◌≤◌, ◌+◌, ℕ, List, [], None, Some, false, true, IfOk};
+ghost use Rattle.std.specs.Prelude.{IfErr, OnOk, OnErr, IsErrOf, length, map, reverse, take};
 ghost use Rattle.std.specs.List.{Contains};
 ghost use Rattle.std.specs.List.Sorted.{IsStrictlyIncreasing};
 ghost use Rattle.reuse_store.specs.Asked.{Leaves, IsLater};
 ghost use Rattle.reuse_change.specs.Files.{Files, Clashes, tree_of};
-ghost use Rattle.reuse_session.specs.session.Forgetting.{AreInOrder, PutsAndRemoves, PutsAndRemovesSome, Removes, RemovesSome, StopsWithRemovals};
+ghost use Rattle.reuse_session.specs.session.Forgetting.{AreInOrder, PutsAndRemoves, PutsAndRemovesSome, Removes};
+ghost use Rattle.reuse_session.specs.session.Forgetting.{RemovesSome, StopsWithRemovals};
 ghost use Rattle.reuse_journal.specs.Numbered.{memory_besides};
 ghost use Rattle.reuse_journal.specs.History.{head_listing};
 ghost use Rattle.reuse_journal.specs.Remembered.{head_room, listed_count};
@@ -26,13 +28,16 @@ use reuse_store::{Cause, Store};
 use std::alloc::{AllocError, Global};
 
 impl<S: Store + Drop> Session<S> {
-    ghost use Rattle.reuse_command.specs.Answer.{IsEarly, IsFailure, TellsNoFault};
+    ghost use Rattle.reuse_command.specs.Answer.{IsEarly, IsFailure, DidNotFail};
     ghost use Rattle.reuse_session.specs.session.Calls.{IsCall};
-    ghost use Rattle.reuse_session.specs.session.Forgetting.{AreInOrder, Forgets, IsForgetRefusal, IsWithoutOldest, LeavesForgetting, SurvivesToForget, alone, numbers_in, snapshots_besides};
+    ghost use Rattle.reuse_session.specs.session.Forgetting.{AreInOrder, Forgets, IsForgetRefusal, IsWithoutOldest};
+    ghost use Rattle.reuse_session.specs.session.Forgetting.{LeavesForgetting, SurvivesToForget, alone, numbers_in};
+    ghost use Rattle.reuse_session.specs.session.Forgetting.{snapshots_besides};
     ghost use Rattle.reuse_journal.specs.Numbered.{all_numbers, first_unlisted, memory_besides, state_besides};
     ghost use Rattle.reuse_journal.specs.Journal.{State};
     ghost use Rattle.reuse_session.specs.session.Machine.{Snapshots};
-    ghost use Rattle.reuse_session.specs.session.Session.{store_of, is_broken, memory_of, StandsOn, StandsAt};
+    ghost use Rattle.reuse_session.specs.session.Session.{store_of, is_broken, memory_of, SimulatesState};
+    ghost use Rattle.reuse_session.specs.session.Session.{SimulatesInSession};
 
     /// Takes the steps of these numbers out of the history, done and undone ones, and removes their
     /// entries. The tree stays, and no number is given out again. It isn't a step, and no undo
@@ -48,25 +53,26 @@ impl<S: Store + Drop> Session<S> {
         ensures refusal { IfErr result IsForgetRefusal }
 
         // Unless the answer reports an allocation failure or a stop, each number is that of a step
-        // and these are gone, from any standing.
-        ensures exact { S.honest (store_of self.new) → (held : State) → StandsOn S.files self.old held
-            → TellsNoFault result → (left : State) × StandsOn S.files self.new left
+        // and these are gone, from any committed state.
+        ensures exact { S.honest (store_of self.new) → (held : State) → SimulatesState S.files self.old held
+            → DidNotFail result → (left : State) × SimulatesState S.files self.new left
             × Forgets numbers.now held result left }
-        // The session stands at the state of the machine without these steps. If they are the
+        // The session stands at the state of the model without these steps. If they are the
         // oldest that are done, that lacks its oldest trees.
-        ensures machine { S.honest (store_of self.new) → (state : Snapshots) → StandsAt S.files self.old state
-            → OnOk result (StandsAt S.files self.new (snapshots_besides numbers.now state)) }
-        ensures oldest { S.honest (store_of self.new) → (state next : Snapshots) → StandsAt S.files self.old state
-            → IsWithoutOldest numbers.now state next → OnOk result (StandsAt S.files self.new next) }
+        ensures machine { S.honest (store_of self.new) → (state : Snapshots) → SimulatesInSession S.files self.old state
+            → OnOk result (SimulatesInSession S.files self.new (snapshots_besides numbers.now state)) }
+        ensures oldest { S.honest (store_of self.new) → (state next : Snapshots)
+            → SimulatesInSession S.files self.old state
+            → IsWithoutOldest numbers.now state next → OnOk result (SimulatesInSession S.files self.new next) }
         // The same, whatever the store: what is remembered, and the numbers.
         ensures forgotten { IfOk result (λ forgotten. AreInOrder numbers.now forgotten
             × (memory_of self.new ≡ memory_besides numbers.now (memory_of self.old))) }
         // Without a number nothing is asked of the store.
         ensures nothing { numbers.now ≡ [] → self.new ≡ self.old }
 
-        // After a loss of power, at any moment of the call, what is left opens on the standing
-        // before it or on that after it; or on the one before these two, where a call that was
-        // stopped led here and nothing was put since.
+        // After a loss of power, at any moment of the call, what is left opens on the committed
+        // state before it or on that after it; or on the one before these two, where a call that
+        // was stopped led here and nothing was put since.
         ensures survives { SurvivesToForget S.Store numbers.now result self.old self.new }
         // What any call leaves, and what this one leaves of the files, whatever it answers.
         ensures call { IsCall S.Store result self.old self.new }
@@ -90,12 +96,12 @@ impl<S: Store + Drop> Session<S> {
         ensures absent { (number : ℕ) → result ≢ Err (Refusal.NoSuchStep number) }
         ensures stays { IfErr result (λ refusal. IsEarly refusal → self.new ≡ self.old) }
         ensures refusal { IfErr result IsForgetRefusal }
-        ensures exact { S.honest (store_of self.new) → (held : State) → StandsOn S.files self.old held
-            → TellsNoFault result → (left : State) × StandsOn S.files self.new left
+        ensures exact { S.honest (store_of self.new) → (held : State) → SimulatesState S.files self.old held
+            → DidNotFail result → (left : State) × SimulatesState S.files self.new left
             × Forgets (numbers_in held.journal) held result left }
         // No step is left.
-        ensures machine { S.honest (store_of self.new) → (state : Snapshots) → StandsAt S.files self.old state
-            → OnOk result (StandsAt S.files self.new (alone state)) }
+        ensures machine { S.honest (store_of self.new) → (state : Snapshots) → SimulatesInSession S.files self.old state
+            → OnOk result (SimulatesInSession S.files self.new (alone state)) }
         ensures forgotten { IfOk result (λ forgotten. AreInOrder (all_numbers (memory_of self.old)) forgotten
             × (memory_of self.new ≡ record { done = []; undone = []; used = (memory_of self.old).used })) }
         ensures nothing { all_numbers (memory_of self.old) ≡ [] → self.new ≡ self.old }
@@ -116,8 +122,8 @@ impl<S: Store + Drop> Session<S> {
         requires listed { first_unlisted (memory_of self.now) numbers.now ≡ None }
         ensures forgotten { IfOk result (λ forgotten. AreInOrder numbers.now forgotten
             × (memory_of self.new ≡ memory_besides numbers.now (memory_of self.old))) }
-        ensures stands { S.honest (store_of self.new) → (held : State) → StandsOn S.files self.old held
-            → OnOk result (StandsOn S.files self.new (state_besides numbers.now held)) }
+        ensures stands { S.honest (store_of self.new) → (held : State) → SimulatesState S.files self.old held
+            → OnOk result (SimulatesState S.files self.new (state_besides numbers.now held)) }
         ensures stays { IfErr result (λ refusal. IsEarly refusal → self.new ≡ self.old) }
         ensures refusal { IfErr result IsForgetRefusal }
         ensures kinds { IfErr result IsFailure }
@@ -167,12 +173,16 @@ impl Forgetting {
         ensures ordered { IfOk result (λ forgetting. AreInOrder numbers.now forgetting.numbers.items) }
         ensures few { IfOk result (λ forgetting. length forgetting.numbers.items ≤ length numbers.now) }
         ensures left { IfOk result (λ forgetting. forgetting.left ≡ memory_besides numbers.now history.now) }
-        ensures text { IfOk result (λ forgetting. forgetting.text.items ≡ head_text (head_listing (memory_besides numbers.now history.now) None)) }
+        ensures text { IfOk result (λ forgetting. forgetting.text.items ≡ head_text
+            (head_listing (memory_besides numbers.now history.now) None)) }
         ensures good { IsSoundHead (head_listing (memory_besides numbers.now history.now) None)
-            → IfOk result (λ forgetting. IsGoodHead forgetting.text.items (head_listing (memory_besides numbers.now history.now) None)) }
+            → IfOk result (λ forgetting. IsGoodHead forgetting.text.items
+            (head_listing (memory_besides numbers.now history.now) None)) }
         ensures bound { IsSoundHead (head_listing (memory_besides numbers.now history.now) None)
-            → IfOk result (λ forgetting. length forgetting.text.items ≤ head_room (listed_count (memory_besides numbers.now history.now))) }
-        ensures paths { IfOk result (λ forgetting. forgetting.paths.items ≡ map entry_path (reverse forgetting.numbers.items)) }
+            → IfOk result (λ forgetting. length forgetting.text.items ≤ head_room
+            (listed_count (memory_besides numbers.now history.now))) }
+        ensures paths { IfOk result
+            (λ forgetting. forgetting.paths.items ≡ map entry_path (reverse forgetting.numbers.items)) }
     {
         let ordered = in_order(alloc, numbers)?;
         let left = history.without(alloc, numbers)?;
@@ -234,7 +244,7 @@ fn put_and_remove<S: Store>(
     // After a loss of power, if nothing but the journal was in doubt before: once it is done, the
     // head is there, and some of the paths are removed; and where it stops, what might be there
     // before, or with the head, and behind it with some of the removals.
-    ensures lasting { S.honest store.new → HaveTree S.Store store.old (tree_of (S.files store.old))
+    ensures durable { S.honest store.new → HaveTree S.Store store.old (tree_of (S.files store.old))
         → OnOk result (Leaves S.Store store.new (PutsAndRemovesSome text.now paths.now (S.files store.old))) }
     ensures doubt { S.honest store.new → HaveTree S.Store store.old (tree_of (S.files store.old))
         → OnErr result (StopsWithRemovals S.Store text.now paths.now store.old store.new) }
@@ -256,7 +266,7 @@ fn remove_each<S: Store>(alloc: Global, store: &mut S, paths: &[PathText]) -> Re
     ensures stopped { S.honest store.new
         → OnErr result ((count : ℕ) × Removes (take count paths.now) (S.files store.old) (S.files store.new)) }
     // A loss of power may leave what it might before, with some of the removals.
-    ensures left { Leaves S.Store store.new (λ left. (kept : Files) × S.may_be store.old kept
+    ensures left { Leaves S.Store store.new (λ left. (kept : Files) × S.crash_states store.old kept
         × RemovesSome paths.now kept left) }
     ensures clash { S.honest store.new → result ≢ Err Cause.Clash }
     ensures moved { result ≢ Err Cause.Moved }

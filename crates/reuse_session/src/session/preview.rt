@@ -1,6 +1,6 @@
 //! Previews: what a call would do, alone or with the changes of the same plan. They only read.
 ghost use Rattle.std.specs.Prelude.{◌≡◌, ◌↔◌, ◌++◌, ◌∷◌, [], List, true, false, length, None, Some, IfOk, IfErr, OnOk};
-ghost use Rattle.reuse_command.specs.Answer.{TellsNoFault, IsReadRefusal};
+ghost use Rattle.reuse_command.specs.Answer.{DidNotFail, IsReadRefusal};
 ghost use Rattle.reuse_plan.specs.Counted.{IsCounted};
 ghost use Rattle.reuse_session.specs.session.Session.{counts_of};
 ghost use Rattle.reuse_plan.specs.PathOutcomes.{path_outcomes_of, first_refusal};
@@ -11,8 +11,10 @@ ghost use Rattle.reuse_session.specs.session.Model.{PreviewsReplayTo, kept_ahead
 ghost use Rattle.reuse_journal.specs.Labels.{is_full};
 ghost use Rattle.reuse_plan.specs.Outcome.{outcome_of, edits_of};
 ghost use Rattle.reuse_plan.specs.Plan.{IsPlan, Records};
-ghost use Rattle.reuse_session.specs.session.Previews.{run_path_outcomes_on, path_outcomes_alone, PreviewsReplay, ReadsOnly, IsPreviewRefusal};
-ghost use Rattle.reuse_session.specs.session.Session.{store_of, is_broken, memory_of, StandsOn, StandsAt};
+ghost use Rattle.reuse_session.specs.session.Previews.{run_path_outcomes_on, path_outcomes_alone, PreviewsReplay};
+ghost use Rattle.reuse_session.specs.session.Previews.{ReadsOnly, IsPreviewRefusal};
+ghost use Rattle.reuse_session.specs.session.Session.{store_of, is_broken, memory_of, SimulatesState};
+ghost use Rattle.reuse_session.specs.session.Session.{SimulatesInSession};
 ghost use Rattle.reuse_change.specs.Entry.{IsEntry};
 ghost use Rattle.reuse_change.specs.declared.direction.Direction.TheVariants as go;
 ghost use Rattle.reuse_journal.specs.declared.history.ListedEntry.{ListedEntry};
@@ -38,17 +40,18 @@ impl<S: Store + Drop> Session<S> {
     pub fn preview(&mut self, alloc: Global, command: &Command) -> Result<PathOutcomes, Refusal>
         ensures broken { (result ≡ Err Refusal.Broken) ↔ (is_broken self.old ≡ true) }
         ensures full { (result ≡ Err Refusal.JournalFull)
-            ↔ ((is_broken self.old ≡ false) × (is_full (length (memory_of self.old).done) (memory_of self.old).used ≡ true)) }
+            ↔ ((is_broken self.old ≡ false)
+            × (is_full (length (memory_of self.old).done) (memory_of self.old).used ≡ true)) }
         // The path outcomes are those of the command on the tree that is there, and so those of the
-        // machine.
-        ensures exact { S.honest (store_of self.new) → (held : State) → StandsOn S.files self.old held
+        // model.
+        ensures exact { S.honest (store_of self.new) → (held : State) → SimulatesState S.files self.old held
             → IfOk result (λ path_outcomes. path_outcomes ≡ path_outcomes_of command.now held.tree) }
-        ensures answers { S.honest (store_of self.new) → (held : State) → StandsOn S.files self.old held
-            → TellsNoFault result → result ≡ run_path_outcomes_on held command.now }
-        ensures machine { S.honest (store_of self.new) → (state : Snapshots) → StandsAt S.files self.old state
-            → TellsNoFault result → result ≡ run_path_outcomes state command.now }
+        ensures answers { S.honest (store_of self.new) → (held : State) → SimulatesState S.files self.old held
+            → DidNotFail result → result ≡ run_path_outcomes_on held command.now }
+        ensures machine { S.honest (store_of self.new) → (state : Snapshots) → SimulatesInSession S.files self.old state
+            → DidNotFail result → result ≡ run_path_outcomes state command.now }
         // It counts as a run does.
-        ensures counts { S.honest (store_of self.new) → (held : State) → StandsOn S.files self.old held
+        ensures counts { S.honest (store_of self.new) → (held : State) → SimulatesState S.files self.old held
             → OnOk result (IsCounted command.now held.tree (counts_of self.new)) }
         ensures reads_only { ReadsOnly S.Store result self.old self.new }
         ensures refusal { IfErr result IsPreviewRefusal }
@@ -68,25 +71,26 @@ impl<S: Store + Drop> Session<S> {
     ) -> Result<Previewed, Refusal>
         ensures broken { (result ≡ Err Refusal.Broken) ↔ (is_broken self.old ≡ true) }
         ensures full { (result ≡ Err Refusal.JournalFull)
-            ↔ ((is_broken self.old ≡ false) × (is_full (length (memory_of self.old).done) (memory_of self.old).used ≡ true)) }
+            ↔ ((is_broken self.old ≡ false)
+            × (is_full (length (memory_of self.old).done) (memory_of self.old).used ≡ true)) }
         // The path outcomes are those of the command on the tree that is there, and so those of the
-        // machine.
-        ensures exact { S.honest (store_of self.new) → (held : State) → StandsOn S.files self.old held
+        // model.
+        ensures exact { S.honest (store_of self.new) → (held : State) → SimulatesState S.files self.old held
             → IfOk result (λ previewed. previewed.path_outcomes ≡ path_outcomes_of command.now held.tree) }
-        ensures answers { S.honest (store_of self.new) → (held : State) → StandsOn S.files self.old held
-            → TellsNoFault result → path_outcomes_alone result ≡ run_path_outcomes_on held command.now }
-        ensures machine { S.honest (store_of self.new) → (state : Snapshots) → StandsAt S.files self.old state
-            → TellsNoFault result → path_outcomes_alone result ≡ run_path_outcomes state command.now }
+        ensures answers { S.honest (store_of self.new) → (held : State) → SimulatesState S.files self.old held
+            → DidNotFail result → path_outcomes_alone result ≡ run_path_outcomes_on held command.now }
+        ensures machine { S.honest (store_of self.new) → (state : Snapshots) → SimulatesInSession S.files self.old state
+            → DidNotFail result → path_outcomes_alone result ≡ run_path_outcomes state command.now }
         // It counts as a run does.
-        ensures counts { S.honest (store_of self.new) → (held : State) → StandsOn S.files self.old held
+        ensures counts { S.honest (store_of self.new) → (held : State) → SimulatesState S.files self.old held
             → OnOk result (IsCounted command.now held.tree (counts_of self.new)) }
         // Where none of the path outcomes is a refusal, the changes are none or a good entry, lead
         // from the tree to that of the command's outcome, and hold what the command removes and
         // writes.
-        ensures plan { S.honest (store_of self.new) → (held : State) → StandsOn S.files self.old held
+        ensures plan { S.honest (store_of self.new) → (held : State) → SimulatesState S.files self.old held
             → IfOk result (λ previewed. first_refusal previewed.path_outcomes ≡ None
             → IsPlan (outcome_of command.now held.tree) held.tree previewed.changes) }
-        ensures recorded { S.honest (store_of self.new) → (held : State) → StandsOn S.files self.old held
+        ensures recorded { S.honest (store_of self.new) → (held : State) → SimulatesState S.files self.old held
             → IfOk result (λ previewed. first_refusal previewed.path_outcomes ≡ None
             → Records held.tree (edits_of command.now held.tree) previewed.changes) }
         ensures reads_only { ReadsOnly S.Store result self.old self.new }
@@ -110,10 +114,10 @@ impl<S: Store + Drop> Session<S> {
         ensures broken { (result ≡ Err Refusal.Broken) ↔ (is_broken self.old ≡ true) }
         ensures nothing { (result ≡ Err Refusal.NothingToUndo)
             ↔ ((is_broken self.old ≡ false) × ((memory_of self.old).done ≡ [])) }
-        ensures exact { S.honest (store_of self.new) → (held : State) → StandsOn S.files self.old held
-            → TellsNoFault result → PreviewsReplay go.Backward held.journal.done held.tree result }
-        ensures machine { S.honest (store_of self.new) → (state : Snapshots) → StandsAt S.files self.old state
-            → TellsNoFault result → PreviewsReplayTo go.Backward state.past state.tree result }
+        ensures exact { S.honest (store_of self.new) → (held : State) → SimulatesState S.files self.old held
+            → DidNotFail result → PreviewsReplay go.Backward held.journal.done held.tree result }
+        ensures machine { S.honest (store_of self.new) → (state : Snapshots) → SimulatesInSession S.files self.old state
+            → DidNotFail result → PreviewsReplayTo go.Backward state.past state.tree result }
         ensures reads_only { ReadsOnly S.Store result self.old self.new }
         ensures refusal { IfErr result IsPreviewRefusal }
     {
@@ -129,10 +133,10 @@ impl<S: Store + Drop> Session<S> {
         ensures broken { (result ≡ Err Refusal.Broken) ↔ (is_broken self.old ≡ true) }
         ensures nothing { (result ≡ Err Refusal.NothingToRedo)
             ↔ ((is_broken self.old ≡ false) × ((memory_of self.old).undone ≡ [])) }
-        ensures exact { S.honest (store_of self.new) → (held : State) → StandsOn S.files self.old held
-            → TellsNoFault result → PreviewsReplay go.Forward held.journal.undone held.tree result }
-        ensures machine { S.honest (store_of self.new) → (state : Snapshots) → StandsAt S.files self.old state
-            → TellsNoFault result → PreviewsReplayTo go.Forward state.future state.tree result }
+        ensures exact { S.honest (store_of self.new) → (held : State) → SimulatesState S.files self.old held
+            → DidNotFail result → PreviewsReplay go.Forward held.journal.undone held.tree result }
+        ensures machine { S.honest (store_of self.new) → (state : Snapshots) → SimulatesInSession S.files self.old state
+            → DidNotFail result → PreviewsReplayTo go.Forward state.future state.tree result }
         ensures reads_only { ReadsOnly S.Store result self.old self.new }
         ensures refusal { IfErr result IsPreviewRefusal }
     {
@@ -152,14 +156,14 @@ impl<S: Store + Drop> Session<S> {
         ensures broken { (result ≡ Err Refusal.Broken) ↔ (is_broken self.old ≡ true) }
         ensures nothing { (result ≡ Err (end_of direction))
             ↔ ((is_broken self.old ≡ false) × (entries_ahead direction (memory_of self.old) ≡ [])) }
-        ensures exact { S.honest (store_of self.new) → (held : State) → StandsOn S.files self.old held
-            → TellsNoFault result
+        ensures exact { S.honest (store_of self.new) → (held : State) → SimulatesState S.files self.old held
+            → DidNotFail result
             → PreviewsReplay direction (ahead direction held.journal) held.tree (path_outcomes_alone result) }
-        ensures machine { S.honest (store_of self.new) → (state : Snapshots) → StandsAt S.files self.old state
-            → TellsNoFault result
+        ensures machine { S.honest (store_of self.new) → (state : Snapshots) → SimulatesInSession S.files self.old state
+            → DidNotFail result
             → PreviewsReplayTo direction (kept_ahead direction state) state.tree (path_outcomes_alone result) }
         // The changes are those of the step, and a good entry.
-        ensures changes { S.honest (store_of self.new) → (held : State) → StandsOn S.files self.old held
+        ensures changes { S.honest (store_of self.new) → (held : State) → SimulatesState S.files self.old held
             → IfOk result (λ previewed. changes_ahead (ahead direction held.journal) ≡ Some previewed.changes) }
         ensures good { IfOk result (λ previewed. IsEntry previewed.changes) }
         ensures reads_only { ReadsOnly S.Store result self.old self.new }
@@ -182,10 +186,10 @@ impl<S: Store + Drop> Session<S> {
         direction: Direction,
     ) -> Result<Previewed, Refusal>
         requires { (front : List ListedEntry) × (entries_ahead direction (memory_of self.now) ≡ front ++ listed ∷ []) }
-        ensures exact { S.honest (store_of self.new) → (held : State) → StandsOn S.files self.old held
-            → TellsNoFault result
+        ensures exact { S.honest (store_of self.new) → (held : State) → SimulatesState S.files self.old held
+            → DidNotFail result
             → PreviewsReplay direction (ahead direction held.journal) held.tree (path_outcomes_alone result) }
-        ensures changes { S.honest (store_of self.new) → (held : State) → StandsOn S.files self.old held
+        ensures changes { S.honest (store_of self.new) → (held : State) → SimulatesState S.files self.old held
             → IfOk result (λ previewed. changes_ahead (ahead direction held.journal) ≡ Some previewed.changes) }
         ensures good { IfOk result (λ previewed. IsEntry previewed.changes) }
         ensures reads_only { ReadsOnly S.Store result self.old self.new }

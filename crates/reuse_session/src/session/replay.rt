@@ -1,14 +1,15 @@
 //! A session goes one step back, or on again.
 ghost use Rattle.std.specs.Prelude.{◌≡◌, ◌↔◌, ◌⊎◌, ◌++◌, ◌∷◌, [], List, true, false, IfErr};
 ghost use Rattle.reuse_change.specs.declared.direction.Direction.TheVariants as go;
-ghost use Rattle.reuse_command.specs.Answer.{TellsNoFault, IsOpenRefusal};
+ghost use Rattle.reuse_command.specs.Answer.{DidNotFail, IsOpenRefusal};
 ghost use Rattle.reuse_session.specs.session.Calls.{IsCall, LeavesReplay};
 ghost use Rattle.reuse_journal.specs.History.{entries_ahead};
 ghost use Rattle.reuse_journal.specs.Journal.{State, Replays, Undoes, Redoes, ahead, end_of, reply_of};
 ghost use Rattle.reuse_session.specs.session.SafeCalls.{SurvivesCall};
 ghost use Rattle.reuse_session.specs.session.Machine.{Snapshots};
 ghost use Rattle.reuse_session.specs.session.Model.{ReplaysTo};
-ghost use Rattle.reuse_session.specs.session.Session.{store_of, is_broken, memory_of, IsReplay, StandsAt, StandsOn};
+ghost use Rattle.reuse_session.specs.session.Session.{store_of, is_broken, memory_of, IsReplay, SimulatesInSession};
+ghost use Rattle.reuse_session.specs.session.Session.{SimulatesState};
 ghost use Rattle.reuse_journal.specs.declared.history.ListedEntry.{ListedEntry};
 
 use crate::session::Session;
@@ -36,12 +37,12 @@ impl<S: Store + Drop> Session<S> {
         // Unless the answer reports an I/O error or an allocation failure, it is accepted exactly
         // where each file is as the step left it and no path that it makes clashes. It then takes
         // these changes back, and changes nothing else.
-        ensures exact { S.honest (store_of self.new) → (held : State) → StandsOn S.files self.old held
-            → TellsNoFault result → (left : State) × StandsOn S.files self.new left
+        ensures exact { S.honest (store_of self.new) → (held : State) → SimulatesState S.files self.old held
+            → DidNotFail result → (left : State) × SimulatesState S.files self.new left
             × Undoes held.journal.done held result left }
-        ensures machine { S.honest (store_of self.new) → (state : Snapshots) → StandsAt S.files self.old state
-            → TellsNoFault result → (next : Snapshots) × ReplaysTo go.Backward state.past state result next
-            × StandsAt S.files self.new next }
+        ensures machine { S.honest (store_of self.new) → (state : Snapshots) → SimulatesInSession S.files self.old state
+            → DidNotFail result → (next : Snapshots) × ReplaysTo go.Backward state.past state result next
+            × SimulatesInSession S.files self.new next }
 
         // What is left after a loss of power, at any moment of the call.
         ensures survives { SurvivesCall S.Store (IsReplay go.Backward) result self.old self.new }
@@ -66,12 +67,12 @@ impl<S: Store + Drop> Session<S> {
         // Unless the answer reports an I/O error or an allocation failure, it is accepted exactly
         // where each file is as it was before the step and no path that it makes clashes. It then
         // makes these changes, and changes nothing else.
-        ensures exact { S.honest (store_of self.new) → (held : State) → StandsOn S.files self.old held
-            → TellsNoFault result → (left : State) × StandsOn S.files self.new left
+        ensures exact { S.honest (store_of self.new) → (held : State) → SimulatesState S.files self.old held
+            → DidNotFail result → (left : State) × SimulatesState S.files self.new left
             × Redoes held.journal.undone held result left }
-        ensures machine { S.honest (store_of self.new) → (state : Snapshots) → StandsAt S.files self.old state
-            → TellsNoFault result → (next : Snapshots) × ReplaysTo go.Forward state.future state result next
-            × StandsAt S.files self.new next }
+        ensures machine { S.honest (store_of self.new) → (state : Snapshots) → SimulatesInSession S.files self.old state
+            → DidNotFail result → (next : Snapshots) × ReplaysTo go.Forward state.future state result next
+            × SimulatesInSession S.files self.new next }
 
         // What is left after a loss of power, at any moment of the call.
         ensures survives { SurvivesCall S.Store (IsReplay go.Forward) result self.old self.new }
@@ -88,8 +89,8 @@ impl<S: Store + Drop> Session<S> {
         ensures nothing { (result ≡ Err (end_of direction))
             ↔ ((is_broken self.old ≡ false) × (entries_ahead direction (memory_of self.old) ≡ [])) }
         ensures stays { (result ≡ Err Refusal.Broken) ⊎ (result ≡ Err (end_of direction)) → self.new ≡ self.old }
-        ensures exact { S.honest (store_of self.new) → (held : State) → StandsOn S.files self.old held
-            → TellsNoFault result → (left : State) × StandsOn S.files self.new left
+        ensures exact { S.honest (store_of self.new) → (held : State) → SimulatesState S.files self.old held
+            → DidNotFail result → (left : State) × SimulatesState S.files self.new left
             × Replays direction (ahead direction held.journal) held result left }
         ensures survives { SurvivesCall S.Store (IsReplay direction) result self.old self.new }
         ensures call { IsCall S.Store result self.old self.new }
@@ -112,8 +113,8 @@ impl<S: Store + Drop> Session<S> {
         direction: Direction,
     ) -> Result<Response, Refusal>
         requires { (front : List ListedEntry) × (entries_ahead direction (memory_of self.now) ≡ front ++ listed ∷ []) }
-        ensures exact { S.honest (store_of self.new) → (held : State) → StandsOn S.files self.old held
-            → TellsNoFault result → (left : State) × StandsOn S.files self.new left
+        ensures exact { S.honest (store_of self.new) → (held : State) → SimulatesState S.files self.old held
+            → DidNotFail result → (left : State) × SimulatesState S.files self.new left
             × Replays direction (ahead direction held.journal) held result left }
         ensures survives { SurvivesCall S.Store (IsReplay direction) result self.old self.new }
         ensures call { IsCall S.Store result self.old self.new }

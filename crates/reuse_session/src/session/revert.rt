@@ -15,15 +15,17 @@ use std::alloc::Global;
 
 impl<S: Store + Drop> Session<S> {
     ghost use Rattle.reuse_store.specs.Asked.{OnlyReads};
-    ghost use Rattle.reuse_command.specs.Answer.{TellsNoFault, IsNoClash, IsNoStep};
+    ghost use Rattle.reuse_command.specs.Answer.{DidNotFail, IsNoClash, IsNoStep};
     ghost use Rattle.reuse_session.specs.session.Calls.{IsCall};
     ghost use Rattle.reuse_journal.specs.Journal.{State};
     ghost use Rattle.reuse_session.specs.session.SafeCalls.{SurvivesCall};
     ghost use Rattle.reuse_session.specs.session.Machine.{Snapshots};
     ghost use Rattle.reuse_journal.specs.Labels.{is_full};
-    ghost use Rattle.reuse_session.specs.session.RevertCalls.{as_run, GivesRevert, GivesRevertAt, IsAfterRevert, Reverts, RevertFollows, LeavesRevert};
+    ghost use Rattle.reuse_session.specs.session.RevertCalls.{as_run, GivesRevert, GivesRevertAt, IsAfterRevert};
+    ghost use Rattle.reuse_session.specs.session.RevertCalls.{Reverts, RevertFollows, LeavesRevert};
     ghost use Rattle.reuse_session.specs.session.Previews.{ReadsOnly};
-    ghost use Rattle.reuse_session.specs.session.Session.{store_of, is_broken, memory_of, StandsOn, StandsAt};
+    ghost use Rattle.reuse_session.specs.session.Session.{store_of, is_broken, memory_of, SimulatesState};
+    ghost use Rattle.reuse_session.specs.session.Session.{SimulatesInSession};
     ghost use Rattle.reuse_journal.specs.Numbered.{lists};
 
     /// Takes the changes of a step back, on whatever the tree is now, as a new step. With
@@ -56,19 +58,20 @@ impl<S: Store + Drop> Session<S> {
 
         // Unless the answer reports an I/O error or an allocation failure, the files and the
         // session go on as a run of the command that takes the step's changes back: from any
-        // standing, and as the machine.
-        ensures exact { S.honest (store_of self.new) → (held : State) → StandsOn S.files self.old held
-            → TellsNoFault result → (left : State) × StandsOn S.files self.new left
+        // committed state, and as the model.
+        ensures exact { S.honest (store_of self.new) → (held : State) → SimulatesState S.files self.old held
+            → DidNotFail result → (left : State) × SimulatesState S.files self.new left
             × Reverts number skip_moved when held result left }
-        ensures machine { S.honest (store_of self.new) → (state : Snapshots) → StandsAt S.files self.old state
-            → TellsNoFault result → RevertFollows S.files number skip_moved when state result self.new }
+        ensures machine { S.honest (store_of self.new) → (state : Snapshots) → SimulatesInSession S.files self.old state
+            → DidNotFail result → RevertFollows S.files number skip_moved when state result self.new }
 
         // Where no step is made and none was begun, it only reads.
         ensures idle { IsNoStep (as_run result) → OnlyReads S.Store (store_of self.old) (store_of self.new) }
 
         // What is left after a loss of power, at any moment of the call, as of a run that takes
         // some changes back.
-        ensures survives { SurvivesCall S.Store (IsAfterRevert number skip_moved when) (as_run result) self.old self.new }
+        ensures survives { SurvivesCall S.Store (IsAfterRevert number skip_moved when)
+            (as_run result) self.old self.new }
 
         // What any call leaves, and what a revert leaves of the files, whatever it answers.
         ensures call { IsCall S.Store result self.old self.new }
@@ -102,10 +105,10 @@ impl<S: Store + Drop> Session<S> {
         ensures broken { (result ≡ Err Refusal.Broken) ↔ (is_broken self.old ≡ true) }
         ensures absent { (result ≡ Err (Refusal.NoSuchStep number))
             ↔ ((is_broken self.old ≡ false) × (lists (memory_of self.old).done number ≡ false)) }
-        ensures exact { S.honest (store_of self.new) → (held : State) → StandsOn S.files self.old held
-            → TellsNoFault result → GivesRevert number skip_moved held result }
-        ensures machine { S.honest (store_of self.new) → (state : Snapshots) → StandsAt S.files self.old state
-            → TellsNoFault result → GivesRevertAt number skip_moved state result }
+        ensures exact { S.honest (store_of self.new) → (held : State) → SimulatesState S.files self.old held
+            → DidNotFail result → GivesRevert number skip_moved held result }
+        ensures machine { S.honest (store_of self.new) → (state : Snapshots) → SimulatesInSession S.files self.old state
+            → DidNotFail result → GivesRevertAt number skip_moved state result }
         ensures reads_only { ReadsOnly S.Store result self.old self.new }
         ensures call { IsCall S.Store result self.old self.new }
     {

@@ -10,11 +10,12 @@ use std::alloc::Global;
 
 impl<S: Store + Drop> Session<S> {
     ghost use Rattle.reuse_store.specs.Asked.{OnlyReads};
-    ghost use Rattle.reuse_command.specs.Answer.{TellsNoFault, RefusedAsRead};
+    ghost use Rattle.reuse_command.specs.Answer.{DidNotFail, RefusedAsRead};
     ghost use Rattle.reuse_session.specs.session.Calls.{IsCall};
     ghost use Rattle.reuse_journal.specs.Journal.{State};
     ghost use Rattle.reuse_session.specs.session.Machine.{Snapshots};
-    ghost use Rattle.reuse_session.specs.session.Session.{store_of, is_broken, memory_of, IsKept, StandsOn, StandsAt};
+    ghost use Rattle.reuse_session.specs.session.Session.{store_of, is_broken, memory_of, IsKept, SimulatesState};
+    ghost use Rattle.reuse_session.specs.session.Session.{SimulatesInSession};
     ghost use Rattle.reuse_session.specs.session.Showing.{ShowsIn, ShowsAt};
     ghost use Rattle.reuse_journal.specs.Numbered.{lists};
 
@@ -26,12 +27,13 @@ impl<S: Store + Drop> Session<S> {
     pub fn show(&mut self, alloc: Global, number: u32) -> Result<Shown, Refusal>
         ensures broken { (result ≡ Err Refusal.Broken) ↔ (is_broken self.old ≡ true) }
         ensures absent { (result ≡ Err (Refusal.NoSuchStep number))
-            ↔ ((is_broken self.old ≡ false) × ((lists (memory_of self.old).done number || lists (memory_of self.old).undone number) ≡ false)) }
+            ↔ ((is_broken self.old ≡ false)
+            × ((lists (memory_of self.old).done number || lists (memory_of self.old).undone number) ≡ false)) }
         // Unless it reports an I/O error or an allocation failure, it shows a step of the number,
         // or reports that there is none.
-        ensures exact { S.honest (store_of self.new) → (held : State) → StandsOn S.files self.old held
-            → TellsNoFault result → ShowsIn held.journal number result }
-        ensures machine { S.honest (store_of self.new) → (state : Snapshots) → StandsAt S.files self.old state
+        ensures exact { S.honest (store_of self.new) → (held : State) → SimulatesState S.files self.old held
+            → DidNotFail result → ShowsIn held.journal number result }
+        ensures machine { S.honest (store_of self.new) → (state : Snapshots) → SimulatesInSession S.files self.old state
             → IfOk result (ShowsAt state number) }
         // It only reads, and what is remembered stays.
         ensures reads { OnlyReads S.Store (store_of self.old) (store_of self.new) }

@@ -1,7 +1,7 @@
 //! The system itself. Each method makes the one call that it notes: that it does is not proved, and
 //! has to be read here.
 ghost use Rattle.std.specs.Prelude.{◌≡◌, ◌≢◌, IfOk};
-ghost use Rattle.reuse_system.specs.Asides.{name_in, place_of};
+ghost use Rattle.reuse_system.specs.TempFiles.{name_in, place_of};
 ghost use Rattle.reuse_system.specs.SystemCall.{made_of};
 
 use crate::fault::FolderFault;
@@ -12,7 +12,7 @@ use crate::process::ProcessIds;
 use crate::system::make_file::make_file;
 use crate::system::open_file::open_file;
 use crate::system::record::{CallKind, SystemRecord};
-use crate::system::{Aside, OpenedFile, System};
+use crate::system::{OpenedFile, System, TempFile};
 use reuse_store::Reading;
 use std::alloc::Global;
 use std::fs::{self, File};
@@ -20,8 +20,8 @@ use std::io::{self, ErrorKind, Write};
 use std::rt::Files;
 
 /// The system that the program runs on. The folders and the files that names lead to are those of
-/// its record: those of the start, which no code knows, as the calls have left them. So the contract
-/// holds for whatever folders and files there were.
+/// its record: those of the start, which no code knows, as the calls have left them. So the
+/// contract holds for whatever folders and files there were.
 #[derive(Drop)]
 pub struct HostSystem<R: Files<File = File> + AllocGlobal + Drop> {
     rt: R,
@@ -60,28 +60,28 @@ fn append_to(file: &File, bytes: &[u8]) -> io::Result<()> {
 
 fn rename_to<R: Files<File = File> + AllocGlobal>(
     rt: &R,
-    aside: &Aside,
+    temp_file: &TempFile,
     folder: &OpenFolder,
     name: &str,
 ) -> io::Result<()> {
     let path = folder.path_of(rt.alloc(), name)?;
-    fs::rename(rt, aside.path.as_str(), path.as_str())
+    fs::rename(rt, temp_file.path.as_str(), path.as_str())
 }
 
-/// Links the file aside to this name, which is another one than its own.
+/// Links the temporary file to this name, which is another one than its own.
 fn link_to<R: Files<File = File> + AllocGlobal>(
     rt: &R,
-    aside: &Aside,
+    temp_file: &TempFile,
     folder: &OpenFolder,
     name: &str,
 ) -> io::Result<()>
-    ensures { IfOk result (λ _. place_of aside.now ≢ name_in folder.now name.now) }
+    ensures { IfOk result (λ _. place_of temp_file.now ≢ name_in folder.now name.now) }
 {
-    if aside.folder == folder.identity() && aside.name.as_str() == name {
+    if temp_file.folder == folder.identity() && temp_file.name.as_str() == name {
         return Err(ErrorKind::AlreadyExists.into());
     }
     let path = folder.path_of(rt.alloc(), name)?;
-    fs::hard_link(rt, aside.path.as_str(), path.as_str())
+    fs::hard_link(rt, temp_file.path.as_str(), path.as_str())
 }
 
 fn remove_in<R: Files<File = File> + AllocGlobal>(
@@ -114,17 +114,18 @@ fn remove_folder_in<R: Files<File = File> + AllocGlobal>(
 impl<R: Files<File = File> + AllocGlobal + Drop> System for HostSystem<R> {
     ghost use Rattle.reuse_system.specs.SystemCalls.{changes_of, folders_after, held_after, looked_of, IsHonest};
 
-    ghost holds = { λ system. held_after system.noted.files system.noted.fates system.noted.calls };
+    ghost holds = { λ system. held_after system.noted.files system.noted.effects system.noted.calls };
 
-    ghost folders = { λ system. folders_after system.noted.folders system.noted.fates system.noted.calls };
+    ghost folders = { λ system. folders_after system.noted.folders system.noted.effects system.noted.calls };
 
     ghost looked = { λ system. looked_of system.noted.calls };
 
     ghost changes = { λ system. changes_of system.noted.calls };
 
-    ghost honest = { λ system. IsHonest system.noted.folders system.noted.files system.noted.fates system.noted.calls };
+    ghost honest = { λ system.
+        IsHonest system.noted.folders system.noted.files system.noted.effects system.noted.calls };
 
-    fn make(&mut self, folder: &OpenFolder, name: &str, mode: Option<u32>) -> io::Result<Aside> {
+    fn make(&mut self, folder: &OpenFolder, name: &str, mode: Option<u32>) -> io::Result<TempFile> {
         let number = self.made;
         let Some(made) = number.checked_add(1) else {
             return Err(ErrorKind::Other.into());
@@ -136,40 +137,40 @@ impl<R: Files<File = File> + AllocGlobal + Drop> System for HostSystem<R> {
         answer
     }
 
-    fn append(&mut self, aside: &Aside, bytes: &[u8]) -> io::Result<()> {
-        let answer = append_to(&aside.file, bytes);
-        let kind = CallKind::Append(aside.number, answer.is_ok());
+    fn append(&mut self, temp_file: &TempFile, bytes: &[u8]) -> io::Result<()> {
+        let answer = append_to(&temp_file.file, bytes);
+        let kind = CallKind::Append(temp_file.number, answer.is_ok());
         self.noted.note(&kind, bytes, b"");
         answer
     }
 
-    fn sync_data(&mut self, aside: &Aside) -> io::Result<()> {
-        let answer = aside.file.sync_data();
-        let kind = CallKind::Sync(aside.number, answer.is_ok());
+    fn sync_data(&mut self, temp_file: &TempFile) -> io::Result<()> {
+        let answer = temp_file.file.sync_data();
+        let kind = CallKind::Sync(temp_file.number, answer.is_ok());
         self.noted.note(&kind, b"", b"");
         answer
     }
 
-    fn rename(&mut self, aside: &Aside, folder: &OpenFolder, name: &str) -> io::Result<()> {
-        let answer = rename_to(&self.rt, aside, folder, name);
-        let kind = CallKind::Rename(aside.folder, folder.identity(), answer.is_ok());
+    fn rename(&mut self, temp_file: &TempFile, folder: &OpenFolder, name: &str) -> io::Result<()> {
+        let answer = rename_to(&self.rt, temp_file, folder, name);
+        let kind = CallKind::Rename(temp_file.folder, folder.identity(), answer.is_ok());
         self.noted
-            .note(&kind, aside.name.as_bytes(), name.as_bytes());
+            .note(&kind, temp_file.name.as_bytes(), name.as_bytes());
         answer
     }
 
-    fn link(&mut self, aside: &Aside, folder: &OpenFolder, name: &str) -> io::Result<()> {
-        let answer = link_to(&self.rt, aside, folder, name);
-        let kind = CallKind::Link(aside.folder, folder.identity(), answer.is_ok());
+    fn link(&mut self, temp_file: &TempFile, folder: &OpenFolder, name: &str) -> io::Result<()> {
+        let answer = link_to(&self.rt, temp_file, folder, name);
+        let kind = CallKind::Link(temp_file.folder, folder.identity(), answer.is_ok());
         self.noted
-            .note(&kind, aside.name.as_bytes(), name.as_bytes());
+            .note(&kind, temp_file.name.as_bytes(), name.as_bytes());
         answer
     }
 
-    fn discard(&mut self, aside: &Aside) {
-        let answer = fs::remove_file(&self.rt, aside.path.as_str());
-        let kind = CallKind::Remove(aside.folder, answer.is_ok());
-        self.noted.note(&kind, aside.name.as_bytes(), b"");
+    fn discard(&mut self, temp_file: &TempFile) {
+        let answer = fs::remove_file(&self.rt, temp_file.path.as_str());
+        let kind = CallKind::Remove(temp_file.folder, answer.is_ok());
+        self.noted.note(&kind, temp_file.name.as_bytes(), b"");
     }
 
     fn remove(&mut self, folder: &OpenFolder, name: &str) -> io::Result<()> {

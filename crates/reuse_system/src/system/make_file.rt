@@ -1,9 +1,9 @@
 //! Making a file.
 ghost use Rattle.std.specs.Prelude.{◌≡◌, IfOk};
-ghost use Rattle.reuse_system.specs.Asides.{name_in, place_of};
+ghost use Rattle.reuse_system.specs.TempFiles.{name_in, place_of};
 
 use crate::handle::OpenFolder;
-use crate::system::Aside;
+use crate::system::TempFile;
 use std::fs::{File, OpenOptions};
 use std::io;
 use std::os::unix::fs::OpenOptionsExt;
@@ -16,9 +16,9 @@ pub fn make_file<R: Files<File = File> + AllocGlobal>(
     name: &str,
     mode: Option<u32>,
     number: u64,
-) -> io::Result<Aside>
-    ensures place { IfOk result (λ aside. place_of aside ≡ name_in folder.now name.now) }
-    ensures number { IfOk result (λ aside. aside.number ≡ number) }
+) -> io::Result<TempFile>
+    ensures place { IfOk result (λ temp_file. place_of temp_file ≡ name_in folder.now name.now) }
+    ensures number { IfOk result (λ temp_file. temp_file.number ≡ number) }
 {
     let path = folder.path_of(rt.alloc(), name)?;
     let name = String::from_str(rt.alloc(), name)?;
@@ -28,7 +28,7 @@ pub fn make_file<R: Files<File = File> + AllocGlobal>(
         options.mode(mode);
     }
     let file = options.open(rt, path.as_str())?;
-    Ok(Aside {
+    Ok(TempFile {
         file,
         path,
         folder: folder.identity(),

@@ -1,6 +1,6 @@
 //! Opening a file for reading.
 ghost use Rattle.std.specs.Prelude.{◌≡◌, IfOk, IfSome};
-ghost use Rattle.reuse_system.specs.Asides.{name_in, opened_at};
+ghost use Rattle.reuse_system.specs.TempFiles.{name_in, opened_at};
 
 use crate::fault::FolderFault;
 use crate::handle::OpenFolder;

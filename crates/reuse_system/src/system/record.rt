@@ -19,7 +19,7 @@ pub enum CallKind {
     Make(Identity, bool),
     /// Bytes were to be written to the end of this file.
     Append(u64, bool),
-    /// The bytes of this file were to be made lasting.
+    /// The bytes of this file were to be made durable.
     Sync(u64, bool),
     /// A name in the first folder was to become one in the second.
     Rename(Identity, Identity, bool),
@@ -27,7 +27,7 @@ pub enum CallKind {
     Link(Identity, Identity, bool),
     /// A name in this folder was to be removed.
     Remove(Identity, bool),
-    /// A name in this folder was looked at, and this was told of it.
+    /// A name in this folder was looked at, and this was reported of it.
     Look(Identity, Result<Found, FolderFault>),
     /// A file in this folder was read, which was said to have so many bytes, up to a limit.
     Read(Identity, u64, usize, ReadKind),
@@ -35,7 +35,7 @@ pub enum CallKind {
     Root(Identity),
     /// A name in the first folder was opened, and it is the second one.
     Open(Identity, Identity),
-    /// A name in this folder was to be opened, and this was told in place of a folder.
+    /// A name in this folder was to be opened, and this was reported in place of a folder.
     NoFolder(Identity, Found),
     /// A folder was to be made in this one.
     MakeFolder(Identity, bool),
@@ -52,14 +52,16 @@ pub enum ReadKind {
     Failed(FolderFault),
 }
 
-/// The folders and the files at the start, the fates of the calls to come, and the calls since then with their
-/// answers, the newest first. It takes no bytes, and nothing runs.
+/// The folders and the files at the start, the effects of the calls to come, and the calls since
+/// then with their answers, the newest first. It takes no bytes, and nothing runs.
 #[derive(Drop)]
 pub struct SystemRecord {
     marker: PhantomData<u8>,
-    pub ghost folders: { (ℕ × ℕ) × (List (Place × (ℕ × ℕ)) × List Place) } by { coded× (coded× coded_ℕ coded_ℕ) (coded× (coded_list (coded× (coded_list coded_ℕ) (coded× coded_ℕ coded_ℕ))) (coded_list (coded_list coded_ℕ))) },
-    pub ghost files: { List (Place × (ℕ × (List ℕ × Bool))) } by { coded_list (coded× (coded_list coded_ℕ) (coded× coded_ℕ (coded× (coded_list coded_ℕ) coded_bool))) },
-    pub ghost fates: { List ℕ } by { coded_list coded_ℕ },
+    pub ghost folders: { (ℕ × ℕ) × (List (Place × (ℕ × ℕ)) × List Place) } by { coded× (coded× coded_ℕ coded_ℕ) (coded×
+        (coded_list (coded× (coded_list coded_ℕ) (coded× coded_ℕ coded_ℕ))) (coded_list (coded_list coded_ℕ))) },
+    pub ghost files: { List (Place × (ℕ × (List ℕ × Bool))) } by { coded_list
+        (coded× (coded_list coded_ℕ) (coded× coded_ℕ (coded× (coded_list coded_ℕ) coded_bool))) },
+    pub ghost effects: { List ℕ } by { coded_list coded_ℕ },
     pub ghost calls: { List SystemCall },
 }
 
@@ -70,11 +72,12 @@ impl Model for SystemRecord {
 impl SystemRecord {
     ghost use Rattle.reuse_system.specs.SystemCalls.{SystemStart, call_of};
 
-    /// A record of no calls, with any folders and files at the start and any fates of the calls to
-    /// come.
+    /// A record of no calls, with any folders and files at the start and any effects of the calls
+    /// to come.
     pub fn new() -> SystemRecord
         ghost start: { SystemStart }
-        ensures { (result.folders ≡ start.folders) × (result.files ≡ start.files) × (result.fates ≡ start.fates) × (result.calls ≡ []) }
+        ensures { (result.folders ≡ start.folders) × (result.files ≡ start.files) × (result.effects ≡ start.effects)
+            × (result.calls ≡ []) }
     {
         SystemRecord {
             marker: PhantomData,
@@ -95,7 +98,8 @@ impl SystemRecord {
         limit: usize,
         answer: &Result<Reading, FolderFault>,
     )
-        ensures { self.new ≡ record self.old { calls = ReadCall (place_in folder name.now) said limit answer.now ∷ self.old.calls } }
+        ensures { self.new
+            ≡ record self.old { calls = ReadCall (place_in folder name.now) said limit answer.now ∷ self.old.calls } }
     {
         let name = name.as_bytes();
         match answer {

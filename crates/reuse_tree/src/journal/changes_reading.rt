@@ -14,7 +14,7 @@ use crate::journal::entry_reading::change_of;
 use json::{Reader, Scratch, Token};
 use reuse_change::{Change, MOST_CHANGES};
 use reuse_json::trimmed::{DEEPEST, read, read_from};
-use reuse_json::{DecodeFault, Room};
+use reuse_json::{DecodeFault, LengthLimit};
 use serde_json::Value;
 use std::alloc::Global;
 
@@ -92,7 +92,7 @@ fn list_after(
         drop(found);
         return list_in_value(alloc, reader, sealed);
     }
-    drop(read(alloc, reader, IN_OBJECT, Room::Leaf)?);
+    drop(read(alloc, reader, IN_OBJECT, LengthLimit::Leaf)?);
     Ok(found)
 }
 
@@ -111,7 +111,7 @@ fn list_in_value(
     if let Token::BeginArray = token {
         return change_list(alloc, reader, sealed);
     }
-    drop(read_from(alloc, token, reader, IN_OBJECT, Room::Leaf)?);
+    drop(read_from(alloc, token, reader, IN_OBJECT, LengthLimit::Leaf)?);
     Ok(None)
 }
 
@@ -131,7 +131,7 @@ fn change_list(
 {
     let mut found = Some(Vec::new(alloc));
     'items: while !reader.take_end_array() {
-        let value = read(alloc, reader, IN_LIST, Room::Change)?;
+        let value = read(alloc, reader, IN_LIST, LengthLimit::Change)?;
         found = with_change(alloc, found, &value, sealed)?;
     }
     Ok(found)

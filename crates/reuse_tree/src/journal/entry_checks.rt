@@ -134,7 +134,7 @@ fn are_apart(changes: &[Change]) -> bool
 }
 
 // Whether one of the ascending paths lies under a folder. Those that do stand together, so the
-// first that may is sought by halves.
+// first that may is searched by halves.
 fn has_file_under(folder: &PathText, later: &[Change]) -> bool
     requires { IsStrictlySortedBy (slice_cmp nat_cmp) (paths_of later.now) }
     ensures { result ≡ is_folder_of (paths_of later.now) folder.now }

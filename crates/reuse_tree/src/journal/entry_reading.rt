@@ -21,7 +21,7 @@ use reuse_json::fields::{
     next_number, next_path, text_of,
 };
 use reuse_json::trimmed::parse_trimmed;
-use reuse_json::{Changes, DecodeFault, Entry, Room};
+use reuse_json::{Changes, DecodeFault, Entry, LengthLimit};
 use reuse_text::Bytes;
 use serde_json::Value;
 use std::alloc::Global;
@@ -74,11 +74,12 @@ fn read_entry(alloc: Global, text: &[u8]) -> Result<Entry, DecodeFault>
 
 // Of the entry whose value the text is, all but the changes.
 fn read_frame(alloc: Global, text: &[u8]) -> Result<(CommandName, bool, Moment), DecodeFault>
-    ensures ok { IfOk result (λ frame. (d : Data) × IsJson text.now d × (frame_in (trim Room.Entry d) ≡ Some frame)) }
+    ensures ok { IfOk result
+        (λ frame. (d : Data) × IsJson text.now d × (frame_in (trim LengthLimit.Entry d) ≡ Some frame)) }
     ensures refused { result ≡ Err DecodeFault.NotGood
-        → (d : Data) → IsJson text.now d → frame_in (trim Room.Entry d) ≡ None }
+        → (d : Data) → IsJson text.now d → frame_in (trim LengthLimit.Entry d) ≡ None }
 {
-    let value = parse_trimmed(alloc, text, Room::Entry)?;
+    let value = parse_trimmed(alloc, text, LengthLimit::Entry)?;
     frame_of(&value)
 }
 

@@ -14,7 +14,7 @@ pub enum PendingDirection {
     Redo,
 }
 
-/// The entry that is under way.
+/// The entry that is pending.
 #[derive(Clone, Copy, Debug, PartialEq, Eq)]
 pub struct Pending {
     /// Its number.
@@ -32,7 +32,7 @@ pub struct Head {
     pub undone: EntryNumbers,
     /// The number that the next entry gets.
     pub next: u32,
-    /// The entry that is under way, if any.
+    /// The entry that is pending, if any.
     pub pending: Option<Pending>,
 }
 

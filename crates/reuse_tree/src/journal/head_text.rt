@@ -12,7 +12,7 @@ use crate::journal::head::{Head, Pending, PendingDirection};
 use reuse_change::layout::{LATEST_FORMAT, MOST_LISTED};
 use reuse_json::fields::{field, fields, finish, next_format, next_numbers, next_small, text_of};
 use reuse_json::trimmed::parse_trimmed;
-use reuse_json::{DecodeFault, Room};
+use reuse_json::{DecodeFault, LengthLimit};
 use reuse_text::LONGEST_FILE;
 use serde_json::{Value, json};
 use std::alloc::{AllocError, Global};
@@ -85,7 +85,7 @@ fn read_head(alloc: Global, text: &[u8]) -> Result<Head, DecodeFault>
     ensures ok { IfOk result (IsJsonHead text.now) }
     ensures only { (h : Head) → IsSoundHead h → IsJsonHead text.now h → IsAnswer result h }
 {
-    let value = parse_trimmed(alloc, text, Room::Head)?;
+    let value = parse_trimmed(alloc, text, LengthLimit::Head)?;
     head_of(alloc, &value)
 }
 

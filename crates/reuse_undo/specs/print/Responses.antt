@@ -12,7 +12,7 @@ use Rattle.reuse_arguments.specs.declared.line.PrintOptions.{PrintOptions}
 use Rattle.reuse_arguments.specs.declared.line.OutputFormat.{OutputFormat}
 use Rattle.reuse_arguments.specs.declared.line.OutputFormat.TheVariants.{Diff, Json}
 use Rattle.reuse_command.specs.declared.reply.Response.{Response}
-use Rattle.reuse_shown.specs.declared.shown_name.Names.{Names}
+use Rattle.reuse_shown.specs.declared.shown_name.NameDisplay.{NameDisplay}
 use Rattle.reuse_diff.specs.DiffText.{AreRecords}
 use Rattle.reuse_print.specs.Lines.{IsResponseText, path_count}
 use Rattle.reuse_print.specs.Objects.{ArePathOutcomeObjects, AreRowObjects, IsShownObject}
@@ -41,7 +41,7 @@ IsDiffBehind response diff = diff ≡ []
 
 -- what an answer is printed as: in lines; in lines with a diff behind them; or rows, steps and dry runs as objects, and
 -- all else in lines
-abbrev pub IsTextIn : OutputFormat → Names → Response → List ℕ → Type 0
+abbrev pub IsTextIn : OutputFormat → NameDisplay → Response → List ℕ → Type 0
 IsTextIn Json names (Log rows) text = AreRowObjects rows text
 IsTextIn Json names (Preview path_outcomes) text = ArePathOutcomeObjects path_outcomes text
 IsTextIn Json names (Shown shown) text = IsShownObject shown text
@@ -66,7 +66,7 @@ IsDrawnPreview options response = (options.format ≡ Diff) × (path_outcomes : 
 -- ---- for private clauses
 
 -- the answer's lines, with this behind them
-abbrev pub HasBehind : Names → Response → List ℕ → List ℕ → Type 0
+abbrev pub HasBehind : NameDisplay → Response → List ℕ → List ℕ → Type 0
 HasBehind names response behind text = (lines : List ℕ) × IsResponseText names response lines × (text ≡ lines ++ behind)
 
 -- there is no diff
@@ -97,7 +97,7 @@ IsAccepted (Ok response) =
     (path_outcomes : List PathOutcome) × (response ≡ Preview path_outcomes) × (is_refused path_outcomes ≡ false)
 IsAccepted (Err refusal) = ⊥
 
--- a diff is wanted of what the answer tells
+-- a diff is wanted of what the answer reports
 abbrev pub IsWanted : PrintOptions → Result Response Refusal → Type 0
 IsWanted options (Ok response) = IsDrawnPreview options response
 IsWanted options (Err refusal) = ⊥

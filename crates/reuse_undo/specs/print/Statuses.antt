@@ -1,14 +1,15 @@
 -- What the program exits with.
 use Rattle.std.specs.Prelude.{ℕ, zero, suc, max, Result, Ok, Err, true, false}
 use Rattle.reuse_notice.specs.declared.adding.NoticeRefusal.TheVariants as notices
-use Rattle.reuse_undo.specs.declared.run.denial.Denial.{Denial}
+use Rattle.reuse_undo.specs.declared.run.access_refusal.AccessRefusal.{AccessRefusal}
 use Rattle.reuse_print.specs.declared.fault.Fault.{Fault}
 use Rattle.reuse_arguments.specs.declared.line.ChangeStatus.{ChangeStatus}
 use Rattle.reuse_arguments.specs.declared.line.ChangeStatus.TheVariants.{Zero, One}
 use Rattle.reuse_arguments.specs.declared.line.LineFault.{LineFault}
 use Rattle.reuse_undo.specs.declared.print.status.Ending.{Ending}
 use Rattle.reuse_undo.specs.declared.print.status.Ending.TheVariants.{BadClock, NoLine, Denied, Called}
-use Rattle.reuse_arguments.specs.declared.line.LineFault.TheVariants.{Usage, Help, BadPath, BadAdditions, NothingToAmend, BadGlob, Unreadable, Memory}
+use Rattle.reuse_arguments.specs.declared.line.LineFault.TheVariants.{Usage, Help, BadPath, BadAdditions}
+use Rattle.reuse_arguments.specs.declared.line.LineFault.TheVariants.{NothingToAmend, BadGlob, Unreadable, Memory}
 
 -- after a call, by how many paths changed, or would change in a dry run: 1 where it was refused or failed, and 1 where
 -- a path changed and that is asked for
@@ -37,10 +38,10 @@ abbrev pub exit_status_of : Ending → ℕ
 exit_status_of BadClock = 1
 exit_status_of (NoLine fault true) = line_status_of fault
 exit_status_of (NoLine fault false) = max (line_status_of fault) 1
-exit_status_of (Denied denial) = 1
+exit_status_of (Denied access_refusal) = 1
 exit_status_of (Called outcome on_change) = call_status_of on_change outcome
 
 -- how a call ended, of which this came: it was made, or was to be made, or the program denied it
-abbrev pub ending_of : ChangeStatus → Result (Result ℕ Fault) Denial → Ending
+abbrev pub ending_of : ChangeStatus → Result (Result ℕ Fault) AccessRefusal → Ending
 ending_of on_change (Ok outcome) = Called outcome on_change
-ending_of on_change (Err denial) = Denied denial
+ending_of on_change (Err access_refusal) = Denied access_refusal

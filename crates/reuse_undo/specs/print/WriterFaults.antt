@@ -9,8 +9,8 @@ use Rattle.reuse_command.specs.declared.reply.Refusal.TheVariants.{Failed}
 use Rattle.reuse_print.specs.declared.fault.Fault.{Fault}
 use Rattle.reuse_print.specs.declared.fault.Fault.TheVariants.{NoDiff, Memory}
 
--- what was to be drawn can't be read: a device fault is told where the device failed, an honest store tells no clash,
--- and of an honest store nothing is told but an early failure
+-- what was to be drawn can't be read: a device fault is reported where the device failed, an honest store reports no
+-- clash, and of an honest store nothing is reported but an early failure
 pub record IsUndrawn {S : Type 0} (store : Ghosts S) (old new : S) (refusal : Refusal) : Type 0 where
   pub device : refusal ≡ Failed (StoreFailed stores.Device) → store.failures old < store.failures new
   pub clash : store.honest new → refusal ≢ Failed (StoreFailed stores.Clash)

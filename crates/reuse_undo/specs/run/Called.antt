@@ -6,9 +6,9 @@ use Rattle.reuse_change.specs.Files.{Files}
 use Rattle.reuse_store.specs.declared.store.Store.{Ghosts}
 use Rattle.reuse_command.specs.Answer.{HasCause}
 use Rattle.reuse_journal.specs.Journal.{State}
-use Rattle.reuse_journal.specs.Standing.{IsStanding}
+use Rattle.reuse_journal.specs.CommittedState.{IsCommittedState}
 use Rattle.reuse_session.specs.session.Requests.{HasCallClash, IsReading}
-use Rattle.reuse_session.specs.session.Stops.{Point, MayBeFound}
+use Rattle.reuse_session.specs.session.Stops.{RunState, CrashStatesWithin}
 use Rattle.reuse_undo.specs.run.Drawn.{IsDiffOfCall}
 use Rattle.reuse_undo.specs.run.RunLine.{IfNoDiff}
 use Rattle.reuse_undo.specs.print.Responses.{IsDiffOf, IsDrawnPreview}
@@ -23,19 +23,21 @@ use Rattle.reuse_arguments.specs.declared.line.PrintOptions.{PrintOptions}
 -- files, and how that goes on from an earlier stop, is said by the two relations.
 pub record IsCalled {S A : Type 0} (store : Ghosts S)
     (Leaves : Files → Request → Result Response Refusal → Files → Type 0)
-    (Answers : Request → Result Response Refusal → Point → Point → Type 0)
+    (Answers : Request → Result Response Refusal → RunState → RunState → Type 0)
     (request : Request) (options : PrintOptions) (old new : S)
     (answer : Result Response Refusal) (diff : Result (Vec ℕ A) Fault) : Type 0 where
   pub carries : store.honest new → Leaves (store.files old) request answer (store.files new)
-  pub survives : store.honest new → (start : Point) → MayBeFound store old start.state start.next start.forgetting
-      → (end : Point) × Answers request answer start end × MayBeFound store new end.state end.next end.forgetting
-  pub reads_only : store.honest new → IsReading request → (held : State) → IsStanding (store.files old) held
+  pub survives : store.honest new → (start : RunState)
+      → CrashStatesWithin store old start.state start.next start.forgetting
+      → (end : RunState) × Answers request answer start end
+      × CrashStatesWithin store new end.state end.next end.forgetting
+  pub reads_only : store.honest new → IsReading request → (held : State) → IsCommittedState (store.files old) held
       → OnlyReads store old new
   pub fault : IfErr answer (HasCause (store.failures old < store.failures new))
-  pub clash : store.honest new → (held : State) → IsStanding (store.files old) held
+  pub clash : store.honest new → (held : State) → IsCommittedState (store.files old) held
       → IfErr answer (HasCallClash request held (store.files old))
   pub diff_of : IfOk answer (λ response. IsDiffOf options response diff)
-  pub drawn : store.honest new → (held : State) → IsStanding (store.files old) held
+  pub drawn : store.honest new → (held : State) → IsCommittedState (store.files old) held
       → IfOk answer (λ response. IsDrawnPreview options response
       → IfOk diff (λ text. IsDiffOfCall request held text.items))
   pub undrawn : IfNoDiff diff (IsUndrawn store old new)

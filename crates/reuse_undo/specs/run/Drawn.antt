@@ -1,5 +1,6 @@
 -- The diff of a dry run: of each path that would change, its file as it is and as the call would leave it.
-use Rattle.std.specs.Prelude.{◌≡◌, ◌+◌, ◌≤◌, ℕ, Bool, true, false, List, ◌++◌, length, Option, Some, None, IfSome, IsSomeAnd, Result, Ok, Err}
+use Rattle.std.specs.Prelude.{◌≡◌, ◌+◌, ◌≤◌, ℕ, Bool, true, false, List, ◌++◌, length, Option, Some, None, IfSome}
+use Rattle.std.specs.Prelude.{IsSomeAnd, Result, Ok, Err}
 use Rattle.std.specs.FinMap.{get}
 use Rattle.std.specs.List.{All}
 use Rattle.reuse_text.specs.declared.TheConstants.{LONGEST_FILE}
@@ -12,7 +13,7 @@ use Rattle.reuse_store.specs.declared.store.Store.{Ghosts}
 use Rattle.reuse_change.specs.declared.direction.Direction.{Direction}
 use Rattle.reuse_change.specs.declared.direction.Direction.TheVariants as go
 use Rattle.reuse_journal.specs.Journal.{State}
-use Rattle.reuse_session.specs.session.Session.{store_of, StandsOn}
+use Rattle.reuse_session.specs.session.Session.{store_of, SimulatesState}
 use Rattle.reuse_command.specs.declared.path_outcome.PathOutcome.{PathOutcome}
 use Rattle.reuse_command.specs.declared.path_outcome.Previewed.{Previewed}
 use Rattle.reuse_command.specs.declared.reply.Refusal.{Refusal}
@@ -26,7 +27,7 @@ use Rattle.reuse_print.specs.Lines.{IsResponseText}
 use Rattle.reuse_undo.specs.print.Responses.{is_refused, IsAccepted}
 use Rattle.reuse_command.specs.declared.request.Request.{Request}
 use Rattle.reuse_command.specs.declared.request.Request.TheVariants as requests
-use Rattle.reuse_shown.specs.declared.shown_name.Names.{Names}
+use Rattle.reuse_shown.specs.declared.shown_name.NameDisplay.{NameDisplay}
 use Rattle.reuse_undo.specs.declared.run.line.planned.PlannedChanges.{PlannedChanges}
 
 -- the diff of what a path holds in the one tree and in the other
@@ -59,7 +60,7 @@ abbrev pub IsTreeDiff : Files → Files → List ℕ → Type 0
 IsTreeDiff before after text = AreJoined (IsPathDiff before after) (changed_paths before after) text
 
 -- a dry run's lines, and behind them the diff of two trees
-pub record IsDrawnText (names : Names) (before after : Files) (text : List ℕ) : Type 0 where
+pub record IsDrawnText (names : NameDisplay) (before after : Files) (text : List ℕ) : Type 0 where
   pub path_outcomes : List PathOutcome
   pub lines : List ℕ
   pub diff : List ℕ
@@ -93,12 +94,13 @@ planned_in direction (Err refusal) = None
 abbrev pub LeadsAsPreviewedAccepted : {S : Type 0} → Ghosts S → Request → Result Response Refusal
     → Option PlannedChanges → Session S → Session S → Type 0
 LeadsAsPreviewedAccepted store request answer planned old new =
-    store.honest (store_of new) → (held : State) → StandsOn store.files old held → (after : Files)
+    store.honest (store_of new) → (held : State) → SimulatesState store.files old held → (after : Files)
     → WouldLeave request held after → IsAccepted answer
     → IsSomeAnd planned (λ planned. LeadsAsPreviewed planned held.tree after)
 
 -- the request is answered, and of a dry run without a refusal what would change is there, and of nothing else
-pub record IsAnsweredWith {S : Type 0} (store : Ghosts S) (request : Request) (answer : Result Response Refusal) (planned : Option PlannedChanges) (old new : Session S) : Type 0 where
+pub record IsAnsweredWith {S : Type 0} (store : Ghosts S) (request : Request) (answer : Result Response Refusal)
+    (planned : Option PlannedChanges) (old new : Session S) : Type 0 where
   pub answered : IsAnswered store request answer old new
   pub accepted : IfSome planned (λ planned. IsAccepted answer)
   pub previews : LeadsAsPreviewedAccepted store request answer planned old new

@@ -1,9 +1,9 @@
 -- Lines that are carried out one after the other, each of which may be stopped.
 use Rattle.std.specs.Prelude.{◌≡◌, ℕ, Bool, List, [], ◌∷◌, Result}
 use Rattle.reuse_store.specs.declared.store.Store.{Ghosts}
-use Rattle.reuse_session.specs.session.Stops.{Point}
+use Rattle.reuse_session.specs.session.Stops.{RunState}
 use Rattle.reuse_undo.specs.run.AfterStops.{AnswersAfterStop}
-use Rattle.reuse_undo.specs.run.CarriedOut.{CarriesOut}
+use Rattle.reuse_undo.specs.run.RunResult.{CarriesOut}
 use Rattle.reuse_undo.specs.run.RunLine.{ReportsAnswer}
 use Rattle.reuse_print.specs.declared.fault.Fault.{Fault}
 use Rattle.reuse_arguments.specs.declared.line.PrintOptions.{PrintOptions}
@@ -34,12 +34,12 @@ AreInTurn IsNext store contents has_failed first (line ∷ lines) last =
     line.old line.new line.before line.after line.result
     × AreInTurn IsNext store contents has_failed line.new lines last
 
--- the lines report the answers of a run of the model with stops, one after the other, and lead from one point to the
--- other
-abbrev pub RunAsModel : {S O : Type 0} → (O → List ℕ) → List (CarriedLine S O) → (start end : Point) → Type 0
+-- the lines report the answers of a run of the model with stops, one after the other, and lead from one run state to
+-- the other
+abbrev pub RunAsModel : {S O : Type 0} → (O → List ℕ) → List (CarriedLine S O) → (start end : RunState) → Type 0
 RunAsModel contents [] start end = end ≡ start
 RunAsModel contents (line ∷ lines) start end =
-    (point : Point) × ReportsAnswer line.options
-    (λ answer. AnswersAfterStop line.request answer start point)
+    (run_state : RunState) × ReportsAnswer line.options
+    (λ answer. AnswersAfterStop line.request answer start run_state)
     (contents line.before) (contents line.after) line.result
-    × RunAsModel contents lines point end
+    × RunAsModel contents lines run_state end

@@ -11,8 +11,8 @@ use Rattle.reuse_session.specs.session.Model.{Gives}
 use Rattle.reuse_journal.specs.Opening.{IsFirstBad, IsStuckAt, OpensOn, StopsOpening}
 use Rattle.reuse_session.specs.session.Requests.{HasCallClash, KeepsFolder, Meets, StaysEarly, as_answer}
 use Rattle.reuse_journal.specs.Remembered.{IsSameBut}
-use Rattle.reuse_journal.specs.Standing.{IsStanding, InDoubt}
-use Rattle.reuse_session.specs.session.Stops.{HoldState, AreLeft}
+use Rattle.reuse_journal.specs.CommittedState.{IsCommittedState, BetweenStates}
+use Rattle.reuse_session.specs.session.Stops.{SimulatesInFiles, FilesAt}
 use Rattle.reuse_command.specs.declared.failure.Failure.TheVariants as failures
 use Rattle.reuse_command.specs.declared.reply.Recovered.{Recovered}
 use Rattle.reuse_command.specs.declared.reply.Refusal.{Refusal}
@@ -38,26 +38,27 @@ pub record IsUnopened (before : Files) (refusal : Refusal) (after : Files) : Typ
   pub moved : (path : List ℕ) → refusal ≡ refusals.Moved path → IsStuckAt before path
   pub no_clash : IsNoClash refusal
   pub unchanged : IsEarly refusal → after ≡ before
-  -- it stops only where a step was under way
+  -- it stops only where a step was pending
   pub stopped : (cause : Cause) → refusal ≡ refusals.Failed (failures.Interrupted cause) → StopsOpening before after
   -- files in doubt stay in doubt between the same two
-  pub recovers : (first second : State) → InDoubt first second before → IsFailure refusal × InDoubt first second after
+  pub recovers : (first second : State) → BetweenStates first second before
+      → IsFailure refusal × BetweenStates first second after
   -- of the journal's files none but the head holds something else
   pub folder : IsSameBut head_path (undo_folder_of before) (undo_folder_of after)
 
--- a session was opened on the standing, and the request is answered from it
+-- a session was opened on the committed state, and the request is answered from it
 abbrev pub AnswersOn : Request → State → Result Response Refusal → Files → Type 0
-AnswersOn request held answer after = (opened : Files) × IsStanding opened held × Meets request held answer after
+AnswersOn request held answer after = (opened : Files) × IsCommittedState opened held × Meets request held answer after
 
--- A session was opened, which of the journal's files puts none but the head, and the call was made on the standing that
--- it found. A clash that is reported is one of the files as the opening left them.
+-- A session was opened, which of the journal's files puts none but the head, and the call was made on the committed
+-- state that it found. A clash that is reported is one of the files as the opening left them.
 pub record IsMade (before : Files) (request : Request) (answer : Result Response Refusal) (after : Files) : Type 0 where
   pub made : (found : State) × (opened : Files) × OpensOn before found opened × Meets request found answer after
       × IfErr answer (HasCallClash request found opened)
       × IsSameBut head_path (undo_folder_of before) (undo_folder_of opened) × KeepsFolder request found opened after
       × StaysEarly request answer opened after
   -- of files in doubt that is one of the two
-  pub recovers : (first second : State) → InDoubt first second before → AnswersOn request first answer after
+  pub recovers : (first second : State) → BetweenStates first second before → AnswersOn request first answer after
       ⊎ AnswersOn request second answer after
 
 -- a session's answer to the request, or its opening's refusal, and the files then
@@ -78,11 +79,12 @@ RequestLeaves before request answer after = SessionLeaves before request answer 
 -- files in doubt between it and the one that the model would be in.
 abbrev pub FollowsModel : Snapshots → Request → Result Response Refusal → Files → Type 0
 FollowsModel state request (Err (refusals.Failed (failures.Interrupted cause))) files =
-    HoldState files state
+    SimulatesInFiles files state
     ⊎ ((given : Result Response Refusal) × (next : Snapshots) × Gives state request given next
-    × AreLeft files state (Some next))
-FollowsModel state request (Err (refusals.Failed failure)) files = HoldState files state
-FollowsModel state request answer files = (next : Snapshots) × Gives state request answer next × HoldState files next
+    × FilesAt files state (Some next))
+FollowsModel state request (Err (refusals.Failed failure)) files = SimulatesInFiles files state
+FollowsModel state request answer files =
+    (next : Snapshots) × Gives state request answer next × SimulatesInFiles files next
 
 -- ---- what is reported of it
 

@@ -1,10 +1,10 @@
 //! Notes: what a fault is about, what can be done about it, and what a call has done.
-use crate::run::damage::Headless;
-use crate::run::denial::Denial;
+use crate::run::access_refusal::AccessRefusal;
+use crate::run::damage::MissingHead;
 use crate::run::diagnostics::{Diagnostics, RequestKind, unrecognised_among};
 use reuse_arguments::line::LineFault;
 use reuse_dep5::{Dep5Cause, Dep5Refusal};
-use reuse_folder::Kept;
+use reuse_folder::OwnerReport;
 use reuse_notice::NoticeRefusal;
 use reuse_print::fault::Fault;
 use reuse_session::{AmendFault, Failure, PathOutcome, Refusal};
@@ -44,9 +44,10 @@ fn advice(refusal: &Refusal, is_begun: bool, diagnostics: &Diagnostics) -> Optio
     match refusal {
         Refusal::Unrecognised(_) => Some(
             "no comment style is known for this name: name one with --style or in .reuse/styles.toml, \
-            write the information beside the file with --fallback-dot-license, or pass it over with --skip-unrecognised",
+            write the information beside the file with --fallback-dot-license, or pass it over with \
+            --skip-unrecognised",
         ),
-        Refusal::Moved(_) if is_begun => Some(begun_advice(diagnostics)),
+        Refusal::Moved(_) if is_begun => Some(pending_advice(diagnostics)),
         Refusal::Moved(_) if diagnostics.is_gone => Some(gone_advice(diagnostics.kind)),
         Refusal::Moved(_) => Some(moved_advice(diagnostics.kind)),
         Refusal::NoSuchStep(_) => Some("reuse-undo log tells the numbers of the steps"),
@@ -85,7 +86,7 @@ fn interrupted_advice(is_begun: bool, cause: Cause, diagnostics: &Diagnostics) -
 }
 
 /// What can be done about a file of a step that a stopped run had begun.
-fn begun_advice(diagnostics: &Diagnostics) -> &'static str {
+fn pending_advice(diagnostics: &Diagnostics) -> &'static str {
     match (diagnostics.kind, diagnostics.is_gone) {
         (RequestKind::Recover, false) => {
             "a stopped run had begun to change this file, and it was changed since: with --skip-moved it is left \
@@ -96,14 +97,14 @@ fn begun_advice(diagnostics: &Diagnostics) -> &'static str {
             other files are set back"
         }
         (_, false) => {
-            "a stopped run had begun to change this file, and it was changed since: put it back as it was before that run, \
-            or as that run would have left it; or call reuse-undo recover --skip-moved, which leaves it as it is and sets the \
-            other files back"
+            "a stopped run had begun to change this file, and it was changed since: put it back as it was before that \
+            run, or as that run would have left it; or call reuse-undo recover --skip-moved, which leaves it as it is \
+            and sets the other files back"
         }
         (_, true) => {
             "a stopped run had begun to change this file, and it is gone: put it back as it was before that run, \
-            or as that run would have left it; or call reuse-undo recover --skip-moved, which leaves it out and sets the \
-            other files back"
+            or as that run would have left it; or call reuse-undo recover --skip-moved, which leaves it out and sets \
+            the other files back"
         }
     }
 }
@@ -117,8 +118,8 @@ fn gone_advice(kind: RequestKind) -> &'static str {
         }
         RequestKind::Redo => "this file is gone: put it back and call again",
         _ => {
-            "this file is gone: put it back and call again; or reuse-undo revert --skip-moved takes the step out of the \
-            other files, and reuse-undo forget out of the history alone"
+            "this file is gone: put it back and call again; or reuse-undo revert --skip-moved takes the step out of \
+            the other files, and reuse-undo forget out of the history alone"
         }
     }
 }
@@ -194,7 +195,7 @@ fn note_refusal(rt: &impl Eprint, diagnostics: &Diagnostics, refusal: &Refusal) 
         let _ = eprintln!(rt; "reuse-undo: note: {path} {words}: {advice}");
         return;
     }
-    let is_begun = diagnostics.begun.is_some() && !diagnostics.is_rolled_back;
+    let is_begun = diagnostics.pending.is_some() && !diagnostics.is_rolled_back;
     if let Some(advice) = advice(refusal, is_begun, diagnostics) {
         note(rt, advice);
     }
@@ -207,7 +208,8 @@ fn note_unrecognised(rt: &impl Eprint, count: usize, passed_over: bool) {
     let _ = match (passed_over, count) {
         (true, 1..) => {
             eprintln!(rt;
-                "reuse-undo: note: {count} {files} passed over, since no comment style is known for the names; --dry-run names them"
+                "reuse-undo: note: {count} {files} passed over, since no comment style is known for the names; \
+                --dry-run names them"
             )
         }
         (false, 2..) => {
@@ -243,11 +245,11 @@ fn note_path_outcomes(rt: &impl Eprint, diagnostics: &Diagnostics, path_outcomes
     let mut last = None;
     for path_outcome in path_outcomes {
         if let PathOutcome::Refused(refusal) = path_outcome {
-            let told = advice(refusal, false, diagnostics);
-            if told.is_none() || told != last {
+            let reported = advice(refusal, false, diagnostics);
+            if reported.is_none() || reported != last {
                 note_refusal(rt, diagnostics, refusal);
             }
-            last = told;
+            last = reported;
         }
     }
     note_unrecognised(rt, unrecognised_among(path_outcomes), false);
@@ -265,7 +267,8 @@ fn note_change(rt: &impl Eprint, kind: RequestKind, count: usize) {
         }
         RequestKind::Revert => {
             eprintln!(rt;
-                "reuse-undo: note: the step couldn't be taken out of any file, and stays done; reuse-undo forget takes it out of the history"
+                "reuse-undo: note: the step couldn't be taken out of any file, and stays done; reuse-undo forget takes \
+                it out of the history"
             )
         }
         RequestKind::Undo => {
@@ -278,17 +281,19 @@ fn note_change(rt: &impl Eprint, kind: RequestKind, count: usize) {
 }
 
 /// Prints that the journal has files of steps, and no head.
-fn note_headless(rt: &impl Eprint, headless: Headless) {
-    match headless {
-        Headless::First => note(
+fn note_missing_head(rt: &impl Eprint, missing_head: MissingHead) {
+    match missing_head {
+        MissingHead::First => note(
             rt,
-            "the history was found empty, though .reuse/undo/000001.json is there: the head of the journal is gone, or the first run \
-            was stopped before it changed a file; if it is gone, put .reuse/undo/head.json back from a backup",
+            "the history was found empty, though .reuse/undo/000001.json is there: the head of the journal is gone, or \
+            the first run was stopped before it changed a file; if it is gone, put .reuse/undo/head.json back from a \
+            backup",
         ),
-        Headless::Steps(count) => {
+        MissingHead::Steps(count) => {
             let _ = eprintln!(rt;
-                "reuse-undo: note: the history was found empty, though .reuse/undo has the files of {count} steps: the head of the journal is gone; \
-                put .reuse/undo/head.json back from a backup, or the next steps take the places of these"
+                "reuse-undo: note: the history was found empty, though .reuse/undo has the files of {count} steps: the \
+                head of the journal is gone; put .reuse/undo/head.json back from a backup, or the next steps take the \
+                places of these"
             );
         }
     }
@@ -304,17 +309,17 @@ pub fn note_rolled_back(rt: &impl Eprint, step: u32, count: usize) {
 }
 
 /// Prints what can be done about a call that the program itself refused.
-pub fn note_denial(rt: &impl Eprint, denial: &Denial) {
-    let text = match denial {
-        Denial::JournalOfAnother => {
+pub fn note_access_refusal(rt: &impl Eprint, access_refusal: &AccessRefusal) {
+    let text = match access_refusal {
+        AccessRefusal::JournalOfAnother => {
             "files of .reuse/undo are another user's, who could have any file here changed by this call: \
             --trust-journal opens that journal all the same"
         }
-        Denial::CannotKeepOwner(_) => {
+        AccessRefusal::CannotKeepOwner(_) => {
             "written anew, this file would have another owner or group, and somebody more or less access than now: \
             --allow-owner-change writes it all the same"
         }
-        Denial::NameTooLong(_) => {
+        AccessRefusal::NameTooLong(_) => {
             "the file that would be made has a name of more than 255 bytes, which none can have: \
             with --style annotate writes into the file itself"
         }
@@ -323,32 +328,32 @@ pub fn note_denial(rt: &impl Eprint, denial: &Denial) {
 }
 
 /// Prints how many files have another owner or group now, and how many had further names.
-fn note_kept(rt: &impl Eprint, kept: Kept) {
-    if kept.changed > 0 {
-        let files = if kept.changed == 1 { "file" } else { "files" };
+fn note_owners(rt: &impl Eprint, owners: OwnerReport) {
+    if owners.changed > 0 {
+        let files = if owners.changed == 1 { "file" } else { "files" };
         let _ = eprintln!(rt;
             "reuse-undo: note: {} {files} could not keep owner or group",
-            kept.changed
+            owners.changed
         );
     }
-    if kept.linked > 0 {
-        let files = if kept.linked == 1 {
+    if owners.linked > 0 {
+        let files = if owners.linked == 1 {
             "file has"
         } else {
             "files have"
         };
         let _ = eprintln!(rt;
             "reuse-undo: note: {} {files} further names (hard links), which keep the old bytes",
-            kept.linked
+            owners.linked
         );
     }
 }
 
 /// Prints what a call did, or what its fault is about.
 pub fn note_call(rt: &impl Eprint, diagnostics: &Diagnostics, outcome: &Result<usize, Fault>) {
-    note_kept(rt, diagnostics.kept);
-    if let Some(headless) = diagnostics.headless {
-        note_headless(rt, headless);
+    note_owners(rt, diagnostics.owners);
+    if let Some(missing_head) = diagnostics.missing_head {
+        note_missing_head(rt, missing_head);
     }
     match outcome {
         Ok(count) => note_change(rt, diagnostics.kind, *count),

@@ -1,6 +1,6 @@
 //! What is printed on standard error of a run.
-use crate::print::notes::{note_call, note_denial, note_rolled_back, note_words};
-use crate::run::carried_out::CarriedOut;
+use crate::print::notes::{note_access_refusal, note_call, note_rolled_back, note_words};
+use crate::run::run_result::RunResult;
 use reuse_arguments::line::LineFault;
 use reuse_print::fault::Fault;
 use reuse_session::PathOutcome;
@@ -9,22 +9,22 @@ use std::io;
 
 /// Prints why the words are no line, and what to do about that where notes are asked for; whether
 /// it could be printed.
-pub fn tell_words<R: Print + Eprint + Drop>(
+pub fn report_arguments<R: Print + Eprint + Drop>(
     rt: &R,
     errors: &ErrorOutput<'_, R>,
     fault: &LineFault,
     notes: bool,
 ) -> bool {
-    let told = tell(rt, errors, fault);
+    let reported = report(rt, errors, fault);
     if notes {
         note_words(errors, fault);
     }
-    told.is_ok()
+    reported.is_ok()
 }
 
 /// Prints why the words are no line: help on standard output, all else on standard error. The texts
 /// of the command line have lines of their own.
-fn tell<R: Print + Eprint + Drop>(
+fn report<R: Print + Eprint + Drop>(
     rt: &R,
     errors: &ErrorOutput<'_, R>,
     fault: &LineFault,
@@ -45,32 +45,32 @@ fn tell<R: Print + Eprint + Drop>(
 
 /// Prints the fault of what was carried out, or its denial; that a step was rolled back; and the
 /// notes. Where standard error can't be written either, the status reports it.
-pub fn tell_outcome(errors: &impl Eprint, carried_out: &CarriedOut, notes: bool) {
-    match &carried_out.ending {
+pub fn report_outcome(errors: &impl Eprint, run_result: &RunResult, notes: bool) {
+    match &run_result.ending {
         Ok(Ok(_)) => {}
-        Ok(Err(fault)) => tell_fault(errors, fault),
-        Err(denial) => {
+        Ok(Err(fault)) => report_fault(errors, fault),
+        Err(access_refusal) => {
             let _ = eprintln!(errors; "reuse-undo: {denial}");
         }
     }
-    if let Some((step, files)) = carried_out.rolled_back {
+    if let Some((step, files)) = run_result.rolled_back {
         note_rolled_back(errors, step, files);
     }
-    match &carried_out.ending {
+    match &run_result.ending {
         Ok(outcome) => {
-            if let Some(diagnostics) = &carried_out.diagnostics {
+            if let Some(diagnostics) = &run_result.diagnostics {
                 note_call(errors, diagnostics, outcome);
             }
         }
-        Err(denial) => {
+        Err(access_refusal) => {
             if notes {
-                note_denial(errors, denial);
+                note_access_refusal(errors, access_refusal);
             }
         }
     }
 }
 
-fn tell_fault(errors: &impl Eprint, fault: &Fault) {
+fn report_fault(errors: &impl Eprint, fault: &Fault) {
     let Fault::WouldRefuse(path_outcomes) = fault else {
         let _ = eprintln!(errors; "reuse-undo: {fault}");
         return;

@@ -2,7 +2,7 @@
 ghost use Rattle.std.specs.Prelude.{◌≡◌};
 ghost use Rattle.reuse_undo.specs.print.Statuses.{call_status_of, ending_of, exit_status_of, line_status_of};
 
-use crate::run::denial::Denial;
+use crate::run::access_refusal::AccessRefusal;
 use reuse_arguments::line::{ChangeStatus, LineFault};
 use reuse_notice::NoticeRefusal;
 use reuse_print::fault::Fault;
@@ -16,10 +16,10 @@ pub enum Ending {
     NoLine {
         fault: LineFault,
         /// Whether that, or the help that was asked for, could be printed.
-        is_told: bool,
+        is_reported: bool,
     },
     /// The program itself refused the call, which wasn't begun.
-    Denied(Denial),
+    Denied(AccessRefusal),
     /// A call was made, or was to be made.
     Called {
         /// How many paths changed, or would change in a dry run.
@@ -30,12 +30,15 @@ pub enum Ending {
 
 impl Ending {
     /// How a call ended, of which this came.
-    pub fn of_call(ending: Result<Result<usize, Fault>, Denial>, on_change: ChangeStatus) -> Ending
+    pub fn of_call(
+        ending: Result<Result<usize, Fault>, AccessRefusal>,
+        on_change: ChangeStatus,
+    ) -> Ending
         ensures { result ≡ ending_of on_change ending }
     {
         match ending {
             Ok(outcome) => Ending::Called { outcome, on_change },
-            Err(denial) => Ending::Denied(denial),
+            Err(access_refusal) => Ending::Denied(access_refusal),
         }
     }
 }
@@ -48,11 +51,11 @@ pub fn exit_status(ending: &Ending) -> u8
         Ending::BadClock | Ending::Denied(_) => 1,
         Ending::NoLine {
             fault,
-            is_told: true,
+            is_reported: true,
         } => line_status(fault),
         Ending::NoLine {
             fault,
-            is_told: false,
+            is_reported: false,
         } => line_status(fault).max(1),
         Ending::Called { outcome, on_change } => call_status(outcome, *on_change),
     }

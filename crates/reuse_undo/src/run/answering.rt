@@ -3,12 +3,12 @@
 //! held before its first put if it has asked for such a file, and then what it would change is
 //! looked at, path by path, as in a dry run.
 ghost use Rattle.std.specs.Prelude.{◌≡◌, ◌≤◌};
-ghost use Rattle.reuse_command.specs.Answer.{TellsNoFault};
+ghost use Rattle.reuse_command.specs.Answer.{DidNotFail};
 ghost use Rattle.reuse_journal.specs.Journal.{State};
-ghost use Rattle.reuse_session.specs.session.Session.{store_of, StandsOn};
+ghost use Rattle.reuse_session.specs.session.Session.{store_of, SimulatesState};
 ghost use Rattle.reuse_session.specs.session.Requests.{Previews, ReadsOnlyWithCause};
 
-use crate::run::denial::Denial;
+use crate::run::access_refusal::AccessRefusal;
 use crate::run::line::is_refused;
 use crate::run::on_folder::run_on_folder;
 use reuse_arguments::line::PrintOptions;
@@ -27,7 +27,7 @@ use std::rt::{Clock, Env, Files};
 use std::time::{Duration, SystemTime, UNIX_EPOCH};
 
 /// How a call ends: its outcome, or why it isn't begun.
-pub type CallEnding = Result<Result<usize, Fault>, Denial>;
+pub type CallEnding = Result<Result<usize, Fault>, AccessRefusal>;
 
 /// What a call is made with.
 #[derive(Clone, Copy)]
@@ -74,9 +74,9 @@ fn make<R: Files<File = File> + AllocGlobal + Clock + Env + Print + Eprint + Clo
         return (folder, Ok(outcome), counts);
     }
     drop(outcome);
-    let (folder, denial) = first_denial(folder, alloc, call);
-    match denial {
-        Some(denial) => (folder, Err(denial), Counts::none(alloc)),
+    let (folder, access_refusal) = first_access_refusal(folder, alloc, call);
+    match access_refusal {
+        Some(access_refusal) => (folder, Err(access_refusal), Counts::none(alloc)),
         None => {
             let (folder, outcome, counts) = answer_at_once(folder, alloc, asking);
             (folder, Ok(outcome), counts)
@@ -115,49 +115,49 @@ fn answer_at_once<
 
 /// Why the first path can't be written that the call would change and that can't be, if there is
 /// one. If the call would be refused or fail, the call itself reports that.
-fn first_denial<R: Files<File = File> + AllocGlobal + Clone + Drop>(
+fn first_access_refusal<R: Files<File = File> + AllocGlobal + Clone + Drop>(
     folder: DiskStore<R>,
     alloc: Global,
     call: &Call,
-) -> (DiskStore<R>, Option<Denial>) {
+) -> (DiskStore<R>, Option<AccessRefusal>) {
     let (mut folder, path_outcomes) = preview(alloc, folder, call);
-    let denial = match path_outcomes {
-        Ok(path_outcomes) => denial_among(alloc, &mut folder, path_outcomes.as_slice()),
+    let access_refusal = match path_outcomes {
+        Ok(path_outcomes) => access_refusal_among(alloc, &mut folder, path_outcomes.as_slice()),
         Err(_) => None,
     };
-    (folder, denial)
+    (folder, access_refusal)
 }
 
-fn denial_among<R: Files<File = File> + AllocGlobal + Clone + Drop>(
+fn access_refusal_among<R: Files<File = File> + AllocGlobal + Clone + Drop>(
     alloc: Global,
     folder: &mut DiskStore<R>,
     path_outcomes: &[PathOutcome],
-) -> Option<Denial> {
+) -> Option<AccessRefusal> {
     if is_refused(path_outcomes) {
         return None;
     }
     for path_outcome in path_outcomes {
         if let PathOutcome::Changes(path) = path_outcome
-            && let Some(denial) = denial_of(alloc, folder, path)
+            && let Some(access_refusal) = access_refusal_of(alloc, folder, path)
         {
-            return Some(denial);
+            return Some(access_refusal);
         }
     }
     None
 }
 
 /// Why the file at this path can't be written, if that shows before.
-fn denial_of<R: Files<File = File> + AllocGlobal + Clone + Drop>(
+fn access_refusal_of<R: Files<File = File> + AllocGlobal + Clone + Drop>(
     alloc: Global,
     folder: &mut DiskStore<R>,
     path: &PathText,
-) -> Option<Denial> {
+) -> Option<AccessRefusal> {
     if ends_in_long_name(path.text()) {
-        return Some(Denial::NameTooLong(file_of(alloc, path)?));
+        return Some(AccessRefusal::NameTooLong(file_of(alloc, path)?));
     }
     let is_lost = folder.may_write(alloc, path) == Ok(false);
     let path = path.try_clone(alloc).ok()?;
-    is_lost.then_some(Denial::CannotKeepOwner(path))
+    is_lost.then_some(AccessRefusal::CannotKeepOwner(path))
 }
 
 /// The file that the one at this path is the neighbour of, if it is one.
@@ -188,8 +188,8 @@ fn preview_in<S: Store + Drop>(
     session: &mut Session<S>,
     call: &Call,
 ) -> Result<PathOutcomes, Refusal>
-    ensures right { S.honest (store_of session.new) → (held : State) → StandsOn S.files session.old held
-        → TellsNoFault result → Previews call.now held result }
+    ensures right { S.honest (store_of session.new) → (held : State) → SimulatesState S.files session.old held
+        → DidNotFail result → Previews call.now held result }
     ensures reads_with_cause { ReadsOnlyWithCause S.Store result session.old session.new }
 {
     session.preview_call(alloc, call)

@@ -14,7 +14,7 @@ use std::{fs, io};
 
 /// What is wrong with a file of the journal.
 #[derive(Clone, Copy, PartialEq, Eq)]
-pub enum Damage {
+pub enum JournalDamage {
     /// A file stands where a folder of the journal is to be.
     NoFolder,
     /// The head names the file, and it isn't there.
@@ -31,25 +31,26 @@ pub enum Damage {
     Wrong,
 }
 
-impl Damage {
+impl JournalDamage {
     /// The words for it, behind the path of the file.
     pub fn words(self) -> &'static str {
         match self {
-            Damage::NoFolder => "is a file, where the folder of the journal is to be",
-            Damage::Gone => "is gone, and the head of the journal names it",
-            Damage::Empty => "is empty, as after a loss of power",
-            Damage::TooLong => "is longer than such a file can be",
-            Damage::Torn => "is torn: it breaks off, or is no JSON",
-            Damage::LaterFormat => "was written by a later version of reuse-undo",
-            Damage::Wrong => "says what no file of the journal says: it was edited, or is damaged",
+            JournalDamage::NoFolder => "is a file, where the folder of the journal is to be",
+            JournalDamage::Gone => "is gone, and the head of the journal names it",
+            JournalDamage::Empty => "is empty, as after a loss of power",
+            JournalDamage::TooLong => "is longer than such a file can be",
+            JournalDamage::Torn => "is torn: it breaks off, or is no JSON",
+            JournalDamage::LaterFormat => "was written by a later version of reuse-undo",
+            JournalDamage::Wrong =>
+                "says what no file of the journal says: it was edited, or is damaged",
         }
     }
 
     /// What can be done about it.
     pub fn advice(self) -> &'static str {
         match self {
-            Damage::NoFolder => "move it away",
-            Damage::LaterFormat => "use that version",
+            JournalDamage::NoFolder => "move it away",
+            JournalDamage::LaterFormat => "use that version",
             _ => {
                 "put it back from a backup; or delete the folder .reuse/undo, which forgets the history and \
                 changes no other file"
@@ -58,14 +59,14 @@ impl Damage {
     }
 }
 
-/// What is wrong with the file that a journal was refused for. Want of memory or a fault leaves it
-/// out.
-pub fn damage_of<S: Store>(alloc: Global, store: &mut S, path: &PathText) -> Option<Damage>
+/// What is wrong with the file that a journal was refused for. An allocation failure or a fault
+/// leaves it out.
+pub fn damage_of<S: Store>(alloc: Global, store: &mut S, path: &PathText) -> Option<JournalDamage>
     ensures { OnlyReads S.Store store.old store.new }
 {
     let text = path.text();
     if text == ABOVE_JOURNAL || text == JOURNAL {
-        return Some(Damage::NoFolder);
+        return Some(JournalDamage::NoFolder);
     }
     let limit = if text.ends_with(HEAD_NAME) {
         LONGEST_FILE
@@ -73,35 +74,35 @@ pub fn damage_of<S: Store>(alloc: Global, store: &mut S, path: &PathText) -> Opt
         LARGEST_ENTRY
     };
     match store.read(alloc, path, limit) {
-        Ok(Reading::Absent) => Some(Damage::Gone),
-        Ok(Reading::TooLong) => Some(Damage::TooLong),
+        Ok(Reading::Absent) => Some(JournalDamage::Gone),
+        Ok(Reading::TooLong) => Some(JournalDamage::TooLong),
         Ok(Reading::Found(bytes)) => damage_in(alloc, bytes.as_slice()),
         Err(_) => None,
     }
 }
 
 /// What is wrong with a text that can't be read.
-fn damage_in(alloc: Global, text: &[u8]) -> Option<Damage> {
+fn damage_in(alloc: Global, text: &[u8]) -> Option<JournalDamage> {
     if text.is_empty() {
-        return Some(Damage::Empty);
+        return Some(JournalDamage::Empty);
     }
     match Value::from_slice(alloc, text) {
         Ok(value) => Some(damage_of_value(&value)),
         Err(error) if error.is_memory() => None,
-        Err(_) => Some(Damage::Torn),
+        Err(_) => Some(JournalDamage::Torn),
     }
 }
 
-fn damage_of_value(value: &Value) -> Damage {
+fn damage_of_value(value: &Value) -> JournalDamage {
     match value.get("format").and_then(Value::as_u64) {
-        Some(format) if format > u64::from(LATEST_FORMAT) => Damage::LaterFormat,
-        _ => Damage::Wrong,
+        Some(format) if format > u64::from(LATEST_FORMAT) => JournalDamage::LaterFormat,
+        _ => JournalDamage::Wrong,
     }
 }
 
 /// The files of steps in a journal that has no head.
 #[derive(Clone, Copy, PartialEq, Eq)]
-pub enum Headless {
+pub enum MissingHead {
     /// The first step's alone: its head is gone, or its run was stopped before it changed a file.
     First,
     /// This many, of which the head is gone.
@@ -113,7 +114,7 @@ pub fn steps_without_head<R: Files + AllocGlobal + Clone + Drop>(
     rt: &R,
     alloc: Global,
     root: &str,
-) -> Option<Headless> {
+) -> Option<MissingHead> {
     let mut folder = String::from_str(alloc, root).ok()?;
     folder.push_str("/").ok()?;
     folder.push_str(JOURNAL).ok()?;
@@ -126,7 +127,7 @@ pub fn steps_without_head<R: Files + AllocGlobal + Clone + Drop>(
 fn count_steps<R: Files + AllocGlobal + Clone + Drop>(
     rt: &R,
     folder: &str,
-) -> io::Result<Option<Headless>> {
+) -> io::Result<Option<MissingHead>> {
     let mut count: usize = 0;
     let mut is_first = false;
     for entry in fs::read_dir(rt, folder)? {
@@ -142,8 +143,8 @@ fn count_steps<R: Files + AllocGlobal + Clone + Drop>(
     }
     Ok(match count {
         0 => None,
-        1 if is_first => Some(Headless::First),
-        _ => Some(Headless::Steps(count)),
+        1 if is_first => Some(MissingHead::First),
+        _ => Some(MissingHead::Steps(count)),
     })
 }
 

@@ -2,11 +2,11 @@
 ghost use Rattle.reuse_store.specs.Asked.{OnlyReads};
 
 use crate::run::above::journal_above;
-use crate::run::damage::{Damage, Headless, damage_of, is_gone, steps_without_head};
+use crate::run::damage::{JournalDamage, MissingHead, damage_of, is_gone, steps_without_head};
 use reuse_arguments::line::Line;
 use reuse_change::PathText;
 use reuse_change::layout::HEAD;
-use reuse_folder::{DiskStore, Failure, Kept};
+use reuse_folder::{DiskStore, Failure, OwnerReport};
 use reuse_print::fault::Fault;
 use reuse_session::{
     Call, Command, Counts, Head, PathOutcome, Refusal, Request, Scope, Session, Unknown, Unused,
@@ -75,15 +75,15 @@ pub struct Diagnostics {
     /// The nearest folder above the root that has a journal.
     pub above: Option<String>,
     /// The step that a stopped run had begun.
-    pub begun: Option<u32>,
+    pub pending: Option<u32>,
     /// Whether that step was rolled back by the call.
     pub is_rolled_back: bool,
     /// What was done to owners and names of files.
-    pub kept: Kept,
+    pub owners: OwnerReport,
     /// The files of steps in a journal that had no head before the call.
-    pub headless: Option<Headless>,
+    pub missing_head: Option<MissingHead>,
     /// What is wrong with the file that the journal was refused for.
-    pub damage: Option<Damage>,
+    pub damage: Option<JournalDamage>,
     /// Whether nothing has the path of the file that was refused as moved.
     pub is_gone: bool,
     /// Whether the table that was made says nothing of any file.
@@ -99,19 +99,20 @@ pub struct Diagnostics {
     pub failure: Option<Failure>,
     /// The root, where it was no folder.
     pub missing_root: Option<String>,
-    /// Whether folders were sought by their paths, since the system doesn't show open ones.
+    /// Whether folders were searched for by their paths, since the system doesn't show open ones.
     pub is_by_path: bool,
     /// Why the root, or a folder above it, couldn't be locked, where one couldn't.
     pub lock_error: Option<io::Error>,
 }
 
 impl Diagnostics {
-    /// What is found before the call of a line. Want of memory or a fault leaves a finding out.
+    /// What is found before the call of a line. An allocation failure or a fault leaves a finding
+    /// out.
     pub fn before<R: Files + AllocGlobal + Clone + Drop>(
         rt: &R,
         alloc: Global,
         line: &Line,
-        begun: Option<u32>,
+        pending: Option<u32>,
     ) -> Diagnostics {
         let root = line.root.as_str();
         Diagnostics {
@@ -122,13 +123,13 @@ impl Diagnostics {
                 None => None,
             },
             above: journal_above(rt, alloc, root),
-            begun,
+            pending,
             is_rolled_back: false,
-            kept: Kept {
+            owners: OwnerReport {
                 changed: 0,
                 linked: 0,
             },
-            headless: steps_without_head(rt, alloc, root),
+            missing_head: steps_without_head(rt, alloc, root),
             damage: None,
             is_gone: false,
             is_table_empty: false,
@@ -166,7 +167,7 @@ impl Diagnostics {
 
     /// Of how many files the names aren't recognised, where the call was refused for one or passed
     /// them over. A call that was made has counted them. One that was refused stopped at the first,
-    /// so it is looked at once more. Want of memory or a fault leaves them out.
+    /// so it is looked at once more. An allocation failure or a fault leaves them out.
     fn unrecognised_by<S: Store + Drop>(
         &self,
         alloc: Global,
@@ -198,7 +199,7 @@ impl Diagnostics {
         self.is_by_path = folder.is_by_path();
         self.lock_error = folder.lock_error();
         self.is_rolled_back = folder.rolled_back().is_some();
-        self.kept = folder.kept();
+        self.owners = folder.owner_report();
         if let Err(
             Fault::Refused(Refusal::BadJournal(path)) | Fault::NoDiff(Refusal::BadJournal(path)),
         ) = outcome
@@ -335,8 +336,8 @@ fn head_of<S: Store>(alloc: Global, store: &mut S) -> Option<Head>
     decode_head(alloc, text.as_slice()).ok()
 }
 
-/// The step that is under way.
-pub fn begun_step<S: Store>(alloc: Global, store: &mut S) -> Option<u32>
+/// The step that is pending.
+pub fn pending_step<S: Store>(alloc: Global, store: &mut S) -> Option<u32>
     ensures { OnlyReads S.Store store.old store.new }
 {
     let pending = head_of(alloc, store)?.pending?;

@@ -4,7 +4,7 @@ ghost use Rattle.reuse_store.specs.Asked.{OnlyReads};
 ghost use Rattle.reuse_change.specs.Files.{Files, tree_of};
 ghost use Rattle.reuse_undo.specs.run.AfterStops.{AnswersAfterStop, OpensToAnswer};
 ghost use Rattle.reuse_undo.specs.run.Called.{IsCalled};
-ghost use Rattle.reuse_undo.specs.run.CarriedOut.{CarriesOut};
+ghost use Rattle.reuse_undo.specs.run.RunResult.{CarriesOut};
 ghost use Rattle.reuse_undo.specs.run.Drawn.{LeadsAsPreviewed, LeadsAsPreviewedAccepted, IsTreeDiff};
 ghost use Rattle.reuse_session.specs.session.Requests.{IsAnswered};
 ghost use Rattle.reuse_undo.specs.run.RunLine.{RequestLeaves, SessionLeaves};

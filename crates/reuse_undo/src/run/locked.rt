@@ -1,9 +1,9 @@
 //! Carries out what was asked for, on the folder that it names and while no other run works there.
 //! It prints the answer on standard output, and finds out what notes report.
+use crate::run::access_refusal::AccessRefusal;
 use crate::run::answering::{Asking, CallEnding, answer};
-use crate::run::carried_out::{CarriedOut, rolled_back_step};
-use crate::run::denial::Denial;
-use crate::run::diagnostics::{Diagnostics, begun_step};
+use crate::run::diagnostics::{Diagnostics, pending_step};
+use crate::run::run_result::{RunResult, rolled_back_step};
 use crate::run::texts::find_texts;
 use reuse_arguments::line::{Line, PrintOptions};
 use reuse_arguments::request::{ids_of, with_texts};
@@ -13,7 +13,7 @@ use reuse_lock::{RootLock, lock_root};
 use reuse_print::fault::Fault;
 use reuse_session::{LicenceTexts, Request};
 use reuse_shown::progress::Progress;
-use reuse_shown::shown_name::Names;
+use reuse_shown::shown_name::NameDisplay;
 use std::alloc::{AllocError, Global};
 use std::fs::File;
 use std::rt::{Clock, Env, Files};
@@ -21,10 +21,10 @@ use std::rt::{Clock, Env, Files};
 /// What is reported beside the answer or the fault, how names are shown on standard output, and how
 /// a call works with the folder.
 #[derive(Clone, Copy)]
-pub struct Extras {
+pub struct RunOptions {
     pub notes: bool,
     pub progress: bool,
-    pub names: Names,
+    pub names: NameDisplay,
     pub settings: Settings,
 }
 
@@ -33,13 +33,13 @@ pub fn run_line<R: Files<File = File> + AllocGlobal + Clock + Env + Print + Epri
     rt: &R,
     alloc: Global,
     line: Line,
-    extras: Extras,
-) -> CarriedOut {
-    match tools_for(rt, alloc, &line, extras) {
-        Ok(tools) => work_with(rt, alloc, tools, line, extras),
+    run_options: RunOptions,
+) -> RunResult {
+    match tools_for(rt, alloc, &line, run_options) {
+        Ok(tools) => work_with(rt, alloc, tools, line, run_options),
         Err(fault) => {
             drop(line);
-            CarriedOut::fault(fault)
+            RunResult::fault(fault)
         }
     }
 }
@@ -65,13 +65,13 @@ fn tools_for<R: Files<File = File> + AllocGlobal + Clock + Eprint + Clone + Drop
     rt: &R,
     alloc: Global,
     line: &Line,
-    extras: Extras,
+    run_options: RunOptions,
 ) -> Result<Tools<R>, Fault> {
     let lock = lock_root(rt, alloc, line.root.as_str())?;
     let texts = texts_for(rt, alloc, line)?;
-    let progress = Progress::new(rt.clone()?, extras.progress);
+    let progress = Progress::new(rt.clone()?, run_options.progress);
     Ok(Tools {
-        folder: folder_at(rt, lock, extras.settings)?,
+        folder: folder_at(rt, lock, run_options.settings)?,
         texts,
         progress,
     })
@@ -90,9 +90,9 @@ fn folder_at<R: Files<File = File> + AllocGlobal + Clone + Drop>(
 fn is_denied<R: Files<File = File> + AllocGlobal + Clone + Drop>(
     alloc: Global,
     folder: &mut DiskStore<R>,
-    extras: Extras,
+    run_options: RunOptions,
 ) -> bool {
-    !extras.settings.trusts_journal && folder.is_journal_of_other(alloc)
+    !run_options.settings.trusts_journal && folder.is_journal_of_other(alloc)
 }
 
 /// The step that is pending, where it is noted that it is rolled back. A recovery prints which
@@ -101,16 +101,16 @@ fn step_to_note<R: Files<File = File> + AllocGlobal + Clone + Drop>(
     alloc: Global,
     folder: &mut DiskStore<R>,
     request: &Request,
-    extras: Extras,
+    run_options: RunOptions,
 ) -> Option<u32> {
-    let begun = begun_step(alloc, folder)?;
+    let pending = pending_step(alloc, folder)?;
     if let Request::Recover { .. } = request {
         folder.expect_rollback();
-        if !extras.notes {
+        if !run_options.notes {
             return None;
         }
     }
-    Some(begun)
+    Some(pending)
 }
 
 fn work_with<R: Files<File = File> + AllocGlobal + Clock + Env + Print + Eprint + Clone + Drop>(
@@ -118,23 +118,23 @@ fn work_with<R: Files<File = File> + AllocGlobal + Clock + Env + Print + Eprint 
     alloc: Global,
     tools: Tools<R>,
     line: Line,
-    extras: Extras,
-) -> CarriedOut {
+    run_options: RunOptions,
+) -> RunResult {
     let Tools {
         mut folder,
         texts,
         progress,
     } = tools;
-    if is_denied(alloc, &mut folder, extras) {
+    if is_denied(alloc, &mut folder, run_options) {
         drop(line);
         drop(texts);
-        return CarriedOut::denied(Denial::JournalOfAnother);
+        return RunResult::denied(AccessRefusal::JournalOfAnother);
     }
-    let begun = step_to_note(alloc, &mut folder, &line.request, extras);
-    let mut diagnostics = found_before(rt, alloc, &line, begun, extras.notes);
+    let pending = step_to_note(alloc, &mut folder, &line.request, run_options);
+    let mut diagnostics = found_before(rt, alloc, &line, pending, run_options.notes);
     let options = PrintOptions {
         format: line.format,
-        names: extras.names,
+        names: run_options.names,
     };
     let request = request_of(line, texts);
     let asking = Asking {
@@ -147,10 +147,10 @@ fn work_with<R: Files<File = File> + AllocGlobal + Clock + Env + Print + Eprint 
     if let Some(diagnostics) = &mut diagnostics {
         diagnostics.counts = counts;
     }
-    let rolled_back = rolled_back_step(begun, folder.rolled_back());
+    let rolled_back = rolled_back_step(pending, folder.rolled_back());
     let diagnostics = found_after(rt, alloc, diagnostics, folder, &request, &ending);
     drop(request);
-    CarriedOut {
+    RunResult {
         ending,
         rolled_back,
         diagnostics,
@@ -173,11 +173,11 @@ fn found_before<R: Files + AllocGlobal + Clone + Drop>(
     rt: &R,
     alloc: Global,
     line: &Line,
-    begun: Option<u32>,
+    pending: Option<u32>,
     notes: bool,
 ) -> Option<Diagnostics> {
     if notes {
-        Some(Diagnostics::before(rt, alloc, line, begun))
+        Some(Diagnostics::before(rt, alloc, line, pending))
     } else {
         None
     }

@@ -1,5 +1,5 @@
 //! Carries out on a folder what a line asks for.
-ghost use Rattle.reuse_undo.specs.run.CarriedOut.{CarriesOut};
+ghost use Rattle.reuse_undo.specs.run.RunResult.{CarriesOut};
 
 use crate::run::line::run_request;
 use reuse_arguments::line::PrintOptions;
@@ -25,7 +25,8 @@ pub fn run_on_folder<R: Files<File = File> + AllocGlobal + Clock + Eprint + Clon
     out: &mut O,
 ) -> (DiskStore<R>, Result<usize, Fault>, Counts)
     // As on any store, for whatever files the folder holds.
-    ensures { CarriesOut ⟦<DiskStore<R> as Store>⟧ O.contents O.failed request.now options folder result.0 out.old out.new result.1 }
+    ensures { CarriesOut ⟦<DiskStore<R> as Store>⟧ O.contents O.failed request.now options folder result.0 out.old
+        out.new result.1 }
 {
     let watched = WatchedStore::new(folder, progress);
     let (watched, outcome, counts) = run_request(alloc, request, options, watched, out);

@@ -6,7 +6,8 @@ use Rattle.reuse_amend.specs.declared.amendments.Amendments.{Amendments}
 use Rattle.reuse_notice.specs.Tags.{NoticeText, notice_of}
 use Rattle.reuse_notice.specs.TagViews.{notice_view}
 use Rattle.reuse_notice.specs.MergeSteps.{is_among}
-use Rattle.reuse_amend.specs.Amending.{text_amended, prefix_amended, years_amended, notice_saying, holder_amended, notice_amended}
+use Rattle.reuse_amend.specs.Amending.{text_amended, prefix_amended, years_amended, notice_saying, holder_amended}
+use Rattle.reuse_amend.specs.Amending.{notice_amended}
 use Rattle.reuse_amend.proofs.amending.amend_notice.Goals as goal
 
 module _ (a : Amendments) (text : List ℕ) (n : NoticeText) (holder : List ℕ) (read : notice_of text ≡ Some n)

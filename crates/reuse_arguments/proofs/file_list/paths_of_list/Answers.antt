@@ -11,8 +11,10 @@ use Rattle.reuse_arguments.proofs.file_list.paths_of_list.Goals as goal
 
 pub loop-word-preserved : goal.loop-word-preserved
 loop-word-preserved c =
-    let adds = subst (λ separator. c.push_listed.new.paths.items ≡ c.loop-word.paths.items ++ option_to_list (path_listed separator c.in-Some.word.now)) c.separator_of-separator.ensures c.in_ok-push_listed.ensures in
-    one_word_more (path_listed (separator_of c.args.list.now)) c.loop-word.yielded c.in-Some.word c.loop-word.paths.items c.push_listed.new.paths.items c.loop-word.invariant adds
+    let adds = subst (λ separator. c.push_listed.new.paths.items ≡ c.loop-word.paths.items ++ option_to_list
+    (path_listed separator c.in-Some.word.now)) c.separator_of-separator.ensures c.in_ok-push_listed.ensures in
+    one_word_more (path_listed (separator_of c.args.list.now)) c.loop-word.yielded c.in-Some.word
+    c.loop-word.paths.items c.push_listed.new.paths.items c.loop-word.invariant adds
 
 pub returns : goal.returns
 returns c =
@@ -20,7 +22,8 @@ returns c =
     let named = filter_map (path_listed (separator_of c.args.list.now)) in
     let words = YieldsList-end
     (YieldsList-at c.into_iter-word-iterator.ensures.into_iter_gives
-    (YieldsList-from_slice_split _ (λ byte. nat_eq byte separator) c.args.list.now c.split-word-items.ensures.rest c.split-word-items.ensures.done c.split-word-items.ensures.closure
+    (YieldsList-from_slice_split _ (λ byte. nat_eq byte separator) c.args.list.now c.split-word-items.ensures.rest
+    c.split-word-items.ensures.done c.split-word-items.ensures.closure
     (λ x b q k. search (rules, tests))))
     c.loop-word.yielded _ c.loop-word.yielded_by _ _ c.in-None.is c.next.ensures.steps in
     c.new.ensures ∙ ap set_of (c.loop-word.invariant ∙ ap named words.0)

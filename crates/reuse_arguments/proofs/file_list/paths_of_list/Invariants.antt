@@ -4,4 +4,5 @@ use Rattle.reuse_arguments.specs.FileLists.{path_listed, separator_of}
 use Rattle.reuse_arguments.proofs.file_list.paths_of_list.Given as goal
 
 abbrev pub invariant-loop-word : goal.invariant-loop-word
-invariant-loop-word l = l.paths.items ≡ filter_map (path_listed (separator_of l.list)) (map (λ (word : Bor (List ℕ)). word.now) l.yielded)
+invariant-loop-word l =
+    l.paths.items ≡ filter_map (path_listed (separator_of l.list)) (map (λ (word : Bor (List ℕ)). word.now) l.yielded)

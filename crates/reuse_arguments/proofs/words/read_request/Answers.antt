@@ -1,6 +1,6 @@
 use Rattle.std.proofs.Common.{◌∙◌, Ok, ap, sym}
 use Rattle.reuse_arguments.proofs.CommandLineLemmas.{made_of, request_else}
-use Rattle.reuse_arguments.proofs.LineFaultLemmas.{due_after, mistake_first, mistake_same, read_on}
+use Rattle.reuse_arguments.proofs.LineFaultLemmas.{expected_after, mistake_first, mistake_same, read_on}
 use Rattle.reuse_arguments.specs.CommandLine.{request_read}
 use Rattle.reuse_arguments.specs.Found.{found_in}
 use Rattle.reuse_arguments.proofs.words.read_request.Goals as goal
@@ -8,7 +8,7 @@ use Rattle.reuse_command.specs.declared.request.Request.TheVariants.{Recover}
 
 pub returns-in_err-call-in_default : goal.returns-in_err-call-in_default
 returns-in_err-call-in_default c =
-    due_after _ _ _ _ c.from_residual-in_err-call-in_default.ensures.1
+    expected_after _ _ _ _ c.from_residual-in_err-call-in_default.ensures.1
     (mistake_same _ _ _ (request_else _ _ _ _
     c.in_default.not-log c.in_default.not-show c.in_default.not-forget c.in_default.not-recover)
     (mistake_first _ _ _ c.in_err-call-in_default.ensures))
@@ -20,8 +20,9 @@ returns-in-log c = ap (λ name. request_read name (found_in c.args.matches.now) 
 pub returns-in_err-read_step-in-show : goal.returns-in_err-read_step-in-show
 unfolding request_read
 returns-in_err-read_step-in-show c =
-    due_after _ _ _ _ c.from_residual.ensures.1
-    (mistake_same _ _ _ (ap (λ name. request_read name (found_in c.args.matches.now) c.args.moment c.args.year) c.in-show.is)
+    expected_after _ _ _ _ c.from_residual.ensures.1
+    (mistake_same _ _ _
+    (ap (λ name. request_read name (found_in c.args.matches.now) c.args.moment c.args.year) c.in-show.is)
     (mistake_first _ _ _ c.in_err-read_step-in-show.ensures))
 
 pub returns-in_ok-read_step-in-show : goal.returns-in_ok-read_step-in-show
@@ -33,8 +34,9 @@ returns-in_ok-read_step-in-show c =
 pub returns-in_err-read_steps-in-forget : goal.returns-in_err-read_steps-in-forget
 unfolding request_read
 returns-in_err-read_steps-in-forget c =
-    due_after _ _ _ _ c.from_residual-in_err-read_steps-in-forget.ensures.1
-    (mistake_same _ _ _ (ap (λ name. request_read name (found_in c.args.matches.now) c.args.moment c.args.year) c.in-forget.is)
+    expected_after _ _ _ _ c.from_residual-in_err-read_steps-in-forget.ensures.1
+    (mistake_same _ _ _
+    (ap (λ name. request_read name (found_in c.args.matches.now) c.args.moment c.args.year) c.in-forget.is)
     (mistake_first _ _ _ c.in_err-read_steps-in-forget.ensures))
 
 pub returns-in_ok-read_steps-in-forget : goal.returns-in_ok-read_steps-in-forget

@@ -1,18 +1,18 @@
 use Rattle.std.proofs.Common.{◌∙◌, Ok, ap}
 use Rattle.reuse_arguments.proofs.CommandLineLemmas.{asked_same}
-use Rattle.reuse_arguments.proofs.LineFaultLemmas.{due_after, mistake_behind, mistake_first, read_on}
+use Rattle.reuse_arguments.proofs.LineFaultLemmas.{expected_after, mistake_behind, mistake_first, read_on}
 use Rattle.reuse_arguments.specs.CommandLine.{subcommand_read}
 use Rattle.reuse_arguments.proofs.words.read_subcommand.Goals as goal
 
 pub returns-in_err-request : goal.returns-in_err-request
 unfolding subcommand_read
 returns-in_err-request c =
-    due_after _ _ _ _ c.from_residual.ensures.1 (mistake_first _ _ _ c.in_err-request.ensures)
+    expected_after _ _ _ _ c.from_residual.ensures.1 (mistake_first _ _ _ c.in_err-request.ensures)
 
 pub returns-in_err-read_texts_folder : goal.returns-in_err-read_texts_folder
 unfolding subcommand_read
 returns-in_err-read_texts_folder c =
-    due_after _ _ _ _ c.from_residual-in_err-read_texts_folder.ensures.1
+    expected_after _ _ _ _ c.from_residual-in_err-read_texts_folder.ensures.1
     (mistake_behind _ _ _ _ c.in_ok-request.ensures (mistake_first _ _ _ c.in_err-read_texts_folder.ensures))
 
 pub returns : goal.returns

@@ -7,4 +7,5 @@ use Rattle.reuse_command.proofs.choice.sorted.Goals as goal
 pub returns : goal.returns
 returns c =
     dedup_is (pointwise nat_eq) c.sort_unstable.new.self.items c.dedup.new.self.items c.dedup.ensures.filtered
-    ∙ deduped-set c.args.paths.items c.sort_unstable.new.self.items c.sort_unstable.ensures.permutation c.sort_unstable.ensures.sorted
+    ∙ deduped-set c.args.paths.items c.sort_unstable.new.self.items c.sort_unstable.ensures.permutation
+    c.sort_unstable.ensures.sorted

@@ -5,7 +5,8 @@ use Rattle.reuse_diff.proofs.compare.hunk_between.Goals as goal
 
 pub returns-clause-same : goal.returns-clause-same
 returns-clause-same c = (
-  (λ none. same_files c.args.before.now c.args.after.now c.in_ok-pieces.pieces.items c.in_ok-pieces.ensures.old c.in_ok-pieces.ensures.new
+  (λ none. same_files c.args.before.now c.args.after.now c.in_ok-pieces.pieces.items c.in_ok-pieces.ensures.old
+      c.in_ok-pieces.ensures.new
       (rw c.deref.ensures.value at (c.in_ok-hunk_of.ensures.none.0 none))),
   λ same. (let is = c.is_same.ensures.1 same in cc),
 )
@@ -13,4 +14,5 @@ returns-clause-same c = (
 pub returns-clause-hunk : goal.returns-clause-hunk
 returns-clause-hunk c =
     IfSome_then c.in_ok-hunk_of.field-0 (rw c.deref.ensures.value at c.in_ok-hunk_of.ensures.some)
-    (is_hunk c.args.before.now c.args.after.now c.in_ok-pieces.pieces.items c.in_ok-pieces.ensures.old c.in_ok-pieces.ensures.new c.in_ok-pieces.ensures.ends)
+    (is_hunk c.args.before.now c.args.after.now c.in_ok-pieces.pieces.items c.in_ok-pieces.ensures.old
+    c.in_ok-pieces.ensures.new c.in_ok-pieces.ensures.ends)

@@ -9,10 +9,13 @@ use Rattle.reuse_diff.proofs.compare.hunk_of.Goals as goal
 
 pub part-requires : goal.part-requires
 part-requires c =
-    let some : prefix_len is_kept c.args.pieces.now < length c.args.pieces.now = omega (arith, prefix_len-le-length is_kept c.args.pieces.now) in
+    let some : prefix_len is_kept c.args.pieces.now < length c.args.pieces.now =
+    omega (arith, prefix_len-le-length is_kept c.args.pieces.now) in
     omega (arith, ends_apart is_kept c.args.pieces.now some)
 
 pub returns-clause-some : goal.returns-clause-some
 returns-clause-some c =
-    let some : prefix_len is_kept c.args.pieces.now < length c.args.pieces.now = omega (arith, prefix_len-le-length is_kept c.args.pieces.now) in
-    hunk_of-part c.args.pieces.now c.in_ok-part.field-0 c.hidden.result c.hidden-2.result some (cc) (cc) c.in_ok-part.ensures.number c.in_ok-part.ensures.pieces
+    let some : prefix_len is_kept c.args.pieces.now < length c.args.pieces.now =
+    omega (arith, prefix_len-le-length is_kept c.args.pieces.now) in
+    hunk_of-part c.args.pieces.now c.in_ok-part.field-0 c.hidden.result c.hidden-2.result some (cc)
+    (cc) c.in_ok-part.ensures.number c.in_ok-part.ensures.pieces

@@ -5,4 +5,5 @@ use Rattle.reuse_diff.specs.DiffText.{quoted_text}
 use Rattle.reuse_diff.proofs.name.print_quoted.Given as goal
 
 abbrev pub invariant-loop-byte : goal.invariant-loop-byte
-invariant-loop-byte g l = Appends (g.W.Write.contents l.initial.out) (g.W.Write.contents l.out) (flat_map quoted_text (take l.byte-index l.bytes))
+invariant-loop-byte g l = Appends (g.W.Write.contents l.initial.out) (g.W.Write.contents l.out)
+    (flat_map quoted_text (take l.byte-index l.bytes))

@@ -5,4 +5,5 @@ use Rattle.reuse_diff.specs.Hunks.{piece_text}
 use Rattle.reuse_diff.proofs.pieces.print_pieces.Given as goal
 
 abbrev pub invariant-loop-piece : goal.invariant-loop-piece
-invariant-loop-piece g l = Appends (g.W.Write.contents l.initial.out) (g.W.Write.contents l.out) (flat_map piece_text (take l.piece-index l.pieces))
+invariant-loop-piece g l = Appends (g.W.Write.contents l.initial.out) (g.W.Write.contents l.out)
+    (flat_map piece_text (take l.piece-index l.pieces))

@@ -5,4 +5,5 @@ use Rattle.reuse_folder.proofs.DiskStore.note_made.Given as goal
 
 -- the writes so far are noted, and the folder stays
 abbrev pub invariant-loop-write : goal.invariant-loop-write
-invariant-loop-write g l = AreWrites (noted (λ store. store.calls)) (take l.write-index l.writes) l.fn.self l.self (Ok tt) × (l.self.folder ≡ l.fn.self.folder)
+invariant-loop-write g l = AreWrites (noted (λ store. store.calls)) (take l.write-index l.writes) l.fn.self l.self
+    (Ok tt) × (l.self.folder ≡ l.fn.self.folder)

@@ -6,7 +6,7 @@ use Rattle.reuse_change.specs.Files.{AreFiles, Clashes}
 use Rattle.reuse_change.specs.Parts.{joined}
 use Rattle.reuse_store.specs.declared.fault.StoreFault.TheVariants.{Clash}
 use Rattle.reuse_store.specs.declared.record.CallRecord.{CallRecord}
-use Rattle.reuse_folder.specs.Honesty.{files_of, IsHonest, MayBeLeft}
+use Rattle.reuse_folder.specs.Honesty.{files_of, IsHonest, IsCrashState}
 use Rattle.reuse_folder.proofs.HonestFiles.{after_put}
 use Rattle.reuse_folder.proofs.PutKept.{put_kept}
 use Rattle.reuse_folder.proofs.DiskStore.note_put.Goals as goal
@@ -14,8 +14,11 @@ use Rattle.reuse_folder.proofs.DiskStore.note_put.Goals as goal
 pub invariant_of-self : goal.invariant_of-self
 invariant_of-self g c =
     let was = c.args.self.now.calls in record {
-      are_files = subst (λ (noted : CallRecord). IsHonest noted.start noted.calls → AreFiles (files_of noted.start noted.calls)) (sym c.note_put_parts.ensures)
-          (λ honest. after_put c.files_stay_good.ensures.put (files_of was.start was.calls) c.args.path.now (joined c.args.parts) c.map_err-answer.result (took_effect was.fates was.calls) (c.args.self.now.are_files honest.1) honest.0);
+      are_files = subst (λ (noted : CallRecord). IsHonest noted.start noted.calls
+          → AreFiles (files_of noted.start noted.calls)) (sym c.note_put_parts.ensures)
+          (λ honest. after_put c.files_stay_good.ensures.put (files_of was.start was.calls) c.args.path.now
+          (joined c.args.parts) c.map_err-answer.result (took_effect was.effects was.calls)
+          (c.args.self.now.are_files honest.1) honest.0);
     }
 
 pub returns-clause-puts : goal.returns-clause-puts
@@ -28,10 +31,12 @@ returns-clause-puts g c =
           (λ _. ¬ (Clashes files path) → IsHonest noted.start noted.calls)
           (λ fault. fault ≡ Clash → Clashes files path → IsHonest noted.start noted.calls))
           (sym c.note_put_parts.ensures)
-          (put_kept was.start was.calls path (joined c.args.parts) c.map_err-answer.result (took_effect was.fates was.calls) honest c.text.ensures.path);
+          (put_kept was.start was.calls path (joined c.args.parts) c.map_err-answer.result
+          (took_effect was.effects was.calls) honest c.text.ensures.path);
       ok = grind (arith, common_steps);
       err = grind (arith, common_steps);
-      may = λ left is. subst (λ (noted : CallRecord). MayBeLeft noted.start noted.doubts noted.calls left) c.note_put_parts.ensures is;
+      may = λ left is. subst (λ (noted : CallRecord).
+          IsCrashState noted.start noted.initial_crash_states noted.calls left) c.note_put_parts.ensures is;
       device = grind (arith, common_steps);
       written = grind (arith, common_steps);
       mutations = grind (arith, common_steps);

@@ -1,7 +1,7 @@
 use Rattle.std.proofs.Common.{subst, arith}
 use Rattle.std.proofs.lemmas.Grind.{common_steps}
 use Rattle.reuse_store.specs.declared.record.CallRecord.{CallRecord}
-use Rattle.reuse_folder.specs.Honesty.{MayBeLeft}
+use Rattle.reuse_folder.specs.Honesty.{IsCrashState}
 use Rattle.reuse_folder.proofs.DiskStore.note_removal.Goals as goal
 
 pub returns-clause-removes : goal.returns-clause-removes
@@ -9,7 +9,8 @@ returns-clause-removes g c = record {
   kept = grind (arith, common_steps);
   ok = grind (arith, common_steps);
   err = grind (arith, common_steps);
-  may = λ left is. subst (λ (noted : CallRecord). MayBeLeft noted.start noted.doubts noted.calls left) c.note_remove.ensures is;
+  may = λ left is. subst (λ (noted : CallRecord). IsCrashState noted.start noted.initial_crash_states noted.calls left)
+      c.note_remove.ensures is;
   device = grind (arith, common_steps);
   written = grind (arith, common_steps);
   mutations = grind (arith, common_steps);

@@ -11,5 +11,8 @@ returns-in-Err-clause-writes g c =
     let lt = subst (λ answer. IfErr answer (λ stop. stop.made < length c.args.writes.now)) c.in-Err.is c.requires in
     let failed = c.note_write.ensures.fails in
     subst (λ r. AreWrites store c.args.writes.now c.args.self.now c.note_write.new.self r) (sym failed)
-    (next_fails store c.args.writes.now c.in-Err.stop.made lt c.index-writes-stop.result c.index-writes-stop.is c.args.self.now c.note_made-in-Err.new.self c.note_write.new.self c.note_made-in-Err.ensures.writes (fault_of_store c.in-Err.stop.fault)
-    (subst (λ r. IsWrite store c.index-writes-stop.result.path.now c.index-writes-stop.result.file c.note_made-in-Err.new.self c.note_write.new.self r) failed c.note_write.ensures.write))
+    (next_fails store c.args.writes.now c.in-Err.stop.made lt c.index-writes-stop.result c.index-writes-stop.is
+    c.args.self.now c.note_made-in-Err.new.self c.note_write.new.self c.note_made-in-Err.ensures.writes
+    (fault_of_store c.in-Err.stop.fault)
+    (subst (λ r. IsWrite store c.index-writes-stop.result.path.now c.index-writes-stop.result.file
+    c.note_made-in-Err.new.self c.note_write.new.self r) failed c.note_write.ensures.write))

@@ -11,12 +11,14 @@ returns-clause-kept g c honest =
     let was = c.args.self.now.calls in
     let prunes = g.P.Pruning.prunes c.args.pruning.now in
     subst (λ (noted : CallRecord). MatchResult c.map_err-answer.result
-    (λ paths. paths.items ≡ listed_paths (files_of was.start was.calls) c.args.folders.now prunes → IsHonest noted.start noted.calls)
+    (λ paths. paths.items ≡ listed_paths (files_of was.start was.calls) c.args.folders.now prunes
+    → IsHonest noted.start noted.calls)
     (λ fault. fault ≢ Clash → IsHonest noted.start noted.calls)) (sym c.note_listing.ensures)
     (listing_kept was.start was.calls c.args.folders.now prunes (λ paths. paths.items) c.map_err-answer.result honest)
 
 pub returns-clause-paths : goal.returns-clause-paths
 returns-clause-paths g c honest =
     let was = c.args.self.now.calls in
-    listing_paths was.start was.calls c.args.folders.now (g.P.Pruning.prunes c.args.pruning.now) (λ paths. paths.items) c.map_err-answer.result
+    listing_paths was.start was.calls c.args.folders.now (g.P.Pruning.prunes c.args.pruning.now)
+    (λ paths. paths.items) c.map_err-answer.result
     (subst (λ (noted : CallRecord). IsHonest noted.start noted.calls) c.note_listing.ensures honest)

@@ -8,7 +8,8 @@ returns-clause-stands g c honest =
 
 pub returns-clause-place : goal.returns-clause-place
 returns-clause-place g c honest =
-    rw (c.note_put.ensures.folder, c.note_put.ensures.done) (c.put-answer.ensures.place (rw c.note_put.ensures.folder at honest))
+    rw (c.note_put.ensures.folder, c.note_put.ensures.done)
+    (c.put-answer.ensures.place (rw c.note_put.ensures.folder at honest))
 
 pub returns-clause-keeps_edits : goal.returns-clause-keeps_edits
 returns-clause-keeps_edits g c = rw c.note_put.ensures.folder c.put-answer.ensures.keeps_edits

@@ -5,7 +5,7 @@ use Rattle.reuse_header.specs.declared.finder.Block.{Block}
 use Rattle.reuse_header.specs.Found.{block_view}
 use Rattle.reuse_header.specs.Header.{HeaderSpan}
 use Rattle.reuse_header.specs.Drafts.{IsWithin}
-use Rattle.reuse_header.specs.Amendment.{block_amendment, amendment_answer, IsAmendmentDue}
+use Rattle.reuse_header.specs.Amendment.{block_amendment, amendment_answer, IsExpectedAmendment}
 use Rattle.reuse_header.proofs.AnnotationLemmas.{found_within}
 use Rattle.reuse_header.proofs.amend.amend_file.Goals as goal
 
@@ -22,7 +22,7 @@ amend_block-requires-clause-within c =
 
 pub returns-in-Some : goal.returns-in-Some
 returns-in-Some c =
-    subst (λ (o : Option HeaderSpan). IsAmendmentDue (amendment_answer c.args.file.now (option_map_or
+    subst (λ (o : Option HeaderSpan). IsExpectedAmendment (amendment_answer c.args.file.now (option_map_or
     (block_amendment c.args.style c.args.amendments.now c.args.file.now) o (Ok None))) c.amend_block.result)
     (sym (sym c.find.ensures.block ∙ ap (λ (o : Option Block). option_map block_view o) c.in-Some.is))
     c.amend_block.ensures

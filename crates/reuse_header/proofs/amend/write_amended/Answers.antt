@@ -7,7 +7,7 @@ use Rattle.reuse_header.specs.Found.{block_view}
 use Rattle.reuse_header.specs.Marks.{LineMarks, marks_of}
 use Rattle.reuse_header.specs.MarkViews.{marks_view}
 use Rattle.reuse_header.specs.Annotation.{written_by}
-use Rattle.reuse_header.specs.Amendment.{as_amendment, amendment_answer, IsAmendmentDue}
+use Rattle.reuse_header.specs.Amendment.{as_amendment, amendment_answer, IsExpectedAmendment}
 use Rattle.reuse_header.proofs.AmendmentLemmas.{no_form, write_ok, write_err}
 use Rattle.reuse_header.proofs.amend.write_amended.Goals as goal
 
@@ -19,7 +19,7 @@ returns-in_default c =
 
 pub returns-in-Ok : goal.returns-in-Ok
 returns-in-Ok c =
-    subst (λ (m : Option LineMarks). IsAmendmentDue (amendment_answer c.args.file.now (as_amendment
+    subst (λ (m : Option LineMarks). IsExpectedAmendment (amendment_answer c.args.file.now (as_amendment
     (written_by c.args.style c.args.file.now (Some (block_view c.args.block)) c.args.info.now m))) (Ok c.in-Ok.splice))
     (sym (sym c.marks_of.ensures ∙ ap (λ (marks : Option Marks). option_map marks_view marks) c.in-Some.is))
     (write_ok c.args.file.now (written_by c.args.style c.args.file.now (Some (block_view c.args.block)) c.args.info.now
@@ -27,7 +27,7 @@ returns-in-Ok c =
 
 pub returns-in-Err : goal.returns-in-Err
 returns-in-Err c =
-    subst (λ (m : Option LineMarks). IsAmendmentDue (amendment_answer c.args.file.now
+    subst (λ (m : Option LineMarks). IsExpectedAmendment (amendment_answer c.args.file.now
     (as_amendment (written_by c.args.style c.args.file.now (Some (block_view c.args.block)) c.args.info.now m)))
     (Err (Header c.in-Err.refusal)))
     (sym (sym c.marks_of.ensures ∙ ap (λ (marks : Option Marks). option_map marks_view marks) c.in-Some.is))

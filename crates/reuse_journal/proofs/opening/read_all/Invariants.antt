@@ -12,6 +12,8 @@ invariant-loop-number g l =
     record {
       reads : OnlyReads g.S.Store l.fn.store l.store;
       long : l.unreadable ≡ None → length l.entries.items ≡ length (take l.number-index l.numbers);
-      listed : store.honest l.store → l.unreadable ≡ None → AllZip (IsListedIn (undo_folder_of (store.files l.fn.store))) (take l.number-index l.numbers) l.entries.items;
-      found : store.honest l.store → IsLeastFound (undo_folder_of (store.files l.fn.store)) (take l.number-index l.numbers) l.unreadable;
+      listed : store.honest l.store → l.unreadable ≡ None → AllZip
+          (IsListedIn (undo_folder_of (store.files l.fn.store))) (take l.number-index l.numbers) l.entries.items;
+      found : store.honest l.store
+          → IsLeastFound (undo_folder_of (store.files l.fn.store)) (take l.number-index l.numbers) l.unreadable;
     }

@@ -23,7 +23,8 @@ returns-in_err-history-clause-bad g c honest path e =
       inr (
         head,
         subst (λ files. HeadSays (get (undo_folder_of files) head_path) head) first (c.in_ok-head.ensures.ok with_head),
-        subst (λ files. IsFirstUnreadable (undo_folder_of files) (named head) path) (c.read_head.ensures.reads.files with_head ∙ first) (c.read_entries.ensures.bad honest path was),
+        subst (λ files. IsFirstUnreadable (undo_folder_of files) (named head) path)
+            (c.read_head.ensures.reads.files with_head ∙ first) (c.read_entries.ensures.bad honest path was),
       ),
     ))
 

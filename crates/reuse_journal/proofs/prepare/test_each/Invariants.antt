@@ -12,5 +12,6 @@ invariant-loop-change g l =
     let store = g.S.Store in
     record {
       reads : OnlyReads store l.fn.store l.store;
-      ready : store.honest l.store → IsEntry l.changes → All (Passes l.aim l.direction (tree_of (store.files l.fn.store))) (take l.change-index l.changes);
+      ready : store.honest l.store → IsEntry l.changes
+          → All (Passes l.check l.direction (tree_of (store.files l.fn.store))) (take l.change-index l.changes);
     }

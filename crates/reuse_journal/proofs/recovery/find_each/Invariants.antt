@@ -11,5 +11,6 @@ invariant-loop-change g l =
     let store = g.S.Store in
     record {
       reads : OnlyReads store l.fn.store l.store;
-      found : store.honest l.store → IsEntry l.changes → AreFoundSoFar l.direction (tree_of (store.files l.fn.store)) l.changes (drop l.change-index l.changes) l.found.changed.items l.found.skipped.items;
+      found : store.honest l.store → IsEntry l.changes → AreFoundSoFar l.direction (tree_of (store.files l.fn.store))
+          l.changes (drop l.change-index l.changes) l.found.changed.items l.found.skipped.items;
     }

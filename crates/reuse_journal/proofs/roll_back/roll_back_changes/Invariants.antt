@@ -1,7 +1,7 @@
 use Rattle.std.proofs.Common.{take}
 use Rattle.reuse_store.specs.Asked.{Leaves}
 use Rattle.reuse_change.specs.Files.{Files, tree_of}
-use Rattle.reuse_store.specs.Lasting.{IsMidway}
+use Rattle.reuse_store.specs.Durable.{IsMidway}
 use Rattle.reuse_change.specs.Tree.{undo_folder_of}
 use Rattle.reuse_store.specs.Apply.{NotesMutations}
 use Rattle.reuse_change.specs.Entry.{IsEntry, ArePartlyMade}
@@ -15,7 +15,10 @@ invariant-loop-change g l =
     record {
       notes : NotesMutations g.S.Store l.fn.started l.started l.fn.store l.store;
       walk : StaysBeside store l.fn.store l.store l.changes l.change-index;
-      left : store.honest l.store → IsEntry l.changes → (start : Files) → ArePartlyMade l.direction l.changes start (tree_of (store.files l.fn.store))
-          → Leaves store l.fn.store (IsMidway l.direction l.changes start (undo_folder_of (store.files l.fn.store))) → Leaves store l.store (IsMidway l.direction l.changes start (undo_folder_of (store.files l.fn.store)));
-      back : store.honest l.store → IsEntry l.changes → ArePartlyMade l.direction (take l.change-index l.changes) (tree_of (store.files l.store)) (tree_of (store.files l.fn.store));
+      left : store.honest l.store → IsEntry l.changes → (start : Files)
+          → ArePartlyMade l.direction l.changes start (tree_of (store.files l.fn.store))
+          → Leaves store l.fn.store (IsMidway l.direction l.changes start (undo_folder_of (store.files l.fn.store)))
+          → Leaves store l.store (IsMidway l.direction l.changes start (undo_folder_of (store.files l.fn.store)));
+      back : store.honest l.store → IsEntry l.changes → ArePartlyMade l.direction (take l.change-index l.changes)
+          (tree_of (store.files l.store)) (tree_of (store.files l.fn.store));
     }

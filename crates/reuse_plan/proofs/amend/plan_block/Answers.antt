@@ -12,7 +12,8 @@ pub returns-then-not-is_text-clause-edit : goal.returns-then-not-is_text-clause-
 returns-then-not-is_text-clause-edit c tree bytes here reading =
     let short = short_is c.args.path.now bytes c.in_ok-bytes.bytes (c.in_ok-bytes.ensures.answer bytes reading) in
     inside_is c.args.asked.now c.args.path.now bytes c.args.style false short.0
-    (ap is_text (short.1 ∙ sym c.as_slice.ensures) ∙ sym (text-test c.as_slice.result.now c.is_text.result c.is_text.ensures) ∙ c.if-not-is_text.true)
+    (ap is_text (short.1 ∙ sym c.as_slice.ensures)
+    ∙ sym (text-test c.as_slice.result.now c.is_text.result c.is_text.ensures) ∙ c.if-not-is_text.true)
 
 pub returns-clause-edit : goal.returns-clause-edit
 returns-clause-edit c tree bytes here reading =
@@ -21,11 +22,16 @@ returns-clause-edit c tree bytes here reading =
     let a = c.args.asked.now.amendments.now in
     let short = short_is path bytes c.in_ok-bytes.bytes (c.in_ok-bytes.ensures.answer bytes reading) in
     let same = short.1 in
-    let text = ap is_text (same ∙ sym c.as_slice.ensures) ∙ sym (text-test c.as_slice.result.now c.is_text.result c.is_text.ensures) ∙ c.if-not-is_text.false in
+    let text = ap is_text (same ∙ sym c.as_slice.ensures)
+    ∙ sym (text-test c.as_slice.result.now c.is_text.result c.is_text.ensures) ∙ c.if-not-is_text.false in
     let file = c.as_slice-3.result.now in
-    let due = amendment_of style a file in
-    subst (λ r. AnswersEdit tree r c.amendment_by.result) (sym (inside_is c.args.asked.now path bytes style true short.0 text))
-    (subst (λ xs. AnswersEdit tree (amendment_edit path path xs (amendment_of style a xs)) c.amendment_by.result) (c.as_slice-3.ensures ∙ sym same)
-    (c.amendment_by.ensures.edit tree due (here ∙ ap (λ xs. Some xs) (same ∙ sym c.as_slice-3.ensures)) (omega (arith, ap length c.as_slice-3.ensures, c.in_ok-bytes.ensures.short))
-    (fits_amendment file due (λ edit e. c.amendments_fit.ensures.files style a file edit e))
-    (let bytes_again : c.as_slice-3.result.now ≡ c.as_slice-2.result.now = c.as_slice-3.ensures ∙ sym c.as_slice-2.ensures in rw bytes_again (search rules))))
+    let expected = amendment_of style a file in
+    subst (λ r. AnswersEdit tree r c.amendment_by.result)
+    (sym (inside_is c.args.asked.now path bytes style true short.0 text))
+    (subst (λ xs. AnswersEdit tree (amendment_edit path path xs (amendment_of style a xs)) c.amendment_by.result)
+    (c.as_slice-3.ensures ∙ sym same)
+    (c.amendment_by.ensures.edit tree expected (here ∙ ap (λ xs. Some xs) (same ∙ sym c.as_slice-3.ensures))
+    (omega (arith, ap length c.as_slice-3.ensures, c.in_ok-bytes.ensures.short))
+    (fits_amendment file expected (λ edit e. c.amendments_fit.ensures.files style a file edit e))
+    (let bytes_again : c.as_slice-3.result.now ≡ c.as_slice-2.result.now = c.as_slice-3.ensures
+    ∙ sym c.as_slice-2.ensures in rw bytes_again (search rules))))

@@ -12,7 +12,8 @@ pub table_change_by-requires : goal.table_change_by-requires
 table_change_by-requires c =
     let a = c.args.asked.now.amendments.now in
     within_answer a c.as_slice-2.result.now c.amend_toml-made.result
-    (subst (λ xs. IsTomlAnswer (toml_amendment_of a xs) c.amend_toml-made.result) (c.as_slice.ensures ∙ sym c.as_slice-2.ensures) c.amend_toml-made.ensures)
+    (subst (λ xs. IsTomlAnswer (toml_amendment_of a xs) c.amend_toml-made.result)
+    (c.as_slice.ensures ∙ sym c.as_slice-2.ensures) c.amend_toml-made.ensures)
 
 pub returns-clause-edit : goal.returns-clause-edit
 returns-clause-edit c tree bytes here reading =
@@ -21,6 +22,9 @@ returns-clause-edit c tree bytes here reading =
     let short = short_is path bytes c.in_ok-bytes.bytes (c.in_ok-bytes.ensures.answer bytes reading) in
     let same = short.1 in
     subst (λ r. AnswersEdit tree r c.table_change_by.result) (sym (table_is c.args.asked.now path bytes short.0))
-    (subst (λ xs. AnswersEdit tree (table_amendment path xs (toml_amendment_of a xs)) c.table_change_by.result) (c.as_slice-2.ensures ∙ sym same)
-    (c.table_change_by.ensures.edit tree a (here ∙ ap (λ xs. Some xs) (same ∙ sym c.as_slice-2.ensures)) (omega (arith, ap length c.as_slice-2.ensures, c.in_ok-bytes.ensures.short))
-    (subst (λ xs. IsTomlAnswer (toml_amendment_of a xs) c.amend_toml-made.result) (c.as_slice.ensures ∙ sym c.as_slice-2.ensures) c.amend_toml-made.ensures)))
+    (subst (λ xs. AnswersEdit tree (table_amendment path xs (toml_amendment_of a xs)) c.table_change_by.result)
+    (c.as_slice-2.ensures ∙ sym same)
+    (c.table_change_by.ensures.edit tree a (here ∙ ap (λ xs. Some xs) (same ∙ sym c.as_slice-2.ensures))
+    (omega (arith, ap length c.as_slice-2.ensures, c.in_ok-bytes.ensures.short))
+    (subst (λ xs. IsTomlAnswer (toml_amendment_of a xs) c.amend_toml-made.result)
+    (c.as_slice.ensures ∙ sym c.as_slice-2.ensures) c.amend_toml-made.ensures)))

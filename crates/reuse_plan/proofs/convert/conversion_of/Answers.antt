@@ -11,7 +11,8 @@ pub returns-in-Absent-clause-edits : goal.returns-in-Absent-clause-edits
 returns-in-Absent-clause-edits c tree are here is = none_read tree (sym c.in-Absent.is ∙ is)
 
 pub returns-in-TooLong-clause-edits : goal.returns-in-TooLong-clause-edits
-returns-in-TooLong-clause-edits c tree are here is = long_read tree (sym c.in-TooLong.is ∙ is) ∙ ap (λ p. Err (refusals.TooLong p)) (sym here)
+returns-in-TooLong-clause-edits c tree are here is =
+    long_read tree (sym c.in-TooLong.is ∙ is) ∙ ap (λ p. Err (refusals.TooLong p)) (sym here)
 
 pub returns-in-Found-clause-edits : goal.returns-in-Found-clause-edits
 returns-in-Found-clause-edits c tree are here is =

@@ -11,7 +11,9 @@ returns-clause-edits g c honest =
     let files = g.S.Store.files c.args.store.now in
     let listed = c.in_ok-reading.ensures.reads.was_honest honest in
     let path = c.in_ok-dep5.dep5 in
-    c.conversion_of.ensures.edits (tree_of (g.S.Store.files c.args.store.now)) (subst (λ ps. Shows ps (tree_of (g.S.Store.files c.args.store.now)) toml_path) (sym c.deref.ensures.value) (c.in_ok-paths.ensures.paths listed)) c.in_ok-dep5.ensures
+    c.conversion_of.ensures.edits (tree_of (g.S.Store.files c.args.store.now))
+    (subst (λ ps. Shows ps (tree_of (g.S.Store.files c.args.store.now)) toml_path) (sym c.deref.ensures.value)
+    (c.in_ok-paths.ensures.paths listed)) c.in_ok-dep5.ensures
     (c.in_ok-reading.ensures.reading honest
     ∙ ap (λ fs. reading_of (get fs c.in_ok-dep5.dep5) LONGEST_FILE) (c.in_ok-paths.ensures.reads.files listed)
     ∙ ap (λ p. reading_of (get (g.S.Store.files c.args.store.now) p) LONGEST_FILE) c.in_ok-dep5.ensures

@@ -13,22 +13,29 @@ use Rattle.reuse_plan.specs.Shown.{ShowsLicences}
 use Rattle.reuse_command.proofs.Asking.{of_plan}
 use Rattle.reuse_plan.proofs.Downloading.{one_text_more, after_made, after_refused, some_refused, ended, paths_after}
 use Rattle.reuse_plan.proofs.PathPlanning.{WalkedSoFar, is_refusal_of}
-use Rattle.reuse_plan.proofs.download.find_ids.Goals.{After-made_path, in-Ok+in_ok-push-in-Ok, in-Err+in_ok-refused-in-Err+in_ok-push-in-Err}
+use Rattle.reuse_plan.proofs.download.find_ids.Goals.{After-made_path, in-Ok+in_ok-push-in-Ok}
+use Rattle.reuse_plan.proofs.download.find_ids.Goals.{in-Err+in_ok-refused-in-Err+in_ok-push-in-Err}
 use Rattle.reuse_plan.proofs.download.find_ids.Goals as goal
 
 module _ (c : After-made_path) (tree : Files) (are : ShowsLicences c.args.paths.now tree) where
-  so : WalkedSoFar c.args.policy tree (id_refusals tree c.args.texts.now c.args.ids.now) (id_refusals tree c.args.texts.now (c.id-item.result ∷ drop (c.loop-id.id-index + 1) c.args.ids.now)) c.loop-id.refused.items
+  so : WalkedSoFar c.args.policy tree (id_refusals tree c.args.texts.now c.args.ids.now) (id_refusals tree
+      c.args.texts.now (c.id-item.result ∷ drop (c.loop-id.id-index + 1) c.args.ids.now)) c.loop-id.refused.items
   so =
-      subst (λ ids. WalkedSoFar c.args.policy tree (id_refusals tree c.args.texts.now c.args.ids.now) (id_refusals tree c.args.texts.now ids) c.loop-id.refused.items)
-      (left_here c.args.ids.now c.loop-id.id-index c.loop-id-test.true c.id-item.result c.id-item.is) (c.loop-id.invariant.walked tree are).refused
+      subst (λ ids. WalkedSoFar c.args.policy tree (id_refusals tree c.args.texts.now c.args.ids.now)
+      (id_refusals tree c.args.texts.now ids) c.loop-id.refused.items)
+      (left_here c.args.ids.now c.loop-id.id-index c.loop-id-test.true c.id-item.result c.id-item.is)
+      (c.loop-id.invariant.walked tree are).refused
 
 pub loop-id-preserved : goal.loop-id-preserved
 loop-id-preserved c = record {
   texts = elim c.match-made_path.branch [
     | in-Ok+in_ok-push-in-Ok w ↦
-        subst (AllByRecursion (HasText c.args.texts.now)) (sym (ap (λ v. v.items) w.made-is ∙ w.in_ok-push-in-Ok.ensures.items))
-        (one_text_more c.args.texts.now c.loop-id.made.items w.in-Ok.path c.loop-id.invariant.texts w.in-Ok.ensures.text)
-    | in-Err+in_ok-refused-in-Err+in_ok-push-in-Err w ↦ subst (AllByRecursion (HasText c.args.texts.now)) (sym (ap (λ v. v.items) w.made-is)) c.loop-id.invariant.texts
+        subst (AllByRecursion (HasText c.args.texts.now))
+        (sym (ap (λ v. v.items) w.made-is ∙ w.in_ok-push-in-Ok.ensures.items))
+        (one_text_more c.args.texts.now c.loop-id.made.items w.in-Ok.path c.loop-id.invariant.texts
+        w.in-Ok.ensures.text)
+    | in-Err+in_ok-refused-in-Err+in_ok-push-in-Err w ↦
+        subst (AllByRecursion (HasText c.args.texts.now)) (sym (ap (λ v. v.items) w.made-is)) c.loop-id.invariant.texts
   ];
   walked = λ tree are.
       let at = (goal.at.loop-id-preserved c).After-made_path in
@@ -43,20 +50,28 @@ loop-id-preserved c = record {
         | in-Ok+in_ok-push-in-Ok w ↦
             let made = w.in-Ok.ensures.made tree are in
             record {
-              refused = subst (WalkedSoFar c.args.policy tree all (id_refusals tree texts rest)) (sym (ap (λ v. v.items) w.refused-is)) (after_made c.args.policy tree texts all id rest plans (so at tree are) made.1);
+              refused = subst (WalkedSoFar c.args.policy tree all (id_refusals tree texts rest))
+                  (sym (ap (λ v. v.items) w.refused-is))
+                  (after_made c.args.policy tree texts all id rest plans (so at tree are) made.1);
               made = λ none.
-                  paths_after c.loop-id.made.items c.match-made_path.made.items id w.in-Ok.path rest (map licence_path ids) made.0 (ap (λ v. v.items) w.made-is ∙ w.in_ok-push-in-Ok.ensures.items)
-                  (ap (λ left. c.loop-id.made.items ++ map licence_path left) (sym here) ∙ (c.loop-id.invariant.walked tree are).made none);
+                  paths_after c.loop-id.made.items c.match-made_path.made.items id w.in-Ok.path rest
+                  (map licence_path ids) made.0 (ap (λ v. v.items) w.made-is ∙ w.in_ok-push-in-Ok.ensures.items)
+                  (ap (λ left. c.loop-id.made.items ++ map licence_path left) (sym here)
+                  ∙ (c.loop-id.invariant.walked tree are).made none);
             }
         | in-Err+in_ok-refused-in-Err+in_ok-push-in-Err w ↦
             let refusal = w.in-Err.refusal in
-            let told = w.in_ok-refused-in-Err.ensures.told in
-            let due = w.in-Err.ensures.refused tree are in
+            let reported = w.in_ok-refused-in-Err.ensures.reported in
+            let expected = w.in-Err.ensures.refused tree are in
             record {
-              refused = subst (WalkedSoFar c.args.policy tree all (id_refusals tree texts rest)) (sym (ap (λ v. v.items) w.refused-is ∙ w.in_ok-push-in-Err.ensures.items))
-                  (after_refused c.args.policy tree texts all id rest plans (so at tree are) refusal w.in_ok-refused-in-Err.field-0 told due
-                  (w.in_ok-refused-in-Err.ensures.plan tree (refused_with refusal) (is_refusal_of (refused_with refusal).edit refusal refl)));
-              made = λ none. absurd (some_refused c.args.policy tree texts all id rest plans (so at tree are) refusal told due none);
+              refused = subst (WalkedSoFar c.args.policy tree all (id_refusals tree texts rest))
+                  (sym (ap (λ v. v.items) w.refused-is ∙ w.in_ok-push-in-Err.ensures.items))
+                  (after_refused c.args.policy tree texts all id rest plans
+                  (so at tree are) refusal w.in_ok-refused-in-Err.field-0 reported expected
+                  (w.in_ok-refused-in-Err.ensures.plan tree (refused_with refusal)
+                  (is_refusal_of (refused_with refusal).edit refusal refl)));
+              made = λ none. absurd (some_refused c.args.policy tree texts all id rest plans
+                  (so at tree are) refusal reported expected none);
             }
       ];
 }
@@ -68,7 +83,10 @@ returns-in_err-refused-in-Err-clause-ended c tree are =
     let ids = c.args.ids.now in
     let all = id_refusals tree texts ids in
     let same = c.in_err-refused-in-Err.ensures.same in
-    let ends = subst (EndsWalk c.args.policy) same (c.in_err-refused-in-Err.ensures.ends (of_plan c.in-Err.refusal c.in-Err.ensures.no_fault)) in
-    let p = err_from_is_err_and c.from_residual-in_err-refused-in-Err.result c.from_residual-in_err-refused-in-Err.ensures.1 in
+    let ends = subst (EndsWalk c.args.policy) same
+    (c.in_err-refused-in-Err.ensures.ends (of_plan c.in-Err.refusal c.in-Err.ensures.no_fault)) in
+    let p =
+    err_from_is_err_and c.from_residual-in_err-refused-in-Err.result c.from_residual-in_err-refused-in-Err.ensures.1 in
     subst (λ r. IfErr r (IsRefusalOf (edits_in all))) (sym p.1) (subst (IsRefusalOf (edits_in all)) (sym (p.2 ∙ same))
-    (ended c.args.policy tree texts all c.id-item.result (drop (c.loop-id.id-index + 1) ids) c.loop-id.refused.items (so at tree are) c.in-Err.refusal ends (c.in-Err.ensures.refused tree are)))
+    (ended c.args.policy tree texts all c.id-item.result (drop (c.loop-id.id-index + 1) ids) c.loop-id.refused.items
+    (so at tree are) c.in-Err.refusal ends (c.in-Err.ensures.refused tree are)))

@@ -13,7 +13,9 @@ abbrev pub invariant-loop-id : goal.invariant-loop-id
 invariant-loop-id l = record {
   texts : AllByRecursion (HasText l.texts) l.made.items;
   walked : (tree : Files) → ShowsLicences l.paths tree → record {
-    refused : WalkedSoFar l.policy tree (id_refusals tree l.texts l.ids) (id_refusals tree l.texts (drop l.id-index l.ids)) l.refused.items;
-    made : id_refusals tree l.texts l.ids ≡ [] → l.made.items ++ map licence_path (drop l.id-index l.ids) ≡ map licence_path l.ids;
+    refused : WalkedSoFar l.policy tree (id_refusals tree l.texts l.ids)
+        (id_refusals tree l.texts (drop l.id-index l.ids)) l.refused.items;
+    made : id_refusals tree l.texts l.ids ≡ []
+        → l.made.items ++ map licence_path (drop l.id-index l.ids) ≡ map licence_path l.ids;
   };
 }

@@ -10,4 +10,6 @@ pub returns-clause-paths : goal.returns-clause-paths
 returns-clause-paths g c honest =
     let tree = tree_of (g.S.Store.files c.args.store.now) in
     let folders = c.from_ref.ensures.value ∙ ap (λ p. p ∷ []) c.in_ok-licences.ensures in
-    IfOk-weaker c.tree_paths.result _ _ (λ paths is. subst (λ ps. ShowsLicences ps tree) (sym (is ∙ ap (λ fs. listed_paths tree fs (λ place. false)) folders)) (shows_licences tree)) (c.tree_paths.ensures.paths honest)
+    IfOk-weaker c.tree_paths.result _ _ (λ paths is. subst (λ ps. ShowsLicences ps tree)
+    (sym (is ∙ ap (λ fs. listed_paths tree fs (λ place. false)) folders)) (shows_licences tree))
+    (c.tree_paths.ensures.paths honest)

@@ -10,4 +10,5 @@ returns-in_ok-licence_path-in-Some-clause-text c =
     let texts = c.args.texts.now in
     let here = c.in_ok-licence_path-in-Some.ensures ∙ ap licence_path (c.in-Some.ensures.0 ∙ c.as_slice.ensures) in
     IfOk-weaker c.path_for.result _ _ (λ made is. has_text texts c.args.id.now made (is.0 ∙ here)
-    (subst (λ o. IsSome o) (c.text_for.ensures ∙ ap (text_for texts) c.as_slice-in-Some.ensures) is.1)) c.path_for.ensures.text
+    (subst (λ o. IsSome o) (c.text_for.ensures ∙ ap (text_for texts) c.as_slice-in-Some.ensures) is.1))
+    c.path_for.ensures.text

@@ -18,13 +18,15 @@ pub returns-then-is_among-clause-refused : goal.returns-then-is_among-clause-ref
 returns-then-is_among-clause-refused c tree all here =
     let are = subst (Shows c.args.paths.now tree) (sym here) (all.each c.args.id.now) in
     let at = (goal.at.returns-then-is_among-clause-refused c).After-is_among in
-    exists_answer tree c.args.id.now c.args.path c.in-Some.text.now c.args.paths.now (option_copied c.args.found) are here (ap option_copied c.in-Some.is) (short at tree are) (sym (among at tree are) ∙ c.if-is_among.true)
+    exists_answer tree c.args.id.now c.args.path c.in-Some.text.now c.args.paths.now (option_copied c.args.found) are
+    here (ap option_copied c.in-Some.is) (short at tree are) (sym (among at tree are) ∙ c.if-is_among.true)
 
 pub returns-then-branch-clause-refused : goal.returns-then-branch-clause-refused
 returns-then-branch-clause-refused c tree all here =
     let are = subst (Shows c.args.paths.now tree) (sym here) (all.each c.args.id.now) in
     let at = (goal.at.returns-then-branch-clause-refused c).After-is_among in
-    clash_answer tree c.args.id.now c.args.path c.in-Some.text.now c.args.paths.now (option_copied c.args.found) are here (ap option_copied c.in-Some.is) (short at tree are) (sym (among at tree are) ∙ c.if-is_among.false)
+    clash_answer tree c.args.id.now c.args.path c.in-Some.text.now c.args.paths.now (option_copied c.args.found) are
+    here (ap option_copied c.in-Some.is) (short at tree are) (sym (among at tree are) ∙ c.if-is_among.false)
     (sym (c.in_ok-is_clash.ensures are.ordered) ∙ c.if-branch.true)
 
 pub returns-clause-made : goal.returns-clause-made
@@ -32,6 +34,7 @@ returns-clause-made c tree all here =
     let are = subst (Shows c.args.paths.now tree) (sym here) (all.each c.args.id.now) in
     let at = (goal.at.returns-clause-made c).After-is_among in (
       refl,
-      made_answer tree c.args.id.now c.args.path c.in-Some.text.now c.args.paths.now (option_copied c.args.found) are here (ap option_copied c.in-Some.is) (short at tree are) (sym (among at tree are) ∙ c.if-is_among.false)
+      made_answer tree c.args.id.now c.args.path c.in-Some.text.now c.args.paths.now (option_copied c.args.found) are
+          here (ap option_copied c.in-Some.is) (short at tree are) (sym (among at tree are) ∙ c.if-is_among.false)
           (sym (c.in_ok-is_clash.ensures are.ordered) ∙ c.if-branch.false),
     )

@@ -8,5 +8,6 @@ use Rattle.reuse_plan.proofs.download.sorted_ids.Goals as goal
 pub returns : goal.returns
 returns c =
     dedup_is (pointwise nat_eq) c.sort_unstable.new.self.items c.dedup.new.self.items c.dedup.ensures.filtered
-    ∙ deduped-set c.in_ok-sorted.sorted.items c.sort_unstable.new.self.items c.sort_unstable.ensures.permutation c.sort_unstable.ensures.sorted
+    ∙ deduped-set c.in_ok-sorted.sorted.items c.sort_unstable.new.self.items c.sort_unstable.ensures.permutation
+    c.sort_unstable.ensures.sorted
     ∙ ap set_of c.in_ok-sorted.ensures

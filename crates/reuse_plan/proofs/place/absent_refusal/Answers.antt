@@ -6,20 +6,24 @@ use Rattle.reuse_plan.proofs.place.absent_refusal.Goals as goal
 
 pub returns-then-branch-clause-annotated : goal.returns-then-branch-clause-annotated
 returns-then-branch-clause-annotated c how scope additions own tree are none =
-    absent_answer tree c.args.path.now c.args.paths.now are how scope additions own true none (sym (c.in_ok-is_folder.ensures are.ordered) ∙ c.if-branch.true)
+    absent_answer tree c.args.path.now c.args.paths.now are how scope additions own true none
+    (sym (c.in_ok-is_folder.ensures are.ordered) ∙ c.if-branch.true)
     ∙ ap (λ p. Err (refusals.IsFolder (place.Path p))) (sym c.in_ok-refused.ensures)
 
 pub returns-else-branch-clause-annotated : goal.returns-else-branch-clause-annotated
 returns-else-branch-clause-annotated c how scope additions own tree are none =
-    absent_answer tree c.args.path.now c.args.paths.now are how scope additions own false none (sym (c.in_ok-is_folder.ensures are.ordered) ∙ c.if-branch.false)
+    absent_answer tree c.args.path.now c.args.paths.now are how scope additions own false none
+    (sym (c.in_ok-is_folder.ensures are.ordered) ∙ c.if-branch.false)
     ∙ ap (λ p. Err (refusals.NoSuchPath p)) (sym c.in_ok-refused.ensures)
 
 pub returns-then-branch-clause-amended : goal.returns-then-branch-clause-amended
 returns-then-branch-clause-amended c amendments scope own tree are none =
-    absent_amended tree c.args.path.now c.args.paths.now are amendments scope own true none (sym (c.in_ok-is_folder.ensures are.ordered) ∙ c.if-branch.true)
+    absent_amended tree c.args.path.now c.args.paths.now are amendments scope own true none
+    (sym (c.in_ok-is_folder.ensures are.ordered) ∙ c.if-branch.true)
     ∙ ap (λ p. Err (refusals.IsFolder (place.Path p))) (sym c.in_ok-refused.ensures)
 
 pub returns-else-branch-clause-amended : goal.returns-else-branch-clause-amended
 returns-else-branch-clause-amended c amendments scope own tree are none =
-    absent_amended tree c.args.path.now c.args.paths.now are amendments scope own false none (sym (c.in_ok-is_folder.ensures are.ordered) ∙ c.if-branch.false)
+    absent_amended tree c.args.path.now c.args.paths.now are amendments scope own false none
+    (sym (c.in_ok-is_folder.ensures are.ordered) ∙ c.if-branch.false)
     ∙ ap (λ p. Err (refusals.NoSuchPath p)) (sym c.in_ok-refused.ensures)

@@ -8,7 +8,10 @@ use Rattle.reuse_plan.proofs.place.make_neighbour.Goals as goal
 
 pub returns-clause-edit : goal.returns-clause-edit
 returns-clause-edit c tree is none free =
-    let due = neighbour_annotation_of c.args.asked.now.how.now c.args.asked.now.additions.now [] in
-    subst (λ r. AnswersEdit tree r c.making_by.result) (sym (new_is c.args.asked.now tree c.args.path.now (ap (is_clash tree) (sym is) ∙ free)))
-    (subst (λ n. AnswersEdit tree (edit_by c.args.path.now n [] (neighbour_annotation_of c.args.asked.now.how.now c.args.asked.now.additions.now [])) c.making_by.result) is
-    (c.making_by.ensures.edit tree due none (fits_by [] due (λ edit e. c.annotations_fit.ensures.neighbours c.args.asked.now.how.now c.args.asked.now.additions.now [] edit e)) c.annotate_neighbour-made.ensures))
+    let expected = neighbour_annotation_of c.args.asked.now.how.now c.args.asked.now.additions.now [] in
+    subst (λ r. AnswersEdit tree r c.making_by.result)
+    (sym (new_is c.args.asked.now tree c.args.path.now (ap (is_clash tree) (sym is) ∙ free)))
+    (subst (λ n. AnswersEdit tree (edit_by c.args.path.now n []
+    (neighbour_annotation_of c.args.asked.now.how.now c.args.asked.now.additions.now [])) c.making_by.result) is
+    (c.making_by.ensures.edit tree expected none (fits_by [] expected (λ edit e. c.annotations_fit.ensures.neighbours
+    c.args.asked.now.how.now c.args.asked.now.additions.now [] edit e)) c.annotate_neighbour-made.ensures))

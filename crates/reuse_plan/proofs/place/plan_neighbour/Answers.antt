@@ -1,7 +1,7 @@
 use Rattle.std.proofs.Common.{◌≡◌, ◌∙◌, ℕ, false, ◌&&◌, nat_lt, List, length, Some, sym, ap, subst, arith}
 use Rattle.std.proofs.lemmas.Result.{err_from_is_err_and}
 use Rattle.reuse_header.specs.Neighbour.{neighbour_annotation_of}
-use Rattle.reuse_header.specs.Splices.{IsDue, answer_of}
+use Rattle.reuse_header.specs.Splices.{IsExpected, answer_of}
 use Rattle.reuse_command.specs.Reading.{get, Files, reading_of}
 use Rattle.reuse_text.specs.declared.TheConstants.{LONGEST_FILE}
 use Rattle.reuse_plan.specs.Annotate.{neighbour_of, neighbour_is_tagged, edit_by}
@@ -14,7 +14,9 @@ use Rattle.reuse_plan.specs.Plan.{IsRefusalOf, AnswersEdit}
 use Rattle.reuse_plan.specs.Steps.{short_file}
 use Rattle.reuse_plan.proofs.Annotating.{refusal_passes}
 use Rattle.reuse_plan.proofs.place.plan_neighbour.Goals as goal
-use Rattle.reuse_plan.proofs.place.plan_neighbour.Goals.{After-change_by, else-asked-via-then-asked+else-neighbour_has_tag, else-asked-via-else-asked}
+use Rattle.reuse_plan.proofs.place.plan_neighbour.Goals.{After-change_by}
+use Rattle.reuse_plan.proofs.place.plan_neighbour.Goals.{else-asked-via-then-asked+else-neighbour_has_tag}
+use Rattle.reuse_plan.proofs.place.plan_neighbour.Goals.{else-asked-via-else-asked}
 
 pub annotate_neighbour-made-requires : goal.annotate_neighbour-made-requires
 annotate_neighbour-made-requires c = omega (arith, ap length c.as_slice-2.ensures, c.in_ok-bytes.ensures.short)
@@ -22,47 +24,65 @@ annotate_neighbour-made-requires c = omega (arith, ap length c.as_slice-2.ensure
 pub returns-in_err-bytes-clause-plan : goal.returns-in_err-bytes-clause-plan
 returns-in_err-bytes-clause-plan c tree bytes is here reading =
     let path = c.args.path.now in
-    let due = neighbour_by c.args.asked.now tree path (Some bytes) in
+    let expected = neighbour_by c.args.asked.now tree path (Some bytes) in
     let p = err_from_is_err_and c.from_residual.result c.from_residual.ensures.1 in
-    subst (AnswersPlan Stop tree (path_neighbour_by c.args.asked.now tree path (Some bytes))) (sym p.1) (subst (IsRefusalOf due) (sym p.2)
-    (refusal_passes (short_file path bytes) due (λ refusal e. long_is path bytes _ refusal e) c.in_err-bytes.field-0.0 (c.in_err-bytes.ensures.answer bytes reading)))
+    subst (AnswersPlan Stop tree (path_neighbour_by c.args.asked.now tree path (Some bytes))) (sym p.1)
+    (subst (IsRefusalOf expected) (sym p.2)
+    (refusal_passes (short_file path bytes) expected (λ refusal e. long_is path bytes _ refusal e)
+    c.in_err-bytes.field-0.0 (c.in_err-bytes.ensures.answer bytes reading)))
 
 -- what is planned is the edit of the neighbour, which fits it
-module _ (c : After-change_by) (tree : Files) (bytes : List ℕ) (is : c.args.neighbour.now ≡ neighbour_of c.args.path.now) (here : get tree c.args.neighbour.now ≡ Some bytes)
+module _ (c : After-change_by) (tree : Files) (bytes : List ℕ)
+    (is : c.args.neighbour.now ≡ neighbour_of c.args.path.now) (here : get tree c.args.neighbour.now ≡ Some bytes)
     (reading : c.args.reading ≡ reading_of (Some bytes) LONGEST_FILE) where
   short : (nat_lt LONGEST_FILE (length bytes) ≡ false) × (bytes ≡ c.in_ok-bytes.bytes)
   short = short_is c.args.path.now bytes c.in_ok-bytes.bytes (c.in_ok-bytes.ensures.answer bytes reading)
 
   planned : path_neighbour_by c.args.asked.now tree c.args.path.now (Some bytes)
-      ≡ unskipped c.args.path.now (edit_by c.args.path.now (neighbour_of c.args.path.now) bytes (neighbour_annotation_of c.args.asked.now.how.now c.args.asked.now.additions.now bytes))
+      ≡ unskipped c.args.path.now (edit_by c.args.path.now (neighbour_of c.args.path.now) bytes
+      (neighbour_annotation_of c.args.asked.now.how.now c.args.asked.now.additions.now bytes))
   planned =
-      let kept : (c.args.asked.now.scope.now.skip_existing && neighbour_is_tagged bytes) ≡ false = elim c.else-asked.branch [
+      let kept : (c.args.asked.now.scope.now.skip_existing && neighbour_is_tagged bytes) ≡ false =
+      elim c.else-asked.branch [
         | else-asked-via-then-asked+else-neighbour_has_tag w ↦
-            ap (λ b. b && neighbour_is_tagged bytes) w.if-asked.true ∙ ap neighbour_is_tagged (short.1 ∙ sym w.as_slice.ensures) ∙ sym w.neighbour_has_tag.ensures ∙ w.if-neighbour_has_tag.false
+            ap (λ b. b && neighbour_is_tagged bytes) w.if-asked.true ∙ ap neighbour_is_tagged
+            (short.1 ∙ sym w.as_slice.ensures) ∙ sym w.neighbour_has_tag.ensures ∙ w.if-neighbour_has_tag.false
         | else-asked-via-else-asked w ↦ ap (λ b. b && neighbour_is_tagged bytes) w.if-asked.false
       ] in
       beside_unskipped c.args.asked.now c.args.path.now tree bytes short.0 kept
 
-  answers : AnswersEdit tree (edit_by c.args.path.now (neighbour_of c.args.path.now) bytes (neighbour_annotation_of c.args.asked.now.how.now c.args.asked.now.additions.now bytes)) c.change_by.result
+  answers : AnswersEdit tree (edit_by c.args.path.now (neighbour_of c.args.path.now) bytes
+      (neighbour_annotation_of c.args.asked.now.how.now c.args.asked.now.additions.now bytes)) c.change_by.result
   answers =
       let file = c.as_slice-3.result.now in
-      let due = neighbour_annotation_of c.args.asked.now.how.now c.args.asked.now.additions.now file in
-      subst (λ n. AnswersEdit tree (edit_by c.args.path.now n bytes (neighbour_annotation_of c.args.asked.now.how.now c.args.asked.now.additions.now bytes)) c.change_by.result) is
-      (subst (λ xs. AnswersEdit tree (edit_by c.args.path.now c.args.neighbour.now xs (neighbour_annotation_of c.args.asked.now.how.now c.args.asked.now.additions.now xs)) c.change_by.result) (c.as_slice-3.ensures ∙ sym short.1)
-      (c.change_by.ensures.edit tree due (here ∙ ap (λ xs. Some xs) (short.1 ∙ sym c.as_slice-3.ensures)) (omega (arith, ap length c.as_slice-3.ensures, c.in_ok-bytes.ensures.short))
-      (fits_by file due (λ edit e. c.annotations_fit.ensures.neighbours c.args.asked.now.how.now c.args.asked.now.additions.now file edit e))
-      (subst (λ xs. IsDue (answer_of xs (neighbour_annotation_of c.args.asked.now.how.now c.args.asked.now.additions.now xs)) c.annotate_neighbour-made.result) (c.as_slice-2.ensures ∙ sym c.as_slice-3.ensures) c.annotate_neighbour-made.ensures)))
+      let expected = neighbour_annotation_of c.args.asked.now.how.now c.args.asked.now.additions.now file in
+      subst (λ n. AnswersEdit tree (edit_by c.args.path.now n bytes
+      (neighbour_annotation_of c.args.asked.now.how.now c.args.asked.now.additions.now bytes)) c.change_by.result) is
+      (subst (λ xs. AnswersEdit tree (edit_by c.args.path.now c.args.neighbour.now xs
+      (neighbour_annotation_of c.args.asked.now.how.now c.args.asked.now.additions.now xs)) c.change_by.result)
+      (c.as_slice-3.ensures ∙ sym short.1)
+      (c.change_by.ensures.edit tree expected (here ∙ ap (λ xs. Some xs) (short.1 ∙ sym c.as_slice-3.ensures))
+      (omega (arith, ap length c.as_slice-3.ensures, c.in_ok-bytes.ensures.short))
+      (fits_by file expected (λ edit e.
+      c.annotations_fit.ensures.neighbours c.args.asked.now.how.now c.args.asked.now.additions.now file edit e))
+      (subst (λ xs. IsExpected (answer_of xs (neighbour_annotation_of c.args.asked.now.how.now
+      c.args.asked.now.additions.now xs)) c.annotate_neighbour-made.result)
+      (c.as_slice-2.ensures ∙ sym c.as_slice-3.ensures) c.annotate_neighbour-made.ensures)))
 
 pub returns-in-Ok-clause-plan : goal.returns-in-Ok-clause-plan
 returns-in-Ok-clause-plan c tree bytes is here reading =
     let at = (goal.at.returns-in-Ok-clause-plan c).After-change_by in
-    let edit = edit_by c.args.path.now (neighbour_of c.args.path.now) bytes (neighbour_annotation_of c.args.asked.now.how.now c.args.asked.now.additions.now bytes) in
-    subst (λ (e : PathEdit). IsPlanOf Stop tree e c.in_ok-of_change-in-Ok.field-0) (sym (planned at tree bytes is here reading))
-    (c.in_ok-of_change-in-Ok.ensures tree edit (subst (AnswersEdit tree edit) c.in-Ok.is (answers at tree bytes is here reading)))
+    let edit = edit_by c.args.path.now (neighbour_of c.args.path.now) bytes
+    (neighbour_annotation_of c.args.asked.now.how.now c.args.asked.now.additions.now bytes) in
+    subst (λ (e : PathEdit). IsPlanOf Stop tree e c.in_ok-of_change-in-Ok.field-0)
+    (sym (planned at tree bytes is here reading))
+    (c.in_ok-of_change-in-Ok.ensures tree edit
+    (subst (AnswersEdit tree edit) c.in-Ok.is (answers at tree bytes is here reading)))
 
 pub returns-clause-plan : goal.returns-clause-plan
 returns-clause-plan c tree bytes is here reading =
     let at = (goal.at.returns-clause-plan c).After-change_by in
-    let edit = edit_by c.args.path.now (neighbour_of c.args.path.now) bytes (neighbour_annotation_of c.args.asked.now.how.now c.args.asked.now.additions.now bytes) in
+    let edit = edit_by c.args.path.now (neighbour_of c.args.path.now) bytes
+    (neighbour_annotation_of c.args.asked.now.how.now c.args.asked.now.additions.now bytes) in
     subst (λ (e : PathEdit). IsRefusalOf e.edit c.in-Err.refusal) (sym (planned at tree bytes is here reading))
     (subst (AnswersEdit tree edit) c.in-Err.is (answers at tree bytes is here reading))

@@ -7,4 +7,5 @@ use Rattle.reuse_plan.proofs.planned.skipped_planned.Goals as goal
 pub returns : goal.returns
 returns c =
     count_from_yields_List c.filter.result c.count.result c.count.ensures.ran
-    (YieldsList-from_filter _ is_skip_planned (YieldsList-from_slice c.args.plans.now cc) c.filter.ensures.closure (λ x r q k. search (rules, tests)))
+    (YieldsList-from_filter _ is_skip_planned (YieldsList-from_slice c.args.plans.now cc) c.filter.ensures.closure
+    (λ x r q k. search (rules, tests)))

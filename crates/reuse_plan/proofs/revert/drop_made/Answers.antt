@@ -9,6 +9,8 @@ use Rattle.reuse_plan.proofs.revert.drop_made.Goals as goal
 
 pub returns : goal.returns
 returns c tree after here short =
-    subst (λ (x : Change). MakesEdit tree (found (taken_back (Make c.args.path.now c.args.new.now after) (Some c.args.file))) (Some x)) (sym c.sealed_drop.ensures)
-    (drop_makes tree c.args.path.now c.args.file c.args.new.now after c.in_ok-try_clone.field-0 c.in_ok-try_clone.ensures here short
+    subst (λ (x : Change). MakesEdit tree (found
+    (taken_back (Make c.args.path.now c.args.new.now after) (Some c.args.file))) (Some x)) (sym c.sealed_drop.ensures)
+    (drop_makes tree c.args.path.now c.args.file c.args.new.now after c.in_ok-try_clone.field-0
+    c.in_ok-try_clone.ensures here short
     (ap₂ bytes_eq (sym c.as_slice.ensures) (sym c.as_slice-2.ensures) ∙ not-false _ (sym c.ne.ensures ∙ c.if-ne.false)))

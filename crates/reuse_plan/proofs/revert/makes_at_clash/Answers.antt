@@ -9,7 +9,8 @@ use Rattle.reuse_plan.proofs.revert.makes_at_clash.Goals as goal
 
 pub returns-then-not-makes-clause-clash : goal.returns-then-not-makes-clause-clash
 returns-then-not-makes-clause-clash g c honest of_tree =
-    ap (λ b. b && is_clash (tree_of (g.S.Store.files c.args.store.now)) (path_of c.args.change.now)) (sym c.if-not-makes.true ∙ c.makes.ensures)
+    ap (λ b. b && is_clash (tree_of (g.S.Store.files c.args.store.now)) (path_of c.args.change.now))
+    (sym c.if-not-makes.true ∙ c.makes.ensures)
 
 pub returns-clause-clash : goal.returns-clause-clash
 returns-clause-clash g c honest of_tree =
@@ -17,5 +18,6 @@ returns-clause-clash g c honest of_tree =
     let path = path_of c.args.change.now in
     let made : makes Backward c.args.change.now ≡ true = sym c.makes.ensures ∙ c.if-not-makes.false in
     subst (λ b. IfOk c.is_clash_at.result (λ clash. clash ≡ b))
-    (ap (is_clash files) c.path.ensures ∙ clash_of_tree files path of_tree ∙ ap (λ b. b && is_clash (tree_of files) path) (sym made))
+    (ap (is_clash files) c.path.ensures ∙ clash_of_tree files path of_tree
+    ∙ ap (λ b. b && is_clash (tree_of files) path) (sym made))
     (c.is_clash_at.ensures.clash honest)

@@ -9,6 +9,8 @@ abbrev pub invariant-loop-change : goal.invariant-loop-change
 invariant-loop-change g l = record {
   reads : OnlyReads g.S.Store l.initial.store l.store;
   so_far : g.S.Store.honest l.store
-      → WalkedSoFar l.policy (tree_of (g.S.Store.files l.initial.store)) (map (reverted_at l.touched l.skip_moved (tree_of (g.S.Store.files l.initial.store))) l.changes)
-      (map (reverted_at l.touched l.skip_moved (tree_of (g.S.Store.files l.initial.store))) (drop l.change-index l.changes)) l.plans.items;
+      → WalkedSoFar l.policy (tree_of (g.S.Store.files l.initial.store))
+      (map (reverted_at l.touched l.skip_moved (tree_of (g.S.Store.files l.initial.store))) l.changes)
+      (map (reverted_at l.touched l.skip_moved (tree_of (g.S.Store.files l.initial.store)))
+      (drop l.change-index l.changes)) l.plans.items;
 }

@@ -20,48 +20,64 @@ use Rattle.reuse_plan.proofs.Fitting.{command_fits}
 use Rattle.reuse_plan.proofs.run.plan.Goals as goal
 
 -- as many in another order
-as_many : (changes sorted : List Change) → IsPermutation changes sorted → (nat_lt 100_000 (length sorted) || nat_lt 268_435_456 (entry_size sorted)) ≡ (nat_lt 100_000 (length changes) || nat_lt 268_435_456 (entry_size changes))
-as_many changes sorted moved = ap₂ (λ m n. nat_lt 100_000 m || nat_lt 268_435_456 (256 + n)) (length_permutation changes sorted moved) (sum_by-IsPermutation change_size changes sorted moved)
+as_many : (changes sorted : List Change) → IsPermutation changes sorted
+    → (nat_lt 100_000 (length sorted) || nat_lt 268_435_456 (entry_size sorted))
+    ≡ (nat_lt 100_000 (length changes) || nat_lt 268_435_456 (entry_size changes))
+as_many changes sorted moved = ap₂ (λ m n. nat_lt 100_000 m || nat_lt 268_435_456 (256 + n))
+    (length_permutation changes sorted moved) (sum_by-IsPermutation change_size changes sorted moved)
 
 -- the changes are those of the edits
-made : (command : Command) (tree : Files) (plans : List PathPlan) (changes : List Change) → ArePlansOf Stop tree (path_edits_of command tree) plans → changes ≡ changes_planned plans → MakesEdits tree (edits_of command tree) changes
+made : (command : Command) (tree : Files) (plans : List PathPlan) (changes : List Change)
+    → ArePlansOf Stop tree (path_edits_of command tree) plans → changes ≡ changes_planned plans
+    → MakesEdits tree (edits_of command tree) changes
 made command tree plans changes are is =
-    subst (MakesEdits tree (edits_of command tree)) (sym is) (changes_made Stop tree (path_edits_of command tree) plans are (none_refused tree (path_edits_of command tree) plans are))
+    subst (MakesEdits tree (edits_of command tree)) (sym is) (changes_made Stop tree
+    (path_edits_of command tree) plans are (none_refused tree (path_edits_of command tree) plans are))
 
 pub returns-in_err-plans-clause-refusal : goal.returns-in_err-plans-clause-refusal
 unfolding outcome_of
 returns-in_err-plans-clause-refusal g c honest =
     let tree = tree_of (g.S.Store.files c.args.store.now) in
     let p = err_from_is_err_and c.from_residual.result c.from_residual.ensures.1 in
-    subst (λ x. IfErr x (λ refusal. IsRefusalOf (outcome_of c.args.command.now (tree_of (g.S.Store.files c.args.store.now))) refusal)) (sym p.1)
+    subst (λ x. IfErr x (λ refusal. IsRefusalOf
+    (outcome_of c.args.command.now (tree_of (g.S.Store.files c.args.store.now))) refusal)) (sym p.1)
     (subst (λ r. IsRefusalOf (outcome_of c.args.command.now (tree_of (g.S.Store.files c.args.store.now))) r) (sym p.2)
-    (refusal_passes (edits_of c.args.command.now tree) (tree_after tree (edits_of c.args.command.now tree)) (λ r e. ap (tree_after (tree_of (g.S.Store.files c.args.store.now))) e) c.in_err-plans.field-0.0 (c.in_err-plans.ensures.plans honest)))
+    (refusal_passes (edits_of c.args.command.now tree) (tree_after tree (edits_of c.args.command.now tree))
+    (λ r e. ap (tree_after (tree_of (g.S.Store.files c.args.store.now))) e) c.in_err-plans.field-0.0
+    (c.in_err-plans.ensures.plans honest)))
 
 pub returns-then-is_too_many-clause-refusal : goal.returns-then-is_too_many-clause-refusal
 unfolding outcome_of
 returns-then-is_too_many-clause-refusal g c honest =
     let tree = tree_of (g.S.Store.files c.args.store.now) in
     let changes = c.in_ok-changes_planned.field-0.items in
-    too_many tree (edits_of c.args.command.now tree) changes (made c.args.command.now tree c.in_ok-plans.plans.items changes (c.in_ok-plans.ensures.plans honest) c.in_ok-changes_planned.ensures)
+    too_many tree (edits_of c.args.command.now tree) changes (made c.args.command.now tree c.in_ok-plans.plans.items
+    changes (c.in_ok-plans.ensures.plans honest) c.in_ok-changes_planned.ensures)
     (sym (as_many changes c.sorted-changes.result.items c.sorted-changes.ensures.moved)
-    ∙ ap (λ cs. nat_lt 100_000 (length cs) || nat_lt 268_435_456 (entry_size cs)) (sym c.deref-2.ensures.value) ∙ sym c.is_too_many.ensures ∙ c.if-is_too_many.true)
+    ∙ ap (λ cs. nat_lt 100_000 (length cs) || nat_lt 268_435_456 (entry_size cs)) (sym c.deref-2.ensures.value)
+    ∙ sym c.is_too_many.ensures ∙ c.if-is_too_many.true)
 
 pub returns-clause-changes : goal.returns-clause-changes
 unfolding outcome_of
 returns-clause-changes g c honest =
     let files = g.S.Store.files c.args.store.now in
     let changes = c.in_ok-changes_planned.field-0.items in
-    let are = tree_are_files files (g.met.S.Store.are_files c.args.store.now (c.in_ok-plans.ensures.asks.reads.was_honest honest)) in
+    let are = tree_are_files files
+    (g.met.S.Store.are_files c.args.store.now (c.in_ok-plans.ensures.asks.reads.was_honest honest)) in
     sorted_plan (tree_of files) (edits_of c.args.command.now (tree_of files)) changes c.sorted-changes.result.items are
-    (made c.args.command.now (tree_of files) c.in_ok-plans.plans.items changes (c.in_ok-plans.ensures.plans honest) c.in_ok-changes_planned.ensures)
-    c.sorted-changes.ensures.moved c.sorted-changes.ensures.sorted (command_fits c.args.command.now (tree_of files) c.in_ok-plans.ensures.entry are)
-    (ap (λ cs. nat_lt 100_000 (length cs) || nat_lt 268_435_456 (entry_size cs)) (sym c.deref-2.ensures.value) ∙ sym c.is_too_many.ensures ∙ c.if-is_too_many.false)
+    (made c.args.command.now (tree_of files) c.in_ok-plans.plans.items changes
+    (c.in_ok-plans.ensures.plans honest) c.in_ok-changes_planned.ensures)
+    c.sorted-changes.ensures.moved c.sorted-changes.ensures.sorted
+    (command_fits c.args.command.now (tree_of files) c.in_ok-plans.ensures.entry are)
+    (ap (λ cs. nat_lt 100_000 (length cs) || nat_lt 268_435_456 (entry_size cs)) (sym c.deref-2.ensures.value)
+    ∙ sym c.is_too_many.ensures ∙ c.if-is_too_many.false)
 
 pub returns-clause-recorded : goal.returns-clause-recorded
 returns-clause-recorded g c honest = (
   c.in_ok-changes_planned.field-0.items,
   c.sorted-changes.ensures.moved,
-  made c.args.command.now (tree_of (g.S.Store.files c.args.store.now)) c.in_ok-plans.plans.items c.in_ok-changes_planned.field-0.items (c.in_ok-plans.ensures.plans honest) c.in_ok-changes_planned.ensures,
+  made c.args.command.now (tree_of (g.S.Store.files c.args.store.now)) c.in_ok-plans.plans.items
+      c.in_ok-changes_planned.field-0.items (c.in_ok-plans.ensures.plans honest) c.in_ok-changes_planned.ensures,
 )
 
 pub returns-clause-counts : goal.returns-clause-counts
@@ -69,6 +85,7 @@ returns-clause-counts g c honest =
     let plans = c.in_ok-plans.plans.items in
     record {
       skipped = c.skipped_planned-counts.ensures ∙ ap skipped_planned c.deref.ensures.value
-          ∙ skips_are Stop c.args.command.now (tree_of (g.S.Store.files c.args.store.now)) plans (c.in_ok-plans.ensures.plans honest);
+          ∙ skips_are Stop c.args.command.now (tree_of (g.S.Store.files c.args.store.now)) plans
+          (c.in_ok-plans.ensures.plans honest);
       unused = c.in_ok-plans.ensures.unused honest;
     }

@@ -17,8 +17,11 @@ use Rattle.reuse_plan.proofs.PathPlanning.{path_outcomes_are, limit_is, accepted
 use Rattle.reuse_plan.proofs.run.plan_preview.Goals as goal
 
 -- as many in another order
-as_many : (changes sorted : List Change) → IsPermutation changes sorted → (nat_lt 100_000 (length sorted) || nat_lt 268_435_456 (entry_size sorted)) ≡ (nat_lt 100_000 (length changes) || nat_lt 268_435_456 (entry_size changes))
-as_many changes sorted moved = ap₂ (λ m n. nat_lt 100_000 m || nat_lt 268_435_456 (256 + n)) (length_permutation changes sorted moved) (sum_by-IsPermutation change_size changes sorted moved)
+as_many : (changes sorted : List Change) → IsPermutation changes sorted
+    → (nat_lt 100_000 (length sorted) || nat_lt 268_435_456 (entry_size sorted))
+    ≡ (nat_lt 100_000 (length changes) || nat_lt 268_435_456 (entry_size changes))
+as_many changes sorted moved = ap₂ (λ m n. nat_lt 100_000 m || nat_lt 268_435_456 (256 + n))
+    (length_permutation changes sorted moved) (sum_by-IsPermutation change_size changes sorted moved)
 
 pub returns-clause-path_outcomes : goal.returns-clause-path_outcomes
 unfolding path_outcomes_of
@@ -28,8 +31,10 @@ returns-clause-path_outcomes g c honest =
     let are = c.in_ok-plans.ensures.plans honest in
     let planned = c.in_ok-of in
     c.in_ok-with_limit.ensures.path_outcomes
-    ∙ ap₂ (λ fs more. fs ++ more) (planned.ensures.path_outcomes ∙ path_outcomes_are Collect tree all c.in_ok-plans.plans.items are)
-    (ap₂ limit_planned planned.ensures.refused planned.ensures.changes ∙ limit_is Collect tree all c.in_ok-plans.plans.items are)
+    ∙ ap₂ (λ fs more. fs ++ more)
+    (planned.ensures.path_outcomes ∙ path_outcomes_are Collect tree all c.in_ok-plans.plans.items are)
+    (ap₂ limit_planned planned.ensures.refused planned.ensures.changes
+    ∙ limit_is Collect tree all c.in_ok-plans.plans.items are)
 
 pub returns-clause-changes : goal.returns-clause-changes
 unfolding outcome_of
@@ -43,11 +48,17 @@ returns-clause-changes g c honest none =
     let planned = c.in_ok-of in
     let limited = c.in_ok-with_limit in
     let changes = planned.field-0.changes.items in
-    let made = subst (MakesEdits tree (edits_of command tree)) (sym planned.ensures.changes) (accepted_made command tree plans are accepted) in
-    let few = ap (λ (cs : List Change). nat_lt 100_000 (length cs) || nat_lt 268_435_456 (entry_size cs)) planned.ensures.changes ∙ accepted_few command tree plans are accepted in
-    let are_files = tree_are_files files (g.met.S.Store.are_files c.args.store.now (c.in_ok-plans.ensures.asks.reads.was_honest honest)) in
-    sorted_plan tree (edits_of command tree) changes limited.field-0.changes are_files made limited.ensures.moved limited.ensures.sorted
-    (command_fits command tree c.in_ok-plans.ensures.entry are_files) (as_many changes limited.field-0.changes limited.ensures.moved ∙ few)
+    let made = subst (MakesEdits tree (edits_of command tree)) (sym planned.ensures.changes)
+    (accepted_made command tree plans are accepted) in
+    let few =
+    ap (λ (cs : List Change). nat_lt 100_000 (length cs) || nat_lt 268_435_456 (entry_size cs)) planned.ensures.changes
+    ∙ accepted_few command tree plans are accepted in
+    let are_files = tree_are_files files
+    (g.met.S.Store.are_files c.args.store.now (c.in_ok-plans.ensures.asks.reads.was_honest honest)) in
+    sorted_plan tree
+    (edits_of command tree) changes limited.field-0.changes are_files made limited.ensures.moved limited.ensures.sorted
+    (command_fits command tree c.in_ok-plans.ensures.entry are_files)
+    (as_many changes limited.field-0.changes limited.ensures.moved ∙ few)
 
 pub returns-clause-recorded : goal.returns-clause-recorded
 returns-clause-recorded g c honest none =
@@ -57,7 +68,8 @@ returns-clause-recorded g c honest none =
     let planned = c.in_ok-of in (
       planned.field-0.changes.items,
       c.in_ok-with_limit.ensures.moved,
-      subst (MakesEdits tree (edits_of command tree)) (sym planned.ensures.changes) (accepted_made command tree c.in_ok-plans.plans.items (c.in_ok-plans.ensures.plans honest) accepted),
+      subst (MakesEdits tree (edits_of command tree)) (sym planned.ensures.changes)
+          (accepted_made command tree c.in_ok-plans.plans.items (c.in_ok-plans.ensures.plans honest) accepted),
     )
 
 pub returns-clause-counts : goal.returns-clause-counts
@@ -65,6 +77,7 @@ returns-clause-counts g c honest =
     let plans = c.in_ok-plans.plans.items in
     record {
       skipped = c.skipped_planned-counts.ensures ∙ ap skipped_planned c.deref.ensures.value
-          ∙ skips_are Collect c.args.command.now (tree_of (g.S.Store.files c.args.store.now)) plans (c.in_ok-plans.ensures.plans honest);
+          ∙ skips_are Collect c.args.command.now (tree_of (g.S.Store.files c.args.store.now)) plans
+          (c.in_ok-plans.ensures.plans honest);
       unused = c.in_ok-plans.ensures.unused honest;
     }

@@ -8,4 +8,5 @@ use Rattle.reuse_plan.proofs.run.sorted.Goals as goal
 
 pub returns-clause-sorted : goal.returns-clause-sorted
 returns-clause-sorted c =
-    c.sort_unstable_by.ensures.sorted is_before (ranks_by nat_list_cmp_total path_of) (always_returns_same _ _ _ (λ a r f k. search (rules, of_calls)))
+    c.sort_unstable_by.ensures.sorted is_before (ranks_by nat_list_cmp_total path_of)
+    (always_returns_same _ _ _ (λ a r f k. search (rules, of_calls)))

@@ -15,9 +15,13 @@ loop-place-preserved g c = record {
       let scope = c.args.scope.now in
       let tree = tree_of (g.S.Store.files c.args.store.now) in
       let place = c.place-item.result in
-      let here = subst (ShowsPlace scope c.args.paths.now tree) (sym c.place-item.is) (are c.loop-place.place-index place c.loop-place-test.true) in
-      let adds = subst (λ f. c.push_expanded.new.found.items ≡ c.loop-place.found.items ++ expanded scope (tree_of f) place) same
-      (c.in_ok-push_expanded.ensures.adds honest sorted (subst (λ f. ShowsPlace scope c.args.paths.now (tree_of f) place) (sym same) here)) in
-      expanded_more scope tree c.args.places.now c.loop-place.place-index place c.loop-place.found.items c.push_expanded.new.found.items c.loop-place-test.true (c.loop-place.invariant.found before sorted are)
+      let here = subst (ShowsPlace scope c.args.paths.now tree) (sym c.place-item.is)
+      (are c.loop-place.place-index place c.loop-place-test.true) in
+      let adds =
+      subst (λ f. c.push_expanded.new.found.items ≡ c.loop-place.found.items ++ expanded scope (tree_of f) place) same
+      (c.in_ok-push_expanded.ensures.adds honest sorted
+      (subst (λ f. ShowsPlace scope c.args.paths.now (tree_of f) place) (sym same) here)) in
+      expanded_more scope tree c.args.places.now c.loop-place.place-index place c.loop-place.found.items
+      c.push_expanded.new.found.items c.loop-place-test.true (c.loop-place.invariant.found before sorted are)
       (adds ∙ ap (λ p. c.loop-place.found.items ++ expanded scope tree p) c.place-item.is);
 }

@@ -11,6 +11,8 @@ invariant-loop-place g l =
     let store = g.S.Store in
     record {
       reads : OnlyReads store l.fn.store l.store;
-      found : store.honest l.store → ArePaths l.paths → All (ShowsPlace l.scope l.paths (tree_of (store.files l.fn.store))) l.places
-          → l.found.items ≡ flat_map (expanded l.scope (tree_of (store.files l.fn.store))) (take l.place-index l.places);
+      found : store.honest l.store → ArePaths l.paths
+          → All (ShowsPlace l.scope l.paths (tree_of (store.files l.fn.store))) l.places
+          → l.found.items ≡ flat_map (expanded l.scope (tree_of (store.files l.fn.store)))
+          (take l.place-index l.places);
     }

@@ -10,10 +10,10 @@ use Rattle.reuse_command.specs.Command.{paths_among}
 use Rattle.reuse_plan.specs.Unused.{leaves_none_out, unmet_count, AreUnusedWhere}
 use Rattle.reuse_plan.specs.Selected.{expanded, selected_paths}
 use Rattle.reuse_plan.specs.declared.select.Listing.TheVariants.{Listed}
-use Rattle.reuse_plan.proofs.Annotating.{told_as}
+use Rattle.reuse_plan.proofs.Annotating.{reported_as}
 use Rattle.reuse_store.proofs.AskedLemmas.{reads_more}
 use Rattle.reuse_command.specs.Answer.{IsEarlyFailure}
-use Rattle.reuse_command.proofs.Asking.{told, short, failed, later, look_faults}
+use Rattle.reuse_command.proofs.Asking.{reported, short, failed, later, look_faults}
 use Rattle.reuse_plan.proofs.Choosing.{listed, listed_ascend, shows_each_place, shows_selected}
 use Rattle.reuse_plan.proofs.select.find_selected.Given.{Over}
 use Rattle.reuse_plan.proofs.select.find_selected.Goals.{In_ok-expanded}
@@ -23,12 +23,16 @@ module _ (g : Over) (c : In_ok-expanded g) (honest : g.S.Store.honest c.expanded
   before : g.S.Store.honest c.list_selected.new.store
   before = c.expanded.ensures.reads.was_honest honest
 
-  listed_is : c.in_ok-listed.listed.items ≡ listed c.args.scope.now c.args.places.now (tree_of (g.S.Store.files c.args.store.now))
+  listed_is : c.in_ok-listed.listed.items ≡ listed c.args.scope.now c.args.places.now
+      (tree_of (g.S.Store.files c.args.store.now))
   listed_is =
       c.in_ok-listed.ensures.listed before
-      ∙ ap (λ given. listed_paths (tree_of (g.S.Store.files c.args.store.now)) (folders_for c.args.places.now given) (is_passed_over c.args.scope.now given)) (c.deref.ensures.value ∙ c.sorted-given.ensures ∙ ap set_of c.in_ok-paths_among.ensures)
+      ∙ ap (λ given. listed_paths (tree_of (g.S.Store.files c.args.store.now)) (folders_for c.args.places.now given)
+      (is_passed_over c.args.scope.now given))
+      (c.deref.ensures.value ∙ c.sorted-given.ensures ∙ ap set_of c.in_ok-paths_among.ensures)
 
-  found : c.in_ok-expanded.field-0.items ≡ flat_map (expanded c.args.scope.now (tree_of (g.S.Store.files c.args.store.now))) c.args.places.now
+  found : c.in_ok-expanded.field-0.items ≡ flat_map
+      (expanded c.args.scope.now (tree_of (g.S.Store.files c.args.store.now))) c.args.places.now
   found =
       let scope = c.args.scope.now in
       let places = c.args.places.now in
@@ -36,13 +40,19 @@ module _ (g : Over) (c : In_ok-expanded g) (honest : g.S.Store.honest c.expanded
       let same = c.list_selected.ensures.asks.reads.files before in
       let is : c.deref-2.result.now ≡ listed scope places tree = c.deref-2.ensures.value ∙ listed_is in
       let sorted : ArePaths c.deref-2.result.now = subst ArePaths (sym is) (listed_ascend scope places tree) in
-      let each : All (ShowsPlace scope c.deref-2.result.now tree) places = subst (λ ps. All (ShowsPlace scope ps tree) places) (sym is) (shows_each_place scope places tree) in
-      subst (λ f. c.in_ok-expanded.field-0.items ≡ flat_map (expanded c.args.scope.now (tree_of f)) c.args.places.now) same
-      (c.in_ok-expanded.ensures.found honest sorted (subst (λ f. All (ShowsPlace scope c.deref-2.result.now (tree_of f)) places) (sym same) each))
+      let each : All (ShowsPlace scope c.deref-2.result.now tree) places =
+      subst (λ ps. All (ShowsPlace scope ps tree) places) (sym is) (shows_each_place scope places tree) in
+      subst
+      (λ f. c.in_ok-expanded.field-0.items ≡ flat_map (expanded c.args.scope.now (tree_of f)) c.args.places.now) same
+      (c.in_ok-expanded.ensures.found honest sorted
+      (subst (λ f. All (ShowsPlace scope c.deref-2.result.now (tree_of f)) places) (sym same) each))
 
   -- where folders are gone through, these are selected
-  selected : set_of (flat_map (expanded c.args.scope.now (tree_of (g.S.Store.files c.args.store.now))) c.args.places.now) ≡ selected_paths c.args.scope.now c.args.places.now (tree_of (g.S.Store.files c.args.store.now))
-  selected = ap (λ b. set_of (cond b (flat_map (expanded c.args.scope.now (tree_of (g.S.Store.files c.args.store.now))) c.args.places.now) (paths_among c.args.places.now))) (sym c.if-not-scope.false)
+  selected : set_of
+      (flat_map (expanded c.args.scope.now (tree_of (g.S.Store.files c.args.store.now))) c.args.places.now)
+      ≡ selected_paths c.args.scope.now c.args.places.now (tree_of (g.S.Store.files c.args.store.now))
+  selected = ap (λ b. set_of (cond b (flat_map (expanded c.args.scope.now (tree_of (g.S.Store.files c.args.store.now)))
+      c.args.places.now) (paths_among c.args.places.now))) (sym c.if-not-scope.false)
 
 pub returns-clause-paths : goal.returns-clause-paths
 returns-clause-paths g c honest =
@@ -58,19 +68,24 @@ returns-clause-shown g c honest =
     let places = c.args.places.now in
     let start = c.list_selected.ensures.asks.reads.was_honest (before g at honest) in
     subst (λ ps. ShowsEach (Listed ps) tree c.sorted-paths.result.items) (sym (c.new.ensures ∙ listed_is g at honest))
-    (subst (ShowsEach (Listed (listed scope places tree)) tree) (sym (c.sorted-paths.ensures ∙ ap set_of (found g at honest)))
+    (subst (ShowsEach (Listed (listed scope places tree)) tree)
+    (sym (c.sorted-paths.ensures ∙ ap set_of (found g at honest)))
     (shows_selected scope places tree (tree_are_files files (g.met.S.Store.are_files c.args.store.now start))))
 
 pub returns-clause-asks : goal.returns-clause-asks
-returns-clause-asks g c = told g.S.Store IsEarlyFailure _ _ (Ok _) tt tt (reads_more g.S.Store _ _ _ c.list_selected.ensures.asks.reads c.expanded.ensures.reads)
+returns-clause-asks g c = reported g.S.Store IsEarlyFailure _ _ (Ok _) tt tt
+    (reads_more g.S.Store _ _ _ c.list_selected.ensures.asks.reads c.expanded.ensures.reads)
 
 pub returns-in_err-expanded-clause-asks : goal.returns-in_err-expanded-clause-asks
 returns-in_err-expanded-clause-asks g c =
     later g.S.Store IsEarlyFailure _ _ _ _ c.list_selected.ensures.asks.reads
-    (failed g.S.Store IsEarlyFailure _ _ c.in_err-expanded.field-0.0 _ (told_as c.from_residual-in_err-expanded.result _ c.from_residual-in_err-expanded.ensures.1) (look_faults c.in_err-expanded.field-0.0) c.in_err-expanded.ensures.fails c.in_err-expanded.ensures.reads)
+    (failed g.S.Store IsEarlyFailure _ _ c.in_err-expanded.field-0.0 _
+    (reported_as c.from_residual-in_err-expanded.result _ c.from_residual-in_err-expanded.ensures.1)
+    (look_faults c.in_err-expanded.field-0.0) c.in_err-expanded.ensures.fails c.in_err-expanded.ensures.reads)
 
 pub of-requires : goal.of-requires
-of-requires g c = subst ArePaths (sym (c.deref-3.ensures.value ∙ c.sorted-paths.ensures)) (sorted-set_of c.in_ok-expanded.field-0.items)
+of-requires g c = subst ArePaths (sym (c.deref-3.ensures.value ∙ c.sorted-paths.ensures))
+    (sorted-set_of c.in_ok-expanded.field-0.items)
 
 pub returns-clause-unused : goal.returns-clause-unused
 returns-clause-unused g c honest =
@@ -78,12 +93,16 @@ returns-clause-unused g c honest =
     let scope = c.args.scope.now in
     let places = c.args.places.now in
     let tree = tree_of (g.S.Store.files c.args.store.now) in
-    let chosen = c.deref-3.ensures.value ∙ c.sorted-paths.ensures ∙ ap set_of (found g at honest) ∙ selected g at honest in
+    let chosen =
+    c.deref-3.ensures.value ∙ c.sorted-paths.ensures ∙ ap set_of (found g at honest) ∙ selected g at honest in
     let beneath = c.deref-4.ensures.value ∙ listed_is g at honest in
     subst (λ b. AreUnusedWhere b scope places tree c.in_ok-unused.field-0) (sym c.if-not-scope.false) (record {
       names = c.in_ok-unused.ensures.names ∙ ap (λ ps. unmet_count scope ps scope.listed) chosen;
-      globs = c.in_ok-unused.ensures.globs ∙ ap₂ (λ ps fs. map (leaves_none_out scope ps fs) scope.excluded) chosen beneath;
+      globs =
+          c.in_ok-unused.ensures.globs ∙ ap₂ (λ ps fs. map (leaves_none_out scope ps fs) scope.excluded) chosen beneath;
     })
 
 pub returns-in_err-unused-clause-asks : goal.returns-in_err-unused-clause-asks
-returns-in_err-unused-clause-asks g c = short g.S.Store IsEarlyFailure _ _ _ (told_as c.from_residual-in_err-unused.result _ c.from_residual-in_err-unused.ensures.1) tt (reads_more g.S.Store _ _ _ c.list_selected.ensures.asks.reads c.expanded.ensures.reads)
+returns-in_err-unused-clause-asks g c = short g.S.Store IsEarlyFailure _ _ _
+    (reported_as c.from_residual-in_err-unused.result _ c.from_residual-in_err-unused.ensures.1) tt
+    (reads_more g.S.Store _ _ _ c.list_selected.ensures.asks.reads c.expanded.ensures.reads)

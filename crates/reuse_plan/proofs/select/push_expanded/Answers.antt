@@ -23,10 +23,13 @@ returns-then-branch-clause-adds g c honest sorted are =
     let shows = subst (ShowsPlace scope c.args.paths.now tree) c.in-Path.is are in
     let beneath = c.in_ok-beneath.ensures sorted in
     let alone : is_folder tree path ≡ false =
-    is_not (is_folder tree path) false c.in_ok-stands_alone.field-0 (c.in_ok-stands_alone.ensures.alone honest (some_beneath scope tree path c.args.paths.now c.in_ok-beneath.beneath.now shows beneath)) c.if-branch.true in
+    is_not (is_folder tree path) false c.in_ok-stands_alone.field-0 (c.in_ok-stands_alone.ensures.alone honest
+    (some_beneath scope tree path c.args.paths.now c.in_ok-beneath.beneath.now shows beneath)) c.if-branch.true in
     c.in_ok-push_copy.ensures
-    ∙ ap (λ ps. old ++ ps) (sym (stands_alone scope tree path c.args.paths.now c.in_ok-beneath.beneath.now shows beneath alone))
-    ∙ ap (λ (place : Place). c.args.found.now.items ++ expanded c.args.scope.now (tree_of (g.S.Store.files c.args.store.now)) place) (sym c.in-Path.is)
+    ∙ ap (λ ps. old ++ ps)
+    (sym (stands_alone scope tree path c.args.paths.now c.in_ok-beneath.beneath.now shows beneath alone))
+    ∙ ap (λ (place : Place). c.args.found.now.items ++ expanded c.args.scope.now
+    (tree_of (g.S.Store.files c.args.store.now)) place) (sym c.in-Path.is)
 
 pub returns-clause-adds : goal.returns-clause-adds
 returns-clause-adds g c honest sorted are =
@@ -37,7 +40,10 @@ returns-clause-adds g c honest sorted are =
     let shows = subst (ShowsPlace scope c.args.paths.now tree) c.in-Path.is are in
     let beneath = c.in_ok-beneath.ensures sorted in
     let folder : is_folder tree path ≡ true =
-    is_not (is_folder tree path) true c.in_ok-stands_alone.field-0 (c.in_ok-stands_alone.ensures.alone honest (some_beneath scope tree path c.args.paths.now c.in_ok-beneath.beneath.now shows beneath)) c.if-branch.false in
+    is_not (is_folder tree path) true c.in_ok-stands_alone.field-0 (c.in_ok-stands_alone.ensures.alone honest
+    (some_beneath scope tree path c.args.paths.now c.in_ok-beneath.beneath.now shows beneath)) c.if-branch.false in
     c.in_ok-push_chosen-2.ensures
-    ∙ ap (λ ps. old ++ ps) (sym (stands_for scope tree path c.args.paths.now c.in_ok-beneath.beneath.now shows beneath folder))
-    ∙ ap (λ (place : Place). c.args.found.now.items ++ expanded c.args.scope.now (tree_of (g.S.Store.files c.args.store.now)) place) (sym c.in-Path.is)
+    ∙ ap (λ ps. old ++ ps)
+    (sym (stands_for scope tree path c.args.paths.now c.in_ok-beneath.beneath.now shows beneath folder))
+    ∙ ap (λ (place : Place). c.args.found.now.items ++ expanded c.args.scope.now
+    (tree_of (g.S.Store.files c.args.store.now)) place) (sym c.in-Path.is)

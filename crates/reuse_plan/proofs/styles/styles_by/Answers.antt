@@ -12,29 +12,37 @@ use Rattle.reuse_plan.proofs.styles.styles_by.Goals as goal
 use Rattle.reuse_plan.proofs.styles.styles_by.Goals.{in-Absent, in-Found}
 use Rattle.std.proofs.lemmas.Bool.{le-ltb}
 
-refused_is : (due : Result OwnNames StylesRefusal) (refusal : StylesRefusal) → IsRefused due refusal → IsRefusalOf (styles_read due) (styles_refusal refusal)
-refused_is due (styles.Memory e) is = tt
-refused_is due refusal is = ap styles_read is
+refused_is : (expected : Result OwnNames StylesRefusal) (refusal : StylesRefusal) → IsRefused expected refusal
+    → IsRefusalOf (styles_read expected) (styles_refusal refusal)
+refused_is expected (styles.Memory e) is = tt
+refused_is expected refusal is = ap styles_read is
 
 abbrev refused : Refusal → Result OwnNames Refusal
 refused refusal = Err refusal
 
-of_bytes : (bytes : List ℕ) → length bytes ≤ LONGEST_FILE → styles_where (Some bytes) ≡ styles_read (styles_of (Some bytes))
-of_bytes bytes short = ap (λ b. cond b (refused (refusals.TooLong styles_path)) (styles_read (styles_of (Some bytes)))) (le-ltb LONGEST_FILE (length bytes) short)
+of_bytes : (bytes : List ℕ) → length bytes ≤ LONGEST_FILE
+    → styles_where (Some bytes) ≡ styles_read (styles_of (Some bytes))
+of_bytes bytes short = ap (λ b. cond b (refused (refusals.TooLong styles_path)) (styles_read (styles_of (Some bytes))))
+    (le-ltb LONGEST_FILE (length bytes) short)
 
 pub returns-clause-refusal : goal.returns-clause-refusal
 returns-clause-refusal c file here is =
-    let told : (due : Result OwnNames StylesRefusal) → styles_where file ≡ styles_read due → IfErr c.match-reading.read (λ refusal. IsRefused due refusal) → IsRefusalOf (styles_where file) c.of_styles.result =
-    λ due same refused. subst (λ given. IsRefusalOf given c.of_styles.result) (sym same)
-    (subst (λ refusal. IsRefusalOf (styles_read due) refusal) (sym c.of_styles.ensures)
-    (refused_is due c.in-Err.refusal (subst (λ read. IfErr read (λ refusal. IsRefused due refusal)) c.in-Err.is refused))) in
+    let reported : (expected : Result OwnNames StylesRefusal) → styles_where file ≡ styles_read expected
+    → IfErr c.match-reading.read (λ refusal. IsRefused expected refusal)
+    → IsRefusalOf (styles_where file) c.of_styles.result =
+    λ expected same refused. subst (λ given. IsRefusalOf given c.of_styles.result) (sym same)
+    (subst (λ refusal. IsRefusalOf (styles_read expected) refusal) (sym c.of_styles.ensures)
+    (refused_is expected c.in-Err.refusal
+    (subst (λ read. IfErr read (λ refusal. IsRefused expected refusal)) c.in-Err.is refused))) in
     elim c.match-reading.branch [
       | in-Absent w ↦
-          told (styles_of None) (ap styles_where (absent_is file LONGEST_FILE (sym w.in-Absent.is ∙ is)))
-          (subst (λ read. IfErr read (λ refusal. IsRefused (styles_of None) refusal)) (sym w.read-is) w.read-read.ensures.refused)
+          reported (styles_of None) (ap styles_where (absent_is file LONGEST_FILE (sym w.in-Absent.is ∙ is)))
+          (subst (λ read. IfErr read (λ refusal. IsRefused (styles_of None) refusal))
+          (sym w.read-is) w.read-read.ensures.refused)
       | in-Found w ↦
           let found = found_is file LONGEST_FILE w.in-Found.bytes (sym w.in-Found.is ∙ is) in
-          told (styles_of (Some w.in-Found.bytes)) (ap styles_where found.0 ∙ of_bytes w.in-Found.bytes found.1)
+          reported (styles_of (Some w.in-Found.bytes)) (ap styles_where found.0 ∙ of_bytes w.in-Found.bytes found.1)
           (subst (λ read. IfErr read (λ refusal. IsRefused (styles_of (Some w.in-Found.bytes)) refusal)) (sym w.read-is)
-          (subst (λ bytes. IfErr w.read-read-in-Found.result (λ refusal. IsRefused (styles_of (Some bytes)) refusal)) w.as_slice.ensures w.read-read-in-Found.ensures.refused))
+          (subst (λ bytes. IfErr w.read-read-in-Found.result (λ refusal. IsRefused (styles_of (Some bytes)) refusal))
+          w.as_slice.ensures w.read-read-in-Found.ensures.refused))
     ]

@@ -6,5 +6,6 @@ use Rattle.reuse_plan.proofs.unused.leaves_none_out.Goals as goal
 
 pub returns : goal.returns
 returns c =
-    ap not (any_from_yields_List (is_left_out_by c.args.scope.now c.args.selected.now c.args.glob.now) _ _ _ c.any.ensures.ran
+    ap not
+    (any_from_yields_List (is_left_out_by c.args.scope.now c.args.selected.now c.args.glob.now) _ _ _ c.any.ensures.ran
     (YieldsList-from_slice c.args.found.now cc) (λ x b q k. search (rules, tests)))

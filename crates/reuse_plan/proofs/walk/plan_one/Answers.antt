@@ -15,6 +15,8 @@ returns-in-Err-clause-plan g c honest are =
       | in-Listed w ↦
           subst (AnswersPlan Stop tree here) (sym w.planned-is)
           (w.plan_path-planned.ensures.plan (subst g.S.Store.honest w.store-is honest)
-          (subst (λ ps. ShowsPair ps tree c.args.path.now) (sym w.as_slice.ensures) (subst (λ l. ShowsOne l tree c.args.path.now) w.in-Listed.is are)))
-      | in-Alone w ↦ subst (AnswersPlan Stop tree here) (sym w.planned-is) (w.plan_alone-planned.ensures.plan (subst g.S.Store.honest w.store-is honest))
+          (subst (λ ps. ShowsPair ps tree c.args.path.now) (sym w.as_slice.ensures)
+          (subst (λ l. ShowsOne l tree c.args.path.now) w.in-Listed.is are)))
+      | in-Alone w ↦ subst (AnswersPlan Stop tree here) (sym w.planned-is)
+          (w.plan_alone-planned.ensures.plan (subst g.S.Store.honest w.store-is honest))
     ]))

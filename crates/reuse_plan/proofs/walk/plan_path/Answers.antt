@@ -9,5 +9,7 @@ use Rattle.reuse_plan.proofs.walk.plan_path.Goals as goal
 pub returns-in_ok-of_change-in-Ok-clause-plan : goal.returns-in_ok-of_change-in-Ok-clause-plan
 returns-in_ok-of_change-in-Ok-clause-plan g c honest are =
     let tree = tree_of (g.S.Store.files c.args.store.now) in
-    subst (λ asked. IsPlanOf Stop tree (at_by asked tree c.args.path.now) c.in_ok-of_change-in-Ok.field-0) (sym c.in-Amendment.is)
-    (c.in_ok-of_change-in-Ok.ensures tree (amended_by c.in-Amendment.asked tree c.args.path.now) (c.in-Ok.ensures.edit honest are))
+    subst (λ asked. IsPlanOf Stop tree (at_by asked tree c.args.path.now) c.in_ok-of_change-in-Ok.field-0)
+    (sym c.in-Amendment.is)
+    (c.in_ok-of_change-in-Ok.ensures tree (amended_by c.in-Amendment.asked tree c.args.path.now)
+    (c.in-Ok.ensures.edit honest are))

@@ -10,6 +10,7 @@ abbrev pub invariant-loop-path : goal.invariant-loop-path
 invariant-loop-path g l = record {
   reads : OnlyReads g.S.Store l.initial.store l.store;
   so_far : g.S.Store.honest l.store → ShowsEach l.listing (tree_of (g.S.Store.files l.initial.store)) l.selected
-      → WalkedSoFar l.policy (tree_of (g.S.Store.files l.initial.store)) (map (at_by l.asked (tree_of (g.S.Store.files l.initial.store))) l.selected)
+      → WalkedSoFar l.policy (tree_of (g.S.Store.files l.initial.store))
+      (map (at_by l.asked (tree_of (g.S.Store.files l.initial.store))) l.selected)
       (map (at_by l.asked (tree_of (g.S.Store.files l.initial.store))) (drop l.path-index l.selected)) l.plans.items;
 }

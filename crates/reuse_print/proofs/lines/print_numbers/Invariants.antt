@@ -6,4 +6,5 @@ use Rattle.reuse_print.proofs.lines.print_numbers.Given as goal
 
 -- the lines of the numbers so far were written
 abbrev pub invariant-loop-number : goal.invariant-loop-number
-invariant-loop-number g l = Appends (g.W.Write.contents l.initial.out) (g.W.Write.contents l.out) (flat_map forgotten_line (take l.number-index l.numbers))
+invariant-loop-number g l = Appends (g.W.Write.contents l.initial.out) (g.W.Write.contents l.out)
+    (flat_map forgotten_line (take l.number-index l.numbers))

@@ -5,4 +5,5 @@ use Rattle.reuse_print.proofs.lines.print_paths.Goals as goal
 
 pub loop-path-preserved : goal.loop-path-preserved
 loop-path-preserved g c =
-    Appends-joined (line_of c.args.names c.args.word.now) _ _ _ c.args.paths.now c.loop-path.path-index c.path-item.result (omega arith) c.path-item.is c.loop-path.invariant c.in_ok-print_path.ensures
+    Appends-joined (line_of c.args.names c.args.word.now) _ _ _ c.args.paths.now c.loop-path.path-index
+    c.path-item.result (omega arith) c.path-item.is c.loop-path.invariant c.in_ok-print_path.ensures

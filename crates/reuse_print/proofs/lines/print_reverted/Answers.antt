@@ -13,6 +13,9 @@ returns g c =
     let new = contents c.print_paths.new.out in
     let first = some_paths_text c.args.names (codes "changed") c.args.reverted.now.changed in
     let second = lines_of c.args.names (codes "skipped") c.args.reverted.now.skipped in
-    let changed = subst (λ ps. Appends (contents c.args.out.now) (contents c.print_some_paths.new.out) (some_paths_text c.args.names (codes "changed") ps)) c.as_slice.ensures c.in_ok-print_some_paths.ensures in
-    on_ok_weaker c.print_paths.result (λ (wrote : Appends mid new second). Appends-trans old mid new first second changed wrote)
-    (subst (λ ps. OnOk c.print_paths.result (Appends (contents c.print_some_paths.new.out) (contents c.print_paths.new.out) (lines_of c.args.names (codes "skipped") ps))) c.as_slice-2.ensures c.print_paths.ensures)
+    let changed = subst (λ ps. Appends (contents c.args.out.now) (contents c.print_some_paths.new.out)
+    (some_paths_text c.args.names (codes "changed") ps)) c.as_slice.ensures c.in_ok-print_some_paths.ensures in
+    on_ok_weaker c.print_paths.result
+    (λ (wrote : Appends mid new second). Appends-trans old mid new first second changed wrote)
+    (subst (λ ps. OnOk c.print_paths.result (Appends (contents c.print_some_paths.new.out) (contents
+    c.print_paths.new.out) (lines_of c.args.names (codes "skipped") ps))) c.as_slice-2.ensures c.print_paths.ensures)

@@ -13,5 +13,6 @@ returns g c =
     let new = contents c.print_changes.new.out in
     on_ok_weaker c.print_changes.result
     (λ (wrote : Appends mid new (change_lines c.args.names c.as_slice.result.now)).
-    AppendsSome-shown c.args.names c.args.shown.now (contents c.args.out.now) mid new c.in_ok-print_row.ensures (subst (λ (l : List Change). Appends mid new (change_lines c.args.names l)) c.as_slice.ensures.changes wrote))
+    AppendsSome-shown c.args.names c.args.shown.now (contents c.args.out.now) mid new c.in_ok-print_row.ensures
+    (subst (λ (l : List Change). Appends mid new (change_lines c.args.names l)) c.as_slice.ensures.changes wrote))
     c.print_changes.ensures

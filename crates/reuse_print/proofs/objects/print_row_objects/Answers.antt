@@ -5,4 +5,5 @@ use Rattle.reuse_print.proofs.objects.print_row_objects.Goals as goal
 
 pub loop-row-preserved : goal.loop-row-preserved
 loop-row-preserved g c =
-    AppendsSome-row IsRowObject _ _ _ c.args.rows.now c.loop-row.row-index c.row-item.result (omega arith) c.row-item.is c.loop-row.invariant c.in_ok-print_row_object.ensures
+    AppendsSome-row IsRowObject _ _ _ c.args.rows.now c.loop-row.row-index c.row-item.result
+    (omega arith) c.row-item.is c.loop-row.invariant c.in_ok-print_row_object.ensures

@@ -11,6 +11,7 @@ parts-preserved g c =
     record {
       written =
           subst (λ l. Written old new text l) (sym (whole_rest c.in-Ok.taken c.parts.rest.now))
-          (more_written old mid new text c.parts.rest.now c.in-Ok.taken c.parts.invariant.written c.in-Ok.ensures.bytes);
+          (more_written old mid new text c.parts.rest.now c.in-Ok.taken c.parts.invariant.written
+          c.in-Ok.ensures.bytes);
       kept = c.in-Ok.ensures.kept ∙ c.parts.invariant.kept;
     }

@@ -9,5 +9,6 @@ returns g c =
     let contents = g.W.Write.contents in
     let line = row_line c.args.row.now c.date_of.result in
     on_ok_weaker c.print_dated.result
-    (λ (wrote : Appends (contents c.args.out.now) (contents c.print_dated.new.out) line). (line, ((c.date_of.result, (c.date_of.ensures, refl)), wrote)))
+    (λ (wrote : Appends (contents c.args.out.now) (contents c.print_dated.new.out) line).
+    (line, ((c.date_of.result, (c.date_of.ensures, refl)), wrote)))
     c.print_dated.ensures

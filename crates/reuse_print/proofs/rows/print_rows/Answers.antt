@@ -5,4 +5,5 @@ use Rattle.reuse_print.proofs.rows.print_rows.Goals as goal
 
 pub loop-row-preserved : goal.loop-row-preserved
 loop-row-preserved g c =
-    AppendsSome-row IsRowLine _ _ _ c.args.rows.now c.loop-row.row-index c.row-item.result (omega arith) c.row-item.is c.loop-row.invariant c.in_ok-print_row.ensures
+    AppendsSome-row IsRowLine _ _ _ c.args.rows.now c.loop-row.row-index c.row-item.result
+    (omega arith) c.row-item.is c.loop-row.invariant c.in_ok-print_row.ensures

@@ -8,12 +8,17 @@ pub returns : goal.returns
 returns c =
     let kept = c.annotating_keeps_other_bytes.ensures in
     record {
-      accepted = λ places additions how scope tree. annotation_accepted places additions how scope tree kept.replaced kept.inserted kept.neighbour_replaced kept.neighbour_inserted;
-      made = λ places additions how scope tree after h. annotates kept.replaced kept.inserted kept.neighbour_replaced kept.neighbour_inserted places additions how scope tree after h;
-      one = λ places additions how scope before after other this that. one_tree places additions how scope before after other this that;
+      accepted = λ places additions how scope tree. annotation_accepted places additions how scope tree kept.replaced
+          kept.inserted kept.neighbour_replaced kept.neighbour_inserted;
+      made = λ places additions how scope tree after h. annotates kept.replaced kept.inserted kept.neighbour_replaced
+          kept.neighbour_inserted places additions how scope tree after h;
+      one = λ places additions how scope before after other this that.
+          one_tree places additions how scope before after other this that;
       left = λ places additions how scope when old new reply runs.
-          annotates kept.replaced kept.inserted kept.neighbour_replaced kept.neighbour_inserted places additions how scope old.tree new.tree
+          annotates kept.replaced kept.inserted kept.neighbour_replaced kept.neighbour_inserted places additions how
+          scope old.tree new.tree
           (left_by_run (Annotate places additions how scope) when old new reply runs);
       texts = λ places additions how scope before after made plain utf8 path.
-          stays_or_text c.annotated_texts_are_texts.ensures.files c.annotated_texts_are_texts.ensures.neighbours additions how scope plain utf8 places before after made path;
+          stays_or_text c.annotated_texts_are_texts.ensures.files c.annotated_texts_are_texts.ensures.neighbours
+          additions how scope plain utf8 places before after made path;
     }

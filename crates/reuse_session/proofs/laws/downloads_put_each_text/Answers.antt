@@ -8,5 +8,6 @@ pub returns : goal.returns
 returns c = record {
   accepted = download_accepted;
   made = download_puts;
-  left = λ ids texts when old new reply runs. download_puts ids texts old.tree new.tree (left_by_run (Download ids texts) when old new reply runs);
+  left = λ ids texts when old new reply runs. download_puts ids texts old.tree new.tree
+      (left_by_run (Download ids texts) when old new reply runs);
 }

@@ -1,4 +1,5 @@
-use Rattle.reuse_journal.proofs.OneOpening.{bad_once, stuck_once, opened_once, not_bad_and_stuck, not_bad_and_opened, not_stuck_and_opened}
+use Rattle.reuse_journal.proofs.OneOpening.{bad_once, stuck_once, opened_once, not_bad_and_stuck, not_bad_and_opened}
+use Rattle.reuse_journal.proofs.OneOpening.{not_stuck_and_opened}
 use Rattle.reuse_session.proofs.laws.files_open_in_one_way.Goals as goal
 
 pub returns : goal.returns

@@ -7,6 +7,7 @@ use Rattle.reuse_session.proofs.laws.forgotten_steps_are_gone.Goals as goal
 pub returns : goal.returns
 returns c = record {
   oldest = λ files numbers state next hold without.
-      besides_is_next numbers hold.0 state next hold.2 without (sound_head (undo_folder_of files) hold.0.journal None hold.1.journal);
+      besides_is_next numbers hold.0 state next hold.2 without
+      (sound_head (undo_folder_of files) hold.0.journal None hold.1.journal);
   all = none_kept;
 }

@@ -1,4 +1,5 @@
-use Rattle.reuse_session.proofs.lemmas.session.StepPathOutcomes.{refused_where_stuck, accepted_where_made, calls_as_previewed}
+use Rattle.reuse_session.proofs.lemmas.session.StepPathOutcomes.{refused_where_stuck, accepted_where_made}
+use Rattle.reuse_session.proofs.lemmas.session.StepPathOutcomes.{calls_as_previewed}
 use Rattle.reuse_session.proofs.laws.steps_follow_path_outcomes.Goals as goal
 
 pub returns : goal.returns

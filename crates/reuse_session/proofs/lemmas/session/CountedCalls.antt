@@ -5,7 +5,7 @@ use Rattle.reuse_store.specs.declared.store.Store.{Ghosts}
 use Rattle.reuse_session.specs.session.Calls.{LeavesRun}
 use Rattle.reuse_journal.specs.Journal.{State}
 use Rattle.reuse_session.specs.session.Previews.{path_outcomes_alone}
-use Rattle.reuse_session.specs.session.Session.{StandsOn}
+use Rattle.reuse_session.specs.session.Session.{SimulatesState}
 use Rattle.reuse_command.specs.declared.command.Command.{Command}
 use Rattle.reuse_plan.specs.declared.counts.Counts.{Counts}
 use Rattle.reuse_command.specs.declared.path_outcome.Previewed.{Previewed}
@@ -14,16 +14,19 @@ use Rattle.reuse_command.specs.declared.reply.Response.{Response}
 use Rattle.reuse_session.specs.declared.session.Session.{Session}
 
 -- what a session counted is no part of what it stands at
-pub still_counted : {S : Type 0} (files : S → Files) (session : Session S) (counted : Counts) (held : State) → StandsOn files session held → StandsOn files (record session { counts = counted }) held
+pub still_counted : {S : Type 0} (files : S → Files) (session : Session S) (counted : Counts) (held : State)
+    → SimulatesState files session held → SimulatesState files (record session { counts = counted }) held
 still_counted files session counted held stands = record {
   whole = stands.whole;
-  standing = stands.standing;
+  committed = stands.committed;
   remembers = stands.remembers;
 }
 
 -- nor of what a run leaves
-pub leaves_counted : {S : Type 0} (store : Ghosts S) (old new : Session S) (counted : Counts) (command : Command) (when : ℕ) (result : Result Response Refusal)
-    → LeavesRun store command when result (record old { counts = counted }) new → LeavesRun store command when result old new
+pub leaves_counted : {S : Type 0} (store : Ghosts S) (old new : Session S) (counted : Counts) (command : Command)
+    (when : ℕ) (result : Result Response Refusal)
+    → LeavesRun store command when result (record old { counts = counted }) new
+    → LeavesRun store command when result old new
 leaves_counted store old new counted command when result leaves = record {
   unchanged = leaves.unchanged;
   stands = λ honest held stands. leaves.stands honest held (still held stands);
@@ -39,10 +42,12 @@ leaves_counted store old new counted command when result leaves = record {
   free = leaves.free;
 }
   where
-    still : (held : State) → StandsOn store.files old held → StandsOn store.files (record old { counts = counted }) held
+    still : (held : State) → SimulatesState store.files old held
+        → SimulatesState store.files (record old { counts = counted }) held
     still held stands = still_counted store.files old counted held stands
 
 -- what is so of an answer with changes is so of it without them
-pub on_path_outcomes : (answer : Result Previewed Refusal) (Claim : Type 0) → OnOk answer Claim → OnOk (path_outcomes_alone answer) Claim
+pub on_path_outcomes : (answer : Result Previewed Refusal) (Claim : Type 0) → OnOk answer Claim
+    → OnOk (path_outcomes_alone answer) Claim
 on_path_outcomes (Ok previewed) Claim is = is
 on_path_outcomes (Err refusal) Claim is = tt

@@ -14,14 +14,16 @@ use Rattle.reuse_journal.proofs.JournalReading.{file_in_folder}
 use Rattle.reuse_store.proofs.OfTree.{get-folder}
 
 -- where the files stay, so does the folder
-pub folder_stays : (files new : Files) (path : List ℕ) → new ≡ files → IsSameBut path (undo_folder_of files) (undo_folder_of new)
+pub folder_stays : (files new : Files) (path : List ℕ) → new ≡ files
+    → IsSameBut path (undo_folder_of files) (undo_folder_of new)
 folder_stays files new path same other ne = ap (λ f. get (undo_folder_of f) other) same
 
 module _ (files put : Files) (number : ℕ) (others : IsSameBut (entry_path number) files put) where
   -- an entry was put
   pub folder_put : IsSameButTwo (entry_path number) head_path (undo_folder_of files) (undo_folder_of put)
   folder_put other ne neither =
-      get-folder put other ∙ ap (λ file. cond (lies_under other journal_folder) file None) (others other ne) ∙ sym (get-folder files other)
+      get-folder put other ∙ ap (λ file. cond (lies_under other journal_folder) file None) (others other ne)
+      ∙ sym (get-folder files other)
 
   -- and then a head
   pub folder_stepped : (after : Files) → IsSameBut head_path (undo_folder_of put) (undo_folder_of after)
@@ -29,7 +31,8 @@ module _ (files put : Files) (number : ℕ) (others : IsSameBut (entry_path numb
   folder_stepped after same other ne neither = same other neither ∙ folder_put other ne neither
 
 -- the entry's text stays beside a head that is put
-pub entry_text_stays : (put after : Files) (number : ℕ) (entry : Entry) → IsSameBut head_path (undo_folder_of put) (undo_folder_of after)
+pub entry_text_stays : (put after : Files) (number : ℕ) (entry : Entry)
+    → IsSameBut head_path (undo_folder_of put) (undo_folder_of after)
     → HasEntryText number entry put → HasEntryText number entry after
 entry_text_stays put after number entry same here =
     let path = entry_path number in

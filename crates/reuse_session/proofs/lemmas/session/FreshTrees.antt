@@ -1,5 +1,6 @@
--- A tree that no session has worked on holds the machine's first state.
-use Rattle.std.proofs.Common.{◌≡◌, ℕ, Bool, true, false, cond, not, List, [], Option, Some, None, IsSome, refl, sym, subst, ◌∙◌}
+-- A tree that no session has worked on holds the model's first state.
+use Rattle.std.proofs.Common.{◌≡◌, ℕ, Bool, true, false, cond, not, List, [], Option, Some, None, IsSome, refl, sym}
+use Rattle.std.proofs.Common.{subst, ◌∙◌}
 use Rattle.std.specs.FinMap.{get}
 use Rattle.std.proofs.lemmas.List.Elements.{All-nil}
 use Rattle.reuse_change.specs.Path.{lies_under, journal_folder}
@@ -8,8 +9,8 @@ use Rattle.reuse_change.proofs.FileMaps.{same_files}
 use Rattle.reuse_session.specs.session.Fresh.{IsFresh, first_state}
 use Rattle.reuse_journal.specs.Journal.{Journal}
 use Rattle.reuse_journal.specs.JournalFiles.{head_path, IsFree, IsKeptIn, HeadSays, head_of}
-use Rattle.reuse_journal.specs.Standing.{IsStanding}
-use Rattle.reuse_session.specs.session.Stops.{HoldState}
+use Rattle.reuse_journal.specs.CommittedState.{IsCommittedState}
+use Rattle.reuse_session.specs.session.Stops.{SimulatesInFiles}
 use Rattle.reuse_change.specs.Tree.{undo_folder_of}
 use Rattle.reuse_store.proofs.ApplyLemmas.{none_is_some}
 use Rattle.reuse_store.proofs.TreeLemmas.{tree_file}
@@ -27,9 +28,11 @@ module _ (files : Files) (fresh : IsFresh files) where
   none_under path under = no_file (get files path) (λ some. fresh.no_journal path some under)
 
   all_tree : tree_of files ≡ files
-  all_tree = same_files (tree_of files) files (λ path. tree_file files path ∙ of_test path (lies_under path journal_folder) refl)
+  all_tree = same_files (tree_of files) files
+      (λ path. tree_file files path ∙ of_test path (lies_under path journal_folder) refl)
     where
-      of_test : (path : List ℕ) (b : Bool) → lies_under path journal_folder ≡ b → cond (not b) (get files path) None ≡ get files path
+      of_test : (path : List ℕ) (b : Bool) → lies_under path journal_folder ≡ b
+          → cond (not b) (get files path) None ≡ get files path
       of_test path true under = sym (none_under path under)
       of_test path false out = refl
 
@@ -40,7 +43,7 @@ module _ (files : Files) (fresh : IsFresh files) where
       of_test true under = none_under path under
       of_test false out = refl
 
-  stands : IsStanding files (record { tree = files; journal = no_steps })
+  stands : IsCommittedState files (record { tree = files; journal = no_steps })
   stands = record {
     tree = all_tree;
     good = fresh.tree;
@@ -51,8 +54,9 @@ module _ (files : Files) (fresh : IsFresh files) where
     };
   }
 
-  pub fresh_holds : HoldState files (first_state files)
-  fresh_holds = (record { tree = files; journal = no_steps }, stands, record { tree = refl; past = tt; future = tt; used = refl })
+  pub fresh_holds : SimulatesInFiles files (first_state files)
+  fresh_holds =
+      (record { tree = files; journal = no_steps }, stands, record { tree = refl; past = tt; future = tt; used = refl })
 
   pub fresh_is_free : IsFree (undo_folder_of files)
   fresh_is_free path other is some under = none_is_some (get (undo_folder_of files) other) (empty_folder other) some

@@ -17,7 +17,9 @@ any_sealed : (changes : List Change) → 0 < length changes → AreAllSealed tru
 any_sealed [] some are = absurd (omega arith)
 any_sealed (c ∷ cs) some are = ap (λ b. b || is_any_sealed cs) (are 0 c (omega arith))
 
-pub recorded_known : (tree : Files) (given : Result (List Edit) Refusal) (changes : List Change) (command : CommandName) → IsEntry changes → Records tree given changes → knows (is_any_sealed changes) command ≡ true
+pub recorded_known : (tree : Files) (given : Result (List Edit) Refusal) (changes : List Change) (command : CommandName)
+    → IsEntry changes → Records tree given changes → knows (is_any_sealed changes) command ≡ true
 recorded_known tree given changes command entry listed =
-    let sealed = All-permutation (λ c. is_sealed c ≡ true) listed.0 changes listed.1 (sealed_each tree listed.0 listed.2.0 listed.2.2) in
+    let sealed = All-permutation (λ c. is_sealed c ≡ true) listed.0 changes listed.1
+    (sealed_each tree listed.0 listed.2.0 listed.2.2) in
     ap (λ b. knows b command) (any_sealed changes entry.some sealed)

@@ -7,7 +7,8 @@ use Rattle.reuse_command.specs.declared.command.Command.{Command}
 use Rattle.reuse_command.specs.declared.reply.Response.{Response}
 use Rattle.reuse_command.specs.declared.reply.Response.TheVariants.{Changed, NothingChanged}
 
-pub left_by_run : (command : Command) (when : ℕ) (old new : State) (reply : Response) → Runs command when old (Ok reply) new → outcome_of command old.tree ≡ Ok new.tree
+pub left_by_run : (command : Command) (when : ℕ) (old new : State) (reply : Response)
+    → Runs command when old (Ok reply) new → outcome_of command old.tree ≡ Ok new.tree
 left_by_run command when old new (Changed paths) runs = runs.1.outcome
 left_by_run command when old new NothingChanged runs = runs.1 ∙ ap (λ (held : State). Ok held.tree) (sym runs.2)
 left_by_run command when old new reply runs = absurd runs

@@ -28,6 +28,8 @@ changed_answer [] some = absurd (omega (arith, some))
 changed_answer (change ∷ changes) some = tt
 
 -- the step
-pub step_answer : (changes : List Change) → 0 < length changes → (result : Result Response Refusal) → IfOk result (λ reply. reply ≡ Changed (paths_of changes)) → IfErr result IsFailure → IsRunAnswer result
-step_answer changes some (Ok reply) changed fails = subst (λ (r : Response). IsRunAnswer (Ok r)) (sym changed) (changed_answer changes some)
+pub step_answer : (changes : List Change) → 0 < length changes → (result : Result Response Refusal)
+    → IfOk result (λ reply. reply ≡ Changed (paths_of changes)) → IfErr result IsFailure → IsRunAnswer result
+step_answer changes some (Ok reply) changed fails =
+    subst (λ (r : Response). IsRunAnswer (Ok r)) (sym changed) (changed_answer changes some)
 step_answer changes some (Err refusal) changed fails = failed_answer refusal fails

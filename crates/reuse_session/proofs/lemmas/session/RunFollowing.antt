@@ -1,10 +1,10 @@
--- What a run answers and leaves from any standing, and that it follows the reference model.
+-- What a run answers and leaves from any committed state, and that it follows the reference model.
 use Rattle.std.proofs.Common.{◌≡◌, ℕ, ◌+◌, false, List, [], ◌∷◌, length, Result, Ok, Err, refl, sym, ap, subst, ◌∙◌}
 use Rattle.std.proofs.lemmas.List.Elements.{All-nil}
 use Rattle.std.proofs.lemmas.List.{nil_from_length}
 use Rattle.reuse_change.specs.Files.{Files, AreFiles}
 use Rattle.reuse_change.specs.declared.change.Change.{Change}
-use Rattle.reuse_command.specs.Answer.{TellsNoFault, IsOfPlan}
+use Rattle.reuse_command.specs.Answer.{DidNotFail, IsOfPlan}
 use Rattle.reuse_command.specs.Command.{name_of}
 use Rattle.reuse_change.specs.Entry.{paths_of, IsEntry, LeadsAll}
 use Rattle.reuse_journal.specs.Journal.{Journal, State}
@@ -12,7 +12,7 @@ use Rattle.reuse_session.specs.session.Machine.{Snapshots, Step, ran_by}
 use Rattle.reuse_journal.specs.Labels.{is_full}
 use Rattle.reuse_plan.specs.Outcome.{outcome_of}
 use Rattle.reuse_plan.specs.Plan.{IsRefusalOf}
-use Rattle.reuse_session.specs.session.Session.{HoldsSnapshots, StandsOn, StandsAt, Follows, IsRun, Runs}
+use Rattle.reuse_session.specs.session.Session.{Simulates, SimulatesState, SimulatesInSession, Follows, IsRun, Runs}
 use Rattle.reuse_command.specs.declared.command.Command.{Command}
 use Rattle.reuse_change.specs.declared.direction.Direction.TheVariants as direction
 use Rattle.reuse_command.specs.declared.reply.Response.{Response}
@@ -30,58 +30,91 @@ stays_by_none files = record { each = All-nil _; others = λ path e. refl }
 
 -- ---- what a run answers
 
--- a refusal of the plan that tells no fault
-pub runs_refused : (command : Command) (when : ℕ) (held : State) (refusal : Refusal) → is_full (length held.journal.done) held.journal.used ≡ false → IsOfPlan refusal
-    → TellsNoFault {A = Response} (Err refusal) → IsRefusalOf (outcome_of command held.tree) refusal → Runs command when held (Err refusal) held
-runs_refused command when held JournalFull room planned told due = absurd planned
-runs_refused command when held (Failed failure) room planned told due = absurd told
-runs_refused command when held refusal room planned told due = (room, due, refl)
+-- a refusal of the plan that reports no fault
+pub runs_refused : (command : Command) (when : ℕ) (held : State) (refusal : Refusal)
+    → is_full (length held.journal.done) held.journal.used ≡ false → IsOfPlan refusal
+    → DidNotFail {A = Response} (Err refusal) → IsRefusalOf (outcome_of command held.tree) refusal
+    → Runs command when held (Err refusal) held
+runs_refused command when held JournalFull room planned reported expected = absurd planned
+runs_refused command when held (Failed failure) room planned reported expected = absurd reported
+runs_refused command when held refusal room planned reported expected = (room, expected, refl)
 
 -- a plan without changes
-pub runs_nothing : (command : Command) (when : ℕ) (held : State) (changes : List Change) (after : Files) → is_full (length held.journal.done) held.journal.used ≡ false
-    → outcome_of command held.tree ≡ Ok after → length changes ≡ 0 → LeadsAll changes held.tree after → Runs command when held (Ok NothingChanged) held
+pub runs_nothing : (command : Command) (when : ℕ) (held : State) (changes : List Change) (after : Files)
+    → is_full (length held.journal.done) held.journal.used ≡ false
+    → outcome_of command held.tree ≡ Ok after → length changes ≡ 0 → LeadsAll changes held.tree after
+    → Runs command when held (Ok NothingChanged) held
 runs_nothing command when held changes after room outcome none leads =
-    let same : after ≡ held.tree = leads_once direction.Forward [] held.tree after held.tree (subst (λ cs. LeadsAll cs held.tree after) (nil_from_length changes none) leads) (stays_by_none held.tree) in
+    let same : after ≡ held.tree = leads_once direction.Forward [] held.tree after held.tree
+    (subst (λ cs. LeadsAll cs held.tree after) (nil_from_length changes none) leads) (stays_by_none held.tree) in
     (room, outcome ∙ ap (λ t. Ok t) same, refl)
 
 -- a step
-pub runs_step : (command : Command) (when : ℕ) (held second : State) (changes : List Change) → IsEntry changes → LeadsAll changes held.tree second.tree → IsRun command when held second
+pub runs_step : (command : Command) (when : ℕ) (held second : State) (changes : List Change) → IsEntry changes
+    → LeadsAll changes held.tree second.tree → IsRun command when held second
     → Runs command when held (Ok (Changed (paths_of changes))) second
-runs_step command when held second changes entry leads run = (sym (changed_by_entry changes held.tree second.tree entry leads), run)
+runs_step command when held second changes entry leads run =
+    (sym (changed_by_entry changes held.tree second.tree entry leads), run)
 
--- ---- that it follows the machine
+-- ---- that it follows the model
 
-module _ (held : State) (state : Snapshots) (holds : HoldsSnapshots held state) (command : Command) (when : ℕ) where
+module _ (held : State) (state : Snapshots) (holds : Simulates held state) (command : Command) (when : ℕ) where
   -- a step of a run does
   pub step_follows : (second : State) (run : IsRun command when held second) → AreFiles held.tree
-      → (Ok (Changed (paths_of run.step.changes)) ≡ (ran_by state command when).0) × HoldsSnapshots second (ran_by state command when).1
+      → (Ok (Changed (paths_of run.step.changes)) ≡ (ran_by state command when).0)
+      × Simulates second (ran_by state command when).1
   step_follows second run are =
-      let labelled : ◌≡◌ {A = Journal} (record { done = run.step ∷ held.journal.done; undone = []; used = held.journal.used + 1 })
-      (record { done = record { label = record { number = held.journal.used + 1; when = when; command = name_of command }; changes = run.step.changes } ∷ held.journal.done; undone = []; used = held.journal.used + 1 }) =
-      λ i. record { done = record { label = run.label i; changes = run.step.changes } ∷ held.journal.done; undone = []; used = held.journal.used + 1 } in
-      run_follows held state holds command when run.step.changes second.tree run.room run.outcome run.entry run.is_step.leads are run.are_files second refl
-      (run.is_step.mutations.1 ∙ labelled)
+      let labelled : ◌≡◌ {A = Journal}
+      (record { done = run.step ∷ held.journal.done; undone = []; used = held.journal.used + 1 })
+      (record {
+        done = record {
+          label = record { number = held.journal.used + 1; when = when; command = name_of command };
+          changes = run.step.changes;
+        } ∷ held.journal.done;
+        undone = [];
+        used = held.journal.used + 1;
+      }) =
+      λ i. record {
+        done = record { label = run.label i; changes = run.step.changes } ∷ held.journal.done;
+        undone = [];
+        used = held.journal.used + 1;
+      } in
+      run_follows held state holds command when run.step.changes second.tree run.room run.outcome run.entry
+      run.is_step.leads are run.are_files second refl
+      (run.is_step.transition.1 ∙ labelled)
 
-  stays_put : (result : Result Response Refusal) (left : State) → left ≡ held → ran_by state command when ≡ (result, state)
-      → (result ≡ (ran_by state command when).0) × HoldsSnapshots left (ran_by state command when).1
-  stays_put result left same is = subst (λ (step : Step). (result ≡ step.0) × HoldsSnapshots left step.1) (sym is) (refl, subst (λ h. HoldsSnapshots h state) (sym same) holds)
+  stays_put : (result : Result Response Refusal) (left : State) → left ≡ held
+      → ran_by state command when ≡ (result, state)
+      → (result ≡ (ran_by state command when).0) × Simulates left (ran_by state command when).1
+  stays_put result left same is = subst (λ (step : Step). (result ≡ step.0) × Simulates left step.1) (sym is)
+      (refl, subst (λ h. Simulates h state) (sym same) holds)
 
   -- a run does
-  pub runs_as_machine : (result : Result Response Refusal) (left : State) → AreFiles held.tree → Runs command when held result left
-      → (result ≡ (ran_by state command when).0) × HoldsSnapshots left (ran_by state command when).1
+  pub runs_as_machine : (result : Result Response Refusal) (left : State) → AreFiles held.tree
+      → Runs command when held result left
+      → (result ≡ (ran_by state command when).0) × Simulates left (ran_by state command when).1
   runs_as_machine (Ok (Changed paths)) left are runs =
       let run = runs.1 in
-      let follows = step_follows left run are in
-      (ap (λ ps. Ok (Changed ps)) (runs.0 ∙ changed_by_entry run.step.changes held.tree left.tree run.entry run.is_step.leads) ∙ follows.0, follows.1)
+      let follows = step_follows left run are in (
+        ap (λ ps. Ok (Changed ps))
+            (runs.0 ∙ changed_by_entry run.step.changes held.tree left.tree run.entry run.is_step.leads) ∙ follows.0,
+        follows.1,
+      )
   runs_as_machine (Ok NothingChanged) left are runs =
-      stays_put (Ok NothingChanged) left runs.2 (run_nothing held state holds command when [] held.tree runs.0 runs.1 refl (stays_by_none held.tree))
-  runs_as_machine (Err JournalFull) left are runs = stays_put (Err JournalFull) left runs.1 (journal_full held state holds command when runs.0)
-  runs_as_machine (Err refusal) left are runs = stays_put (Err refusal) left runs.2 (run_refused held state holds command when refusal runs.0 runs.1)
+      stays_put (Ok NothingChanged) left runs.2
+      (run_nothing held state holds command when [] held.tree runs.0 runs.1 refl (stays_by_none held.tree))
+  runs_as_machine (Err JournalFull) left are runs =
+      stays_put (Err JournalFull) left runs.1 (journal_full held state holds command when runs.0)
+  runs_as_machine (Err refusal) left are runs =
+      stays_put (Err refusal) left runs.2 (run_refused held state holds command when refusal runs.0 runs.1)
   runs_as_machine (Ok reply) left are runs = absurd runs
 
--- a session that goes on from a standing of the machine's as the command says goes on as the machine
-pub follows_exact : {S : Type 0} (files : S → Files) (new : Session S) {old : Session S} (state : Snapshots) (stands_at : StandsAt files old state) (command : Command) (when : ℕ) (result : Result Response Refusal)
-    → (left : State) × StandsOn files new left × Runs command when stands_at.held result left → Follows files result new (ran_by state command when)
+-- a session that goes on from a committed state of the model's as the command says goes on as the model
+pub follows_exact : {S : Type 0} (files : S → Files) (new : Session S) {old : Session S} (state : Snapshots)
+    (stands_at : SimulatesInSession files old state) (command : Command) (when : ℕ) (result : Result Response Refusal)
+    → (left : State) × SimulatesState files new left × Runs command when stands_at.held result left
+    → Follows files result new (ran_by state command when)
 follows_exact files new state stands_at command when result exact =
-    let follows = runs_as_machine stands_at.held state stands_at.holds command when result exact.0 stands_at.stands.standing.good.are_files exact.2 in
+    let follows = runs_as_machine stands_at.held state stands_at.holds command when result exact.0
+    stands_at.stands.committed.good.are_files exact.2 in
     (follows.0, record { held = exact.0; stands = exact.1; holds = follows.1 })

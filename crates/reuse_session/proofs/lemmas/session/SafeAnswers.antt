@@ -1,25 +1,27 @@
 -- What a session that stands at a state of the model answers and leaves, from how it answers a request.
-use Rattle.std.proofs.Common.{◌≡◌, ⊎_elim, inl, ℕ, ◌||◌, ◌&&◌, Bool, true, false, not, List, [], ◌∷◌, Some, Result, Ok, Err, IfErr, refl, sym, ap, subst, ◌∙◌}
+use Rattle.std.proofs.Common.{◌≡◌, ⊎_elim, inl, ℕ, ◌||◌, ◌&&◌, Bool, true, false, not, List, [], ◌∷◌, Some, Result, Ok}
+use Rattle.std.proofs.Common.{Err, IfErr, refl, sym, ap, subst, ◌∙◌}
 use Rattle.reuse_store.specs.Asked.{IsSynced}
 use Rattle.reuse_change.specs.Files.{Files}
 use Rattle.reuse_store.specs.declared.cause.Cause.{Cause}
 use Rattle.reuse_store.specs.declared.store.Store.{Ghosts}
 use Rattle.reuse_change.specs.declared.direction.Direction.{Direction}
 use Rattle.reuse_change.specs.declared.direction.Direction.TheVariants as direction
-use Rattle.reuse_command.specs.Answer.{IsEarly, IsNoStep, IsStop, TellsNoFault}
+use Rattle.reuse_command.specs.Answer.{IsEarly, IsNoStep, IsStop, DidNotFail}
 use Rattle.reuse_session.specs.session.Calls.{files_of}
-use Rattle.reuse_session.specs.session.Driven.{StandsSafely, GoesSafely}
+use Rattle.reuse_session.specs.session.SessionSlot.{SimulatesSafely, GoesSafely}
 use Rattle.reuse_journal.specs.Journal.{Recorded, State, Replays}
-use Rattle.reuse_journal.specs.Losses.{AreSafeOn, AreInDoubt, Survives, Earlier}
+use Rattle.reuse_journal.specs.Losses.{AllRecoverToTree, AreBetweenStates, Survives, Earlier}
 use Rattle.reuse_session.specs.session.Machine.{Snapshots}
 use Rattle.reuse_session.specs.session.Model.{Gives}
 use Rattle.reuse_session.specs.session.Forgetting.{asked_numbers, Forgets, SurvivesForgetting}
-use Rattle.reuse_session.specs.session.Requests.{MayFail, IfFailed, Makes, LeadsTo, IsAfterCall, IsAfter, IsStopped, SurvivesRequest, as_answer, as_step, IsAnswered}
+use Rattle.reuse_session.specs.session.Requests.{MayFail, IfFailed, Makes, LeadsTo, IsAfterCall, IsAfter, IsStopped}
+use Rattle.reuse_session.specs.session.Requests.{SurvivesRequest, as_answer, as_step, IsAnswered}
 use Rattle.reuse_session.specs.session.RevertCalls.{Reverts, TakesBack, as_run}
-use Rattle.reuse_session.specs.session.Session.{store_of, Runs, StandsOn, StandsAt}
+use Rattle.reuse_session.specs.session.Session.{store_of, Runs, SimulatesState, SimulatesInSession}
 use Rattle.reuse_session.specs.session.Showing.{IsUnused}
-use Rattle.reuse_journal.specs.Standing.{IsStanding}
-use Rattle.reuse_session.specs.session.Stops.{AreLeft, forgets, is_lasting}
+use Rattle.reuse_journal.specs.CommittedState.{IsCommittedState}
+use Rattle.reuse_session.specs.session.Stops.{FilesAt, forgets, is_durable}
 use Rattle.reuse_command.specs.declared.command.Command.{Command}
 use Rattle.reuse_command.specs.declared.failure.Failure.TheVariants.{Fault, Memory, Interrupted}
 use Rattle.reuse_command.specs.declared.reply.Refusal.{Refusal}
@@ -44,50 +46,65 @@ use Rattle.reuse_session.proofs.lemmas.journal.StepDoubt.{synced_is_safe}
 
 -- ---- where no step is made, the state stays
 
-runs_stay : (command : Command) (when : ℕ) (held left : State) (answer : Result Response Refusal) → Runs command when held answer left → IsNoStep answer → left ≡ held
+runs_stay : (command : Command) (when : ℕ) (held left : State) (answer : Result Response Refusal)
+    → Runs command when held answer left → IsNoStep answer → left ≡ held
 runs_stay command when held left (Ok (responses.Changed paths)) runs none = absurd none
 runs_stay command when held left (Ok responses.NothingChanged) runs none = runs.2
 runs_stay command when held left (Ok reply) runs none = absurd runs
 runs_stay command when held left (Err JournalFull) runs none = runs.1
 runs_stay command when held left (Err refusal) runs none = runs.2
 
-replays_stay : (go : Direction) (steps : List Recorded) (held left : State) (answer : Result Response Refusal) → Replays go steps held answer left → IsNoStep (as_step answer) → left ≡ held
+replays_stay : (go : Direction) (steps : List Recorded) (held left : State) (answer : Result Response Refusal)
+    → Replays go steps held answer left → IsNoStep (as_step answer) → left ≡ held
 replays_stay go [] held left answer replays none = replays.1
-replays_stay direction.Backward (step ∷ steps) held left (Ok reply) replays none = absurd (subst (λ r. IsNoStep (as_step (Ok r))) replays.0 none)
-replays_stay direction.Forward (step ∷ steps) held left (Ok reply) replays none = absurd (subst (λ r. IsNoStep (as_step (Ok r))) replays.0 none)
+replays_stay direction.Backward (step ∷ steps) held left (Ok reply) replays none =
+    absurd (subst (λ r. IsNoStep (as_step (Ok r))) replays.0 none)
+replays_stay direction.Forward (step ∷ steps) held left (Ok reply) replays none =
+    absurd (subst (λ r. IsNoStep (as_step (Ok r))) replays.0 none)
 replays_stay go (step ∷ steps) held left (Err refusal) replays none = replays.1
 
-reverts_stay : (number : ℕ) (skip_moved : Bool) (when : ℕ) (held left : State) (answer : Result Reverted Refusal) → Reverts number skip_moved when held answer left → IsNoStep (as_run answer) → left ≡ held
+reverts_stay : (number : ℕ) (skip_moved : Bool) (when : ℕ) (held left : State) (answer : Result Reverted Refusal)
+    → Reverts number skip_moved when held answer left → IsNoStep (as_run answer) → left ≡ held
 reverts_stay number skip_moved when held left answer reverts none =
-    ⊎_elim (λ (absent : (answer ≡ Err (NoSuchStep number)) × IsUnused number held.journal.done × (left ≡ held)). absent.2)
-    (λ (back : TakesBack number skip_moved when held answer left). runs_stay _ when held left (as_run answer) back.runs none) (reverts_one number skip_moved when held answer left reverts)
+    ⊎_elim
+    (λ (absent : (answer ≡ Err (NoSuchStep number)) × IsUnused number held.journal.done × (left ≡ held)). absent.2)
+    (λ (back : TakesBack number skip_moved when held answer left). runs_stay _ when held left
+    (as_run answer) back.runs none) (reverts_one number skip_moved when held answer left reverts)
 
 -- a run's answer is a step as it is
-runs_as_step : (command : Command) (when : ℕ) (held left : State) (answer : Result Response Refusal) → Runs command when held answer left → as_step answer ≡ answer
+runs_as_step : (command : Command) (when : ℕ) (held left : State) (answer : Result Response Refusal)
+    → Runs command when held answer left → as_step answer ≡ answer
 runs_as_step command when held left (Ok (responses.Reverted reverted)) runs = absurd runs
 runs_as_step command when held left (Ok reply) runs = refl
 runs_as_step command when held left (Err refusal) runs = refl
 
-makes_stay : (call : Call) (when : ℕ) (held left : State) (answer : Result Response Refusal) → Makes call when held answer left → IsNoStep (as_step answer) → left ≡ held
-makes_stay (calls.Run command) when held left answer makes none = runs_stay command when held left answer makes (subst IsNoStep (runs_as_step command when held left answer makes) none)
-makes_stay calls.Undo when held left answer makes none = replays_stay direction.Backward held.journal.done held left answer makes none
-makes_stay calls.Redo when held left answer makes none = replays_stay direction.Forward held.journal.undone held left answer makes none
+makes_stay : (call : Call) (when : ℕ) (held left : State) (answer : Result Response Refusal)
+    → Makes call when held answer left → IsNoStep (as_step answer) → left ≡ held
+makes_stay (calls.Run command) when held left answer makes none = runs_stay command when held left answer makes
+    (subst IsNoStep (runs_as_step command when held left answer makes) none)
+makes_stay calls.Undo when held left answer makes none =
+    replays_stay direction.Backward held.journal.done held left answer makes none
+makes_stay calls.Redo when held left answer makes none =
+    replays_stay direction.Forward held.journal.undone held left answer makes none
 makes_stay (calls.Revert number skip_moved) when held left answer makes none =
-    reverts_stay number skip_moved when held left makes.0 makes.2 (subst IsNoStep (ap as_step makes.1 ∙ revert_is_step makes.0) none)
+    reverts_stay number skip_moved when held left makes.0 makes.2
+    (subst IsNoStep (ap as_step makes.1 ∙ revert_is_step makes.0) none)
 
--- ---- answers by which nothing is made lasting
+-- ---- answers by which nothing is made durable
 
-preview_quiet : (answer : Result (List PathOutcome) Refusal) → is_lasting (as_step (as_answer responses.Preview answer)) ≡ false
+preview_quiet : (answer : Result (List PathOutcome) Refusal)
+    → is_durable (as_step (as_answer responses.Preview answer)) ≡ false
 preview_quiet (Ok path_outcomes) = refl
 preview_quiet (Err refusal) = refl
 
-shown_quiet : (answer : Result Shown Refusal) → is_lasting (as_step (as_answer responses.Shown answer)) ≡ false
+shown_quiet : (answer : Result Shown Refusal) → is_durable (as_step (as_answer responses.Shown answer)) ≡ false
 shown_quiet (Ok shown) = refl
 shown_quiet (Err refusal) = refl
 
 -- ---- forgetting
 
-forgotten_as_step : (answer : Result (List ℕ) Refusal) → as_step (as_answer responses.Forgotten answer) ≡ as_answer responses.Forgotten answer
+forgotten_as_step : (answer : Result (List ℕ) Refusal)
+    → as_step (as_answer responses.Forgotten answer) ≡ as_answer responses.Forgotten answer
 forgotten_as_step (Ok forgotten) = refl
 forgotten_as_step (Err refusal) = refl
 
@@ -106,7 +123,8 @@ one_refusal one other e = cc
 none_refused : (forgotten : List ℕ) (refusal : Refusal) → response forgotten ≡ refused refusal → ⊥
 none_refused forgotten refusal e = cc
 
-one_result : (one other : Result (List ℕ) Refusal) → as_answer responses.Forgotten one ≡ as_answer responses.Forgotten other → one ≡ other
+one_result : (one other : Result (List ℕ) Refusal)
+    → as_answer responses.Forgotten one ≡ as_answer responses.Forgotten other → one ≡ other
 one_result (Ok one) (Ok other) e = ap (λ x. Ok x) (one_list one other e)
 one_result (Err one) (Err other) e = ap (λ x. Err x) (one_refusal one other e)
 one_result (Ok one) (Err other) e = absurd (none_refused one other e)
@@ -115,91 +133,131 @@ one_result (Err one) (Ok other) e = absurd (none_refused other one (sym e))
 -- ---- what may be left is safe on the next state
 
 module _ {S : Type 0} (store : Ghosts S) (earlier : Earlier) (held left : State) (new : S) where
-  -- all that may be left is safe on the next state, and where nothing was made lasting as it was before
+  -- all that may be left is safe on the next state, and where nothing was made durable as it was before
   abbrev IsSafeAfter : Result Response Refusal → Type 0
-  IsSafeAfter step = (first : State) × AreSafeOn store (record { state = first; forgetting = not (is_lasting step) && earlier.forgetting }) left new
+  IsSafeAfter step = (first : State) × AllRecoverToTree store
+      (record { state = first; forgetting = not (is_durable step) && earlier.forgetting }) left new
 
-  as_before : left ≡ held → AreSafeOn store earlier held new → (first : State) × AreSafeOn store (record { state = first; forgetting = earlier.forgetting }) left new
-  as_before same safe = (earlier.state, subst (λ s. AreSafeOn store earlier s new) (sym same) safe)
+  as_before : left ≡ held → AllRecoverToTree store earlier held new
+      → (first : State) × AllRecoverToTree store (record { state = first; forgetting = earlier.forgetting }) left new
+  as_before same safe = (earlier.state, subst (λ s. AllRecoverToTree store earlier s new) (sym same) safe)
 
-  as_quiet : (step : Result Response Refusal) → is_lasting step ≡ false → left ≡ held → AreSafeOn store earlier held new → IsSafeAfter step
+  as_quiet : (step : Result Response Refusal) → is_durable step ≡ false → left ≡ held
+      → AllRecoverToTree store earlier held new → IsSafeAfter step
   as_quiet step quiet same safe =
-      subst (λ b. (first : State) × AreSafeOn store (record { state = first; forgetting = not b && earlier.forgetting }) left new) (sym quiet) (as_before same safe)
+      subst (λ b. (first : State) × AllRecoverToTree store
+      (record { state = first; forgetting = not b && earlier.forgetting }) left new) (sym quiet) (as_before same safe)
 
-  as_synced : (step : Result Response Refusal) → IsStanding (store.files new) left → IsSynced store new → IsSafeAfter step
-  as_synced step standing synced = (left, synced_is_safe store (record { state = left; forgetting = not (is_lasting step) && earlier.forgetting }) left new standing synced)
-
-  safe_after_step : (IsNext : State → Type 0) (step : Result Response Refusal) → (IsNoStep step → left ≡ held) → TellsNoFault step → IsStanding (store.files new) left → Survives store IsNext earlier held step new
+  as_synced : (step : Result Response Refusal) → IsCommittedState (store.files new) left → IsSynced store new
       → IsSafeAfter step
-  safe_after_step IsNext (Ok responses.NothingChanged) stays told standing survives = as_before (stays tt) survives
-  safe_after_step IsNext (Ok reply) stays told standing survives = as_synced (Ok reply) standing survives
-  safe_after_step IsNext (Err (Failed failure)) stays told standing survives = absurd told
-  safe_after_step IsNext (Err refusal) stays told standing survives = as_before (stays told) survives
+  as_synced step committed synced = (
+    left,
+    synced_is_safe store
+        (record { state = left; forgetting = not (is_durable step) && earlier.forgetting }) left new committed synced,
+  )
+
+  safe_after_step : (IsNext : State → Type 0) (step : Result Response Refusal) → (IsNoStep step → left ≡ held)
+      → DidNotFail step → IsCommittedState (store.files new) left → Survives store IsNext earlier held step new
+      → IsSafeAfter step
+  safe_after_step IsNext (Ok responses.NothingChanged) stays reported committed survives = as_before (stays tt) survives
+  safe_after_step IsNext (Ok reply) stays reported committed survives = as_synced (Ok reply) committed survives
+  safe_after_step IsNext (Err (Failed failure)) stays reported committed survives = absurd reported
+  safe_after_step IsNext (Err refusal) stays reported committed survives = as_before (stays reported) survives
 
   -- forgetting leaves nothing else than the next state, or where there is no number what was there
-  safe_after_forgetting : (numbers : List ℕ) (forgotten : Result (List ℕ) Refusal) → Forgets numbers held forgotten left → TellsNoFault (as_answer responses.Forgotten forgotten) → SurvivesForgetting store numbers earlier held forgotten new
+  safe_after_forgetting : (numbers : List ℕ) (forgotten : Result (List ℕ) Refusal) → Forgets numbers held forgotten left
+      → DidNotFail (as_answer responses.Forgotten forgotten)
+      → SurvivesForgetting store numbers earlier held forgotten new
       → IsSafeAfter (as_answer responses.Forgotten forgotten)
-  safe_after_forgetting numbers (Ok []) forgets told survives = as_before (forgets.2 ∙ ap (λ ns. state_besides ns held) (none_in_order numbers forgets.1) ∙ same_besides held) survives
-  safe_after_forgetting numbers (Ok (number ∷ more)) forgets told survives =
+  safe_after_forgetting numbers (Ok []) forgets reported survives = as_before
+      (forgets.2 ∙ ap (λ ns. state_besides ns held) (none_in_order numbers forgets.1) ∙ same_besides held) survives
+  safe_after_forgetting numbers (Ok (number ∷ more)) forgets reported survives =
       (left, λ file is. inl (record { tree = (stands file is).tree; opens = inl (stands file is) }))
     where
-      stands : (file : Files) → store.may_be new file → IsStanding file left
-      stands file is = subst (IsStanding file) (sym forgets.2) (survives file is)
-  safe_after_forgetting numbers (Err (NoSuchStep number)) forgets told survives = as_before forgets.1 survives
-  safe_after_forgetting numbers (Err (Failed failure)) forgets told survives = absurd told
-  safe_after_forgetting numbers (Err refusal) forgets told survives = absurd forgets
+      stands : (file : Files) → store.crash_states new file → IsCommittedState file left
+      stands file is = subst (IsCommittedState file) (sym forgets.2) (survives file is)
+  safe_after_forgetting numbers (Err (NoSuchStep number)) forgets reported survives = as_before forgets.1 survives
+  safe_after_forgetting numbers (Err (Failed failure)) forgets reported survives = absurd reported
+  safe_after_forgetting numbers (Err refusal) forgets reported survives = absurd forgets
 
-  told_as_step : (answer : Result Response Refusal) → TellsNoFault answer → TellsNoFault (as_step answer)
-  told_as_step (Ok (responses.Reverted reverted)) told = tt
-  told_as_step (Ok reply) told = tt
-  told_as_step (Err (Failed failure)) told = absurd told
-  told_as_step (Err refusal) told = told
+  reported_as_step : (answer : Result Response Refusal) → DidNotFail answer → DidNotFail (as_step answer)
+  reported_as_step (Ok (responses.Reverted reverted)) reported = tt
+  reported_as_step (Ok reply) reported = tt
+  reported_as_step (Err (Failed failure)) reported = absurd reported
+  reported_as_step (Err refusal) reported = reported
 
-  safe_after : (request : Request) (answer : Result Response Refusal) → LeadsTo request held answer left → TellsNoFault answer → IsStanding (store.files new) left → SurvivesRequest store request earlier held answer new
+  safe_after : (request : Request) (answer : Result Response Refusal) → LeadsTo request held answer left
+      → DidNotFail answer → IsCommittedState (store.files new) left
+      → SurvivesRequest store request earlier held answer new
       → IsSafeAfter (as_step answer)
-  safe_after (requests.Make call when) answer leads told standing survives =
-      safe_after_step (IsAfterCall call when held) (as_step answer) (makes_stay call when held left answer leads) (told_as_step answer told) standing survives
-  safe_after (requests.Forget steps) answer leads told standing survives =
+  safe_after (requests.Make call when) answer leads reported committed survives =
+      safe_after_step (IsAfterCall call when held) (as_step answer) (makes_stay call when held left answer leads)
+      (reported_as_step answer reported) committed survives
+  safe_after (requests.Forget steps) answer leads reported committed survives =
       subst IsSafeAfter (sym (ap as_step leads.1 ∙ forgotten_as_step leads.0))
-      (safe_after_forgetting (asked_numbers steps held.journal) leads.0 leads.2 (subst TellsNoFault leads.1 told)
-      (subst (λ f. SurvivesForgetting store (asked_numbers steps held.journal) earlier held f new) (one_result survives.0 leads.0 (sym survives.1 ∙ leads.1)) survives.2))
-  safe_after (requests.Preview call) answer leads told standing survives = as_quiet (as_step answer) (ap (λ a. is_lasting (as_step a)) leads.1 ∙ preview_quiet leads.0) leads.3 survives
-  safe_after (requests.Recover skip_moved) answer leads told standing survives = as_quiet (as_step answer) (ap (λ a. is_lasting (as_step a)) leads.0) leads.1 survives
-  safe_after requests.Log answer leads told standing survives = as_quiet (as_step answer) (ap (λ a. is_lasting (as_step a)) leads.0) leads.1 survives
-  safe_after (requests.Show number) answer leads told standing survives = as_quiet (as_step answer) (ap (λ a. is_lasting (as_step a)) leads.1 ∙ shown_quiet leads.0) leads.3 survives
+      (safe_after_forgetting (asked_numbers steps held.journal) leads.0 leads.2 (subst DidNotFail leads.1 reported)
+      (subst (λ f. SurvivesForgetting store (asked_numbers steps held.journal) earlier held f new)
+      (one_result survives.0 leads.0 (sym survives.1 ∙ leads.1)) survives.2))
+  safe_after (requests.Preview call) answer leads reported committed survives =
+      as_quiet (as_step answer) (ap (λ a. is_durable (as_step a)) leads.1 ∙ preview_quiet leads.0) leads.3 survives
+  safe_after (requests.Recover skip_moved) answer leads reported committed survives =
+      as_quiet (as_step answer) (ap (λ a. is_durable (as_step a)) leads.0) leads.1 survives
+  safe_after requests.Log answer leads reported committed survives =
+      as_quiet (as_step answer) (ap (λ a. is_durable (as_step a)) leads.0) leads.1 survives
+  safe_after (requests.Show number) answer leads reported committed survives =
+      as_quiet (as_step answer) (ap (λ a. is_durable (as_step a)) leads.1 ∙ shown_quiet leads.0) leads.3 survives
 
 -- one that failed left what was safe, or files in doubt
 module _ {S : Type 0} (store : Ghosts S) (earlier : Earlier) (held : State) (new : S) where
-  forget_failed : (numbers : List ℕ) (forgotten : Result (List ℕ) Refusal) (refusal : Refusal) → IsEarly refusal → refused refusal ≡ as_answer responses.Forgotten forgotten → SurvivesForgetting store numbers earlier held forgotten new
-      → AreSafeOn store earlier held new
+  forget_failed : (numbers : List ℕ) (forgotten : Result (List ℕ) Refusal) (refusal : Refusal) → IsEarly refusal
+      → refused refusal ≡ as_answer responses.Forgotten forgotten
+      → SurvivesForgetting store numbers earlier held forgotten new
+      → AllRecoverToTree store earlier held new
   forget_failed numbers (Ok forgotten) refusal early is survives = absurd (none_refused forgotten refusal (sym is))
-  forget_failed numbers (Err (Failed (Interrupted cause))) refusal early is survives = absurd (subst IsEarly (one_refusal refusal (Failed (Interrupted cause)) is) early)
+  forget_failed numbers (Err (Failed (Interrupted cause))) refusal early is survives =
+      absurd (subst IsEarly (one_refusal refusal (Failed (Interrupted cause)) is) early)
   forget_failed numbers (Err other) refusal early is survives = survives
 
-  forget_stopped : (numbers : List ℕ) (forgotten : Result (List ℕ) Refusal) (cause : Cause) → refused (Failed (Interrupted cause)) ≡ as_answer responses.Forgotten forgotten → SurvivesForgetting store numbers earlier held forgotten new
-      → AreInDoubt store (record { state = earlier.state; forgetting = true }) held (state_besides numbers held) new
-  forget_stopped numbers forgotten cause is survives = by_result forgotten (sym (one_result (Err (Failed (Interrupted cause))) forgotten is)) survives
+  forget_stopped : (numbers : List ℕ) (forgotten : Result (List ℕ) Refusal) (cause : Cause)
+      → refused (Failed (Interrupted cause)) ≡ as_answer responses.Forgotten forgotten
+      → SurvivesForgetting store numbers earlier held forgotten new
+      → AreBetweenStates store (record { state = earlier.state; forgetting = true }) held
+      (state_besides numbers held) new
+  forget_stopped numbers forgotten cause is survives =
+      by_result forgotten (sym (one_result (Err (Failed (Interrupted cause))) forgotten is)) survives
     where
-      by_result : (forgotten : Result (List ℕ) Refusal) → forgotten ≡ Err (Failed (Interrupted cause)) → SurvivesForgetting store numbers earlier held forgotten new
-          → AreInDoubt store (record { state = earlier.state; forgetting = true }) held (state_besides numbers held) new
-      by_result forgotten same survives = (subst (λ f. SurvivesForgetting store numbers earlier held f new) same survives).1
+      by_result : (forgotten : Result (List ℕ) Refusal) → forgotten ≡ Err (Failed (Interrupted cause))
+          → SurvivesForgetting store numbers earlier held forgotten new
+          → AreBetweenStates store (record { state = earlier.state; forgetting = true }) held
+          (state_besides numbers held) new
+      by_result forgotten same survives =
+          (subst (λ f. SurvivesForgetting store numbers earlier held f new) same survives).1
 
-  failed_safe : (request : Request) (refusal : Refusal) → IsEarly refusal → SurvivesRequest store request earlier held (Err refusal) new → AreSafeOn store earlier held new
+  failed_safe : (request : Request) (refusal : Refusal) → IsEarly refusal
+      → SurvivesRequest store request earlier held (Err refusal) new → AllRecoverToTree store earlier held new
   failed_safe (requests.Make call when) (Failed (Interrupted cause)) early survives = absurd early
   failed_safe (requests.Make call when) refusal early survives = survives
-  failed_safe (requests.Forget steps) refusal early survives = forget_failed (asked_numbers steps held.journal) survives.0 refusal early survives.1 survives.2
+  failed_safe (requests.Forget steps) refusal early survives =
+      forget_failed (asked_numbers steps held.journal) survives.0 refusal early survives.1 survives.2
   failed_safe (requests.Preview call) refusal early survives = survives
   failed_safe (requests.Recover skip_moved) refusal early survives = survives
   failed_safe requests.Log refusal early survives = survives
   failed_safe (requests.Show number) refusal early survives = survives
 
-  stopped_safe : (request : Request) (cause : Cause) → MayFail request (Interrupted cause) → SurvivesRequest store request earlier held (Err (Failed (Interrupted cause))) new → IsStopped request held (store.files new)
-      → (next : State) × IsAfter request held next × AreInDoubt store (record { state = earlier.state; forgetting = forgets request || earlier.forgetting }) held next new
+  stopped_safe : (request : Request) (cause : Cause) → MayFail request (Interrupted cause)
+      → SurvivesRequest store request earlier held (Err (Failed (Interrupted cause))) new
+      → IsStopped request held (store.files new)
+      → (next : State) × IsAfter request held next × AreBetweenStates store
+      (record { state = earlier.state; forgetting = forgets request || earlier.forgetting }) held next new
   stopped_safe (requests.Make call when) cause may survives stopped = survives
   stopped_safe (requests.Forget steps) cause may survives stopped =
       let numbers = asked_numbers steps held.journal in
-      let doubt = forget_stopped numbers survives.0 cause survives.1 survives.2 in
-      (stopped.0, stopped.1, subst (λ s. AreInDoubt store (record { state = earlier.state; forgetting = true }) held s new) (sym stopped.1.1.2) doubt)
+      let doubt = forget_stopped numbers survives.0 cause survives.1 survives.2 in (
+        stopped.0,
+        stopped.1,
+        subst (λ s. AreBetweenStates store (record { state = earlier.state; forgetting = true }) held s new)
+            (sym stopped.1.1.2) doubt,
+      )
   stopped_safe (requests.Preview call) cause may survives stopped = absurd may
   stopped_safe (requests.Recover skip_moved) cause may survives stopped = absurd may
   stopped_safe requests.Log cause may survives stopped = absurd may
@@ -207,47 +265,66 @@ module _ {S : Type 0} (store : Ghosts S) (earlier : Earlier) (held : State) (new
 
 -- ---- from how a request is answered
 
-module _ {S : Type 0} (store : Ghosts S) (request : Request) (answer : Result Response Refusal) (old new : Session S) (is : IsAnswered store request answer old new) (honest : store.honest (store_of new)) where
+module _ {S : Type 0} (store : Ghosts S) (request : Request) (answer : Result Response Refusal) (old new : Session S)
+    (is : IsAnswered store request answer old new) (honest : store.honest (store_of new)) where
   -- of a session that stands at a state
-  module _ (state : Snapshots) (at : StandsAt store.files old state) where
-    pub follows : TellsNoFault answer → (next : Snapshots) × Gives state request answer next × StandsAt store.files new next
-    follows told =
-        let left = is.exact honest at.held at.stands told in
-        let to = gives_to at.held state at.holds (files_of store old) at.stands.standing request answer left.0 left.2 in
+  module _ (state : Snapshots) (at : SimulatesInSession store.files old state) where
+    pub follows : DidNotFail answer
+        → (next : Snapshots) × Gives state request answer next × SimulatesInSession store.files new next
+    follows reported =
+        let left = is.exact honest at.held at.stands reported in
+        let to =
+        gives_to at.held state at.holds (files_of store old) at.stands.committed request answer left.0 left.2 in
         (to.0, to.1, record { held = left.0; stands = left.1; holds = to.2 })
 
-    pub stands : IfErr answer (λ refusal. IsEarly refusal → StandsAt store.files new state)
+    pub stands : IfErr answer (λ refusal. IsEarly refusal → SimulatesInSession store.files new state)
     stands = by_answer answer (is.stands honest at.held at.stands)
       where
-        by_answer : (answer : Result Response Refusal) → IfErr answer (λ refusal. IsEarly refusal → StandsOn store.files new at.held) → IfErr answer (λ refusal. IsEarly refusal → StandsAt store.files new state)
+        by_answer : (answer : Result Response Refusal)
+            → IfErr answer (λ refusal. IsEarly refusal → SimulatesState store.files new at.held)
+            → IfErr answer (λ refusal. IsEarly refusal → SimulatesInSession store.files new state)
         by_answer (Ok reply) kept = tt
         by_answer (Err refusal) kept = λ early. record { held = at.held; stands = kept early; holds = at.holds }
 
-    pub stops : (cause : Cause) → answer ≡ Err (Failed (Interrupted cause)) → (given : Result Response Refusal) × (next : Snapshots) × Gives state request given next × AreLeft (files_of store new) state (Some next)
-    stops cause e = stopped_near at.held state at.holds (files_of store old) at.stands.standing request (files_of store new) (at_stop _ e (is.doubt honest at.held at.stands))
+    pub stops : (cause : Cause) → answer ≡ Err (Failed (Interrupted cause)) → (given : Result Response Refusal)
+        × (next : Snapshots) × Gives state request given next × FilesAt (files_of store new) state (Some next)
+    stops cause e = stopped_near at.held state at.holds (files_of store old) at.stands.committed request
+        (files_of store new) (at_stop _ e (is.doubt honest at.held at.stands))
 
   -- of one that stands safely there
-  module _ (state : Snapshots) (forgetting : Bool) (safely : StandsSafely store old state forgetting) where
+  module _ (state : Snapshots) (forgetting : Bool) (safely : SimulatesSafely store old state forgetting) where
     abbrev held : State
     held = safely.at.held
 
     abbrev earlier : Earlier
     earlier = record { state = safely.earlier; forgetting = forgetting }
 
-    went : TellsNoFault answer → (next : Snapshots) × Gives state request answer next × StandsSafely store new next (not (is_lasting (as_step answer)) && forgetting)
-    went told =
-        let left = is.exact honest held safely.at.stands told in
-        let to = gives_to held state safely.at.holds (files_of store old) safely.at.stands.standing request answer left.0 left.2 in
-        let safe = safe_after store earlier held left.0 (store_of new) request answer left.2 told left.1.standing (is.survives honest earlier held safely.at.stands safely.safe) in
-        (to.0, to.1, record { at = record { held = left.0; stands = left.1; holds = to.2 }; earlier = safe.0; safe = safe.1 })
+    went : DidNotFail answer → (next : Snapshots) × Gives state request answer next
+        × SimulatesSafely store new next (not (is_durable (as_step answer)) && forgetting)
+    went reported =
+        let left = is.exact honest held safely.at.stands reported in
+        let to = gives_to held state safely.at.holds
+        (files_of store old) safely.at.stands.committed request answer left.0 left.2 in
+        let safe = safe_after store earlier held left.0 (store_of new) request answer left.2 reported left.1.committed
+        (is.survives honest earlier held safely.at.stands safely.safe) in (
+          to.0,
+          to.1,
+          record { at = record { held = left.0; stands = left.1; holds = to.2 }; earlier = safe.0; safe = safe.1 },
+        )
 
-    by_answer : (given : Result Response Refusal) → (TellsNoFault given → (next : Snapshots) × Gives state request given next × StandsSafely store new next (not (is_lasting (as_step given)) && forgetting))
-        → IfErr given (λ refusal. IsEarly refusal → StandsOn store.files new held) → IfErr given (λ refusal. IsStop refusal → IsStopped request held (files_of store new)) → IfErr given (IfFailed (MayFail request))
-        → SurvivesRequest store request earlier held given (store_of new) → GoesSafely store request given state forgetting new
+    by_answer : (given : Result Response Refusal)
+        → (DidNotFail given → (next : Snapshots) × Gives state request given next
+        × SimulatesSafely store new next (not (is_durable (as_step given)) && forgetting))
+        → IfErr given (λ refusal. IsEarly refusal → SimulatesState store.files new held)
+        → IfErr given (λ refusal. IsStop refusal → IsStopped request held (files_of store new))
+        → IfErr given (IfFailed (MayFail request))
+        → SurvivesRequest store request earlier held given (store_of new)
+        → GoesSafely store request given state forgetting new
     by_answer (Ok reply) on early doubt fails survives = on tt
     by_answer (Err (Failed (Interrupted cause))) on early doubt fails survives =
         let stopped = stopped_safe store earlier held (store_of new) request cause fails survives (doubt tt) in
-        let after = after_as_model held state safely.at.holds (files_of store old) safely.at.stands.standing request stopped.0 stopped.1 in
+        let after = after_as_model held state safely.at.holds
+        (files_of store old) safely.at.stands.committed request stopped.0 stopped.1 in
         (after.0, after.1, after.2, (safely.earlier, held, stopped.0, safely.at.holds, after.3, stopped.2))
     by_answer (Err (Failed (Fault fault))) on early doubt fails survives = record {
       at = record { held = held; stands = early tt; holds = safely.at.holds };
@@ -262,4 +339,5 @@ module _ {S : Type 0} (store : Ghosts S) (request : Request) (answer : Result Re
     by_answer (Err refusal) on early doubt fails survives = on tt
 
     pub goes_safely : GoesSafely store request answer state forgetting new
-    goes_safely = by_answer answer went (is.stands honest held safely.at.stands) (is.doubt honest held safely.at.stands) is.fails (is.survives honest earlier held safely.at.stands safely.safe)
+    goes_safely = by_answer answer went (is.stands honest held safely.at.stands)
+        (is.doubt honest held safely.at.stands) is.fails (is.survives honest earlier held safely.at.stands safely.safe)

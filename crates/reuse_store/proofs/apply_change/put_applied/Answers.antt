@@ -4,7 +4,7 @@ use Rattle.reuse_change.specs.Change.{path_of}
 use Rattle.reuse_change.specs.Parts.{joined}
 use Rattle.reuse_store.specs.Apply.{held_in}
 use Rattle.reuse_change.specs.Tree.{is_of_tree, Sets}
-use Rattle.reuse_store.proofs.Lasting.{may_set_by_put, may_set_by_removal, set_weaker}
+use Rattle.reuse_store.proofs.Durable.{may_set_by_put, may_set_by_removal, set_weaker}
 use Rattle.reuse_store.proofs.ApplyLemmas.{counts_none, put_sets, removal_sets, put_doubt, removal_doubt, sets_as}
 use Rattle.reuse_store.proofs.apply_change.put_applied.Goals as goal
 

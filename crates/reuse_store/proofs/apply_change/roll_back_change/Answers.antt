@@ -6,7 +6,7 @@ use Rattle.reuse_change.specs.Files.{Clashes}
 use Rattle.reuse_change.specs.declared.direction.Direction.{Direction}
 use Rattle.reuse_store.specs.Asked.{MaySet}
 use Rattle.reuse_change.specs.Entry.{makes, IsReady, LeadsByOneChange, AppliesBy, opposite}
-use Rattle.reuse_store.proofs.Lasting.{set_weaker}
+use Rattle.reuse_store.proofs.Durable.{set_weaker}
 use Rattle.reuse_text.specs.declared.TheConstants.{LONGEST_FILE}
 use Rattle.reuse_store.specs.Apply.{IsChangeRolledBack}
 use Rattle.reuse_store.proofs.ReadingLemmas.{read_first, too_long}

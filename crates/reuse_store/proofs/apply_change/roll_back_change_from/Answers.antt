@@ -7,7 +7,7 @@ use Rattle.reuse_store.proofs.AskedLemmas.{later_none}
 use Rattle.reuse_change.specs.Entry.{AppliesBy, opposite}
 use Rattle.reuse_store.specs.Apply.{held_in}
 use Rattle.reuse_store.proofs.NotedMutations.{notes_last}
-use Rattle.reuse_store.proofs.Lasting.{set_weaker}
+use Rattle.reuse_store.proofs.Durable.{set_weaker}
 use Rattle.reuse_store.proofs.ApplyLemmas.{step_by, makes_where_clash}
 use Rattle.reuse_store.proofs.apply_change.roll_back_change_from.Given.{Over}
 use Rattle.reuse_store.proofs.apply_change.roll_back_change_from.Goals.{After-put_applied}

@@ -11,9 +11,9 @@ use Rattle.reuse_change.specs.Files.{tree_of}
 use Rattle.reuse_store.specs.declared.fault.StoreFault.{StoreFault}
 use Rattle.reuse_store.proofs.AtChange.{walked}
 use Rattle.reuse_store.proofs.Batches.{Reached, Stopped, change_in, never_moved, of_clash, of_device, are_proper}
-use Rattle.reuse_store.proofs.Batches.{are_ready, are_small, batch_due, batch_on, behind, empty_is, left_is}
+use Rattle.reuse_store.proofs.Batches.{are_ready, are_small, batch_expected, batch_on, behind, empty_is, left_is}
 use Rattle.reuse_store.proofs.Batches.{makes_changes, none_behind, reached_none, reached_reads, within}
-use Rattle.reuse_store.proofs.Lasting.{certain_made}
+use Rattle.reuse_store.proofs.Durable.{certain_made}
 use Rattle.reuse_store.proofs.apply_changes.apply_changes.Given.{Over}
 use Rattle.reuse_store.proofs.apply_changes.apply_changes.Goals.{After-write_all, After-sync}
 use Rattle.reuse_store.proofs.apply_changes.apply_changes.Goals as goal
@@ -24,18 +24,20 @@ loop-rest-init g c = (0, refl, omega arith, reached_none g.S.Store c.args.direct
 -- each change that was read can still be made
 pub returns-in_err-writes-clause-cause : goal.returns-in_err-writes-clause-cause
 returns-in_err-writes-clause-cause g c honest good all =
-    let due = batch_due c.args.changes.now c.loop-rest.rest.now c.loop-rest.invariant.0 c.in_ok-batch.batch.items
+    let expected =
+    batch_expected c.args.changes.now c.loop-rest.rest.now c.loop-rest.invariant.0 c.in_ok-batch.batch.items
     c.loop-rest.invariant.1 c.in_ok-batch.ensures.changes in
     let batch = c.in_ok-batch.batch.items in
     let count = c.loop-rest.invariant.0 in
     let reached = c.loop-rest.invariant.3 in
     let p = err_from_is_err_and c.from_residual-in_err-writes.result c.from_residual-in_err-writes.ensures.1 in
     let ready = are_ready g.S.Store c.args.direction c.args.changes.now c.args.store.now count c.loop-rest.store reached
-    c.requires (c.read_batch.ensures.reads.was_honest honest) good batch due (c.in_ok-batch.ensures.readings honest) in
+    c.requires (c.read_batch.ensures.reads.was_honest honest) good batch expected
+    (c.in_ok-batch.ensures.readings honest) in
     let proper = are_proper g.S.Store c.args.direction c.args.changes.now c.args.store.now count c.loop-rest.store
-    reached c.requires good batch due in
+    reached c.requires good batch expected in
     let small = are_small g.S.Store c.args.direction c.args.changes.now c.args.store.now count c.loop-rest.store reached
-    c.requires good batch due in
+    c.requires good batch expected in
     let why = c.in_err-writes.ensures.cause in (
       λ e. c.in_err-writes.ensures.moved
           (subst (All (λ read. IsProper read.change.now)) (sym c.deref.ensures.value) proper)
@@ -61,7 +63,7 @@ written g c =
     (left_is c.args.changes.now c.loop-rest.rest.now count batch c.loop-rest.invariant.1 c.in_ok-batch.ensures.changes)
     (makes_changes store c.args.direction c.args.changes.now c.args.store.now count c.loop-rest.store reached c.requires
     batch c.in_ok-writes.writes.items c.read_batch.ensures.reads.was_honest
-    (batch_due c.args.changes.now c.loop-rest.rest.now count batch c.loop-rest.invariant.1
+    (batch_expected c.args.changes.now c.loop-rest.rest.now count batch c.loop-rest.invariant.1
     c.in_ok-batch.ensures.changes)
     (subst (λ read. AllZip (MakesRead c.args.direction) read c.in_ok-writes.writes.items) c.deref.ensures.value
     c.in_ok-writes.ensures.writes) c.in_ok-batch.ensures.readings)
@@ -153,10 +155,10 @@ all_made g c honest good =
     (subst (λ made. LeadsBy c.args.direction made start (tree_of (g.S.Store.files c.loop-rest.store))) all
     (c.loop-rest.invariant.3.made (c.sync.ensures.reads.was_honest honest) good))
 
-pub returns-clause-lasting : goal.returns-clause-lasting
-returns-clause-lasting g c honest good synced left is =
+pub returns-clause-durable : goal.returns-clause-durable
+returns-clause-durable g c honest good synced left is =
     let got = c.in_ok-sync.ensures.barrier.ok left is in
     certain_made c.args.direction c.args.changes.now (g.S.Store.files c.args.store.now)
     (g.S.Store.files c.sync.new.self) got.0 left
-    (all_made g (goal.at.returns-clause-lasting g c).After-sync honest good)
+    (all_made g (goal.at.returns-clause-durable g c).After-sync honest good)
     (c.loop-rest.invariant.3.left (c.sync.ensures.reads.was_honest honest) good synced got.0 got.1) got.2

@@ -9,4 +9,5 @@ returns-clause-name c =
 
 pub returns-clause-split : goal.returns-clause-split
 returns-clause-split c =
-    split_behind c.args.path.now c.unwrap_or.result.0.now c.unwrap_or.result.1.now c.rsplit_once.result c.rsplit_once.ensures.cases (search rules) (search rules)
+    split_behind c.args.path.now c.unwrap_or.result.0.now c.unwrap_or.result.1.now c.rsplit_once.result
+    c.rsplit_once.ensures.cases (search rules) (search rules)

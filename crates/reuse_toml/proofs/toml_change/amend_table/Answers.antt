@@ -8,7 +8,7 @@ pub returns-in-Err : goal.returns-in-Err
 returns-in-Err c =
     toml-stop (text_amended c.args.amendments.now c.args.file.now)
     (table_amended c.args.amendments.now c.args.file.now (Some (table_view c.args.old.now))) c.in-Err.refusal
-    (λ due. ap (if_ok (text_judged c.args.amendments.now c.args.file.now (table_view c.args.old.now))) due)
+    (λ expected. ap (if_ok (text_judged c.args.amendments.now c.args.file.now (table_view c.args.old.now))) expected)
     c.in-Err.ensures
 
 pub returns-in-Ok : goal.returns-in-Ok

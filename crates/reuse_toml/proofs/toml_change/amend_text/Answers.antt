@@ -13,9 +13,9 @@ returns-in-Err c =
     toml-stop
     (piece_amended c.args.amendments.now c.loop-rest.place c.piece_kind-kind.result c.split_piece.result.0.now)
     (text_amended c.args.amendments.now c.args.file.now) c.in-Err.refusal
-    (λ due. amended-stop c.args.amendments.now c.loop-rest.place c.loop-rest.text c.loop-rest.rest.now
+    (λ expected. amended-stop c.args.amendments.now c.loop-rest.place c.loop-rest.text c.loop-rest.rest.now
     c.split_piece.result.0.now c.split_piece.result.1.now c.piece_kind-kind.result c.in-Err.refusal _ parts
-    c.piece_kind-kind.ensures due c.loop-rest.invariant)
+    c.piece_kind-kind.ensures expected c.loop-rest.invariant)
     c.in-Err.ensures
 
 pub loop-rest-preserved : goal.loop-rest-preserved

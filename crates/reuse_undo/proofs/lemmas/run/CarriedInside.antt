@@ -4,10 +4,10 @@ use Rattle.reuse_store.specs.Asked.{OnlyReads}
 use Rattle.reuse_change.specs.Files.{Files}
 use Rattle.reuse_store.specs.declared.store.Store.{Ghosts}
 use Rattle.reuse_command.specs.Answer.{HasCause}
-use Rattle.reuse_journal.specs.Standing.{IsStanding}
-use Rattle.reuse_session.specs.session.Stops.{HoldState, AreLeft}
+use Rattle.reuse_journal.specs.CommittedState.{IsCommittedState}
+use Rattle.reuse_session.specs.session.Stops.{SimulatesInFiles, FilesAt}
 use Rattle.reuse_command.specs.declared.reply.Refusal.{Refusal}
-use Rattle.reuse_undo.specs.run.CarriedOut.{CarriesOut}
+use Rattle.reuse_undo.specs.run.RunResult.{CarriesOut}
 use Rattle.reuse_session.specs.session.Requests.{HasCallClash}
 use Rattle.reuse_undo.specs.run.RunLine.{RequestLeaves, FollowsModel, ReportsAnswer, IfRefused, IfNoDiff}
 use Rattle.reuse_undo.specs.print.WriterFaults.{IsUndrawn}
@@ -25,10 +25,11 @@ pub record IsSameStore {W S : Type 0} (outer : Ghosts W) (inner : Ghosts S) (who
   pub mutations : outer.mutations whole ≡ inner.mutations inside
   pub gives : inner.honest inside → outer.honest whole
   pub takes : outer.honest whole → inner.honest inside
-  pub gives_left : (left : Files) → inner.may_be inside left → outer.may_be whole left
-  pub takes_left : (left : Files) → outer.may_be whole left → inner.may_be inside left
+  pub gives_left : (left : Files) → inner.crash_states inside left → outer.crash_states whole left
+  pub takes_left : (left : Files) → outer.crash_states whole left → inner.crash_states inside left
 
-reads_inside : {W S : Type 0} (outer : Ghosts W) (inner : Ghosts S) (before after : W) (old new : S) → IsSameStore outer inner before old → IsSameStore outer inner after new
+reads_inside : {W S : Type 0} (outer : Ghosts W) (inner : Ghosts S) (before after : W) (old new : S)
+    → IsSameStore outer inner before old → IsSameStore outer inner after new
     → OnlyReads outer before after → OnlyReads inner old new
 reads_inside outer inner before after old new b a reads =
     record {
@@ -40,7 +41,8 @@ reads_inside outer inner before after old new b a reads =
       mutations = sym a.mutations ∙ reads.mutations ∙ b.mutations;
     }
 
-undrawn_inside : {W S : Type 0} (outer : Ghosts W) (inner : Ghosts S) (before after : W) (old new : S) → IsSameStore outer inner before old → IsSameStore outer inner after new
+undrawn_inside : {W S : Type 0} (outer : Ghosts W) (inner : Ghosts S) (before after : W) (old new : S)
+    → IsSameStore outer inner before old → IsSameStore outer inner after new
     → (refusal : Refusal) → IsUndrawn outer before after refusal → IsUndrawn inner old new refusal
 undrawn_inside outer inner before after old new b a refusal is =
     record {
@@ -49,51 +51,76 @@ undrawn_inside outer inner before after old new b a refusal is =
       kind = λ honest. is.kind (a.gives honest);
     }
 
-no_diff_as : {T : Type 0} (P Q : Refusal → Type 0) (Same : Type 0) (result : Result T Fault) → ((refusal : Refusal) → P refusal → Q refusal) → IfNoDiff result (λ refusal. P refusal × Same)
+no_diff_as : {T : Type 0} (P Q : Refusal → Type 0) (Same : Type 0) (result : Result T Fault)
+    → ((refusal : Refusal) → P refusal → Q refusal) → IfNoDiff result (λ refusal. P refusal × Same)
     → IfNoDiff result (λ refusal. Q refusal × Same)
 no_diff_as P Q Same (Ok value) also is = tt
 no_diff_as P Q Same (Err (faults.NoDiff refusal)) also is = (also refusal is.0, is.1)
 no_diff_as P Q Same (Err fault) also is = tt
 
-rose_inside : {T : Type 0} (result : Result T Fault) (a b c d : ℕ) → a ≡ c → b ≡ d → IfRefused result (HasCause (a < b)) → IfRefused result (HasCause (c < d))
-rose_inside result a b c d old new told = subst (λ n. IfRefused result (HasCause (c < n))) new (subst (λ n. IfRefused result (HasCause (n < b))) old told)
+rose_inside : {T : Type 0} (result : Result T Fault) (a b c d : ℕ) → a ≡ c → b ≡ d → IfRefused result (HasCause (a < b))
+    → IfRefused result (HasCause (c < d))
+rose_inside result a b c d old new reported =
+    subst (λ n. IfRefused result (HasCause (c < n))) new (subst (λ n. IfRefused result (HasCause (n < b))) old reported)
 
-same_inside : {W S O : Type 0} (outer : Ghosts W) (inner : Ghosts S) (contents : O → List ℕ) (has_failed : O → Bool) (request : Request) (options : PrintOptions)
-    (before after : W) (old new : S) (out left : O) (result : Result ℕ Fault) → IsSameStore outer inner before old → IsSameStore outer inner after new
-    → CarriesOut outer contents has_failed request options before after out left result → CarriesOut inner contents has_failed request options old new out left result
+same_inside : {W S O : Type 0} (outer : Ghosts W) (inner : Ghosts S) (contents : O → List ℕ) (has_failed : O → Bool)
+    (request : Request) (options : PrintOptions)
+    (before after : W) (old new : S) (out left : O) (result : Result ℕ Fault) → IsSameStore outer inner before old
+    → IsSameStore outer inner after new
+    → CarriesOut outer contents has_failed request options before after out left result
+    → CarriesOut inner contents has_failed request options old new out left result
 same_inside outer inner contents has_failed request options before after old new out left result b a carried =
     record {
       exact = λ honest.
-          subst (λ f. ReportsAnswer options (λ answer. RequestLeaves f request answer (inner.files new)) (contents out) (contents left) result) b.files
-          (subst (λ f. ReportsAnswer options (λ answer. RequestLeaves (outer.files before) request answer f) (contents out) (contents left) result) a.files
+          subst (λ f. ReportsAnswer options (λ answer. RequestLeaves f request answer (inner.files new)) (contents out)
+          (contents left) result) b.files
+          (subst (λ f. ReportsAnswer options (λ answer. RequestLeaves (outer.files before) request answer f)
+          (contents out) (contents left) result) a.files
           (carried.exact (a.gives honest)));
       machine = λ honest state held.
-          subst (λ f. ReportsAnswer options (λ answer. FollowsModel state request answer f) (contents out) (contents left) result) a.files
-          (carried.machine (a.gives honest) state (subst (λ f. HoldState f state) (sym b.files) held));
+          subst (λ f. ReportsAnswer options (λ answer. FollowsModel state request answer f) (contents out)
+          (contents left) result) a.files
+          (carried.machine (a.gives honest) state (subst (λ f. SimulatesInFiles f state) (sym b.files) held));
       after_stop = λ honest start found.
-          let at = carried.after_stop (a.gives honest) start (subst (λ f. AreLeft f start.state start.next) (sym b.files) found) in
-          (at.0, at.1, subst (λ f. AreLeft f (at.0).state (at.0).next) a.files at.2);
+          let at = carried.after_stop (a.gives honest) start
+          (subst (λ f. FilesAt f start.state start.next) (sym b.files) found) in
+          (at.0, at.1, subst (λ f. FilesAt f (at.0).state (at.0).next) a.files at.2);
       survives = λ honest start found.
-          let at = carried.survives (a.gives honest) start (found_alike inner outer old before b.files b.takes_left start.state start.next start.forgetting found) in
-          (at.0, at.1, found_alike outer inner after new (sym a.files) a.gives_left (at.0).state (at.0).next (at.0).forgetting at.2);
-      drawn = λ honest held standing. carried.drawn (a.gives honest) held (subst (λ f. IsStanding f held) (sym b.files) standing);
-      reads_only = λ honest look held standing.
-          reads_inside outer inner before after old new b a (carried.reads_only (a.gives honest) look held (subst (λ f. IsStanding f held) (sym b.files) standing));
+          let at = carried.survives (a.gives honest) start
+          (found_alike inner outer old before b.files b.takes_left start.state start.next start.forgetting found) in (
+            at.0,
+            at.1,
+            found_alike outer inner after new (sym a.files) a.gives_left (at.0).state (at.0).next
+                (at.0).forgetting at.2,
+          );
+      drawn = λ honest held committed. carried.drawn (a.gives honest) held
+          (subst (λ f. IsCommittedState f held) (sym b.files) committed);
+      reads_only = λ honest look held committed.
+          reads_inside outer inner before after old new b a (carried.reads_only (a.gives honest) look held
+          (subst (λ f. IsCommittedState f held) (sym b.files) committed));
       quiet = carried.quiet;
       failed = carried.failed;
-      fault = rose_inside result (outer.failures before) (outer.failures after) (inner.failures old) (inner.failures new) b.failures a.failures carried.fault;
-      clash = λ honest held standing.
-          subst (λ f. IfRefused result (HasCallClash request held f)) b.files (carried.clash (a.gives honest) held (subst (λ f. IsStanding f held) (sym b.files) standing));
-      undrawn = no_diff_as (IsUndrawn outer before after) (IsUndrawn inner old new) (left ≡ out) result (undrawn_inside outer inner before after old new b a) carried.undrawn;
+      fault = rose_inside result (outer.failures before) (outer.failures after) (inner.failures old)
+          (inner.failures new) b.failures a.failures carried.fault;
+      clash = λ honest held committed.
+          subst (λ f. IfRefused result (HasCallClash request held f)) b.files
+          (carried.clash (a.gives honest) held (subst (λ f. IsCommittedState f held) (sym b.files) committed));
+      undrawn = no_diff_as (IsUndrawn outer before after) (IsUndrawn inner old new) (left ≡ out) result
+          (undrawn_inside outer inner before after old new b a) carried.undrawn;
       failures = omega (arith, carried.failures, b.failures, a.failures);
       was_honest = λ honest. b.takes (carried.was_honest (a.gives honest));
     }
 
 -- where each whole store is as the one inside it
-pub carried_inside : {W S O : Type 0} (outer : Ghosts W) (inner : Ghosts S) (contents : O → List ℕ) (has_failed : O → Bool) (request : Request) (options : PrintOptions)
-    (before after : W) (old new : S) (out left : O) (result : Result ℕ Fault) → CarriesOut outer contents has_failed request options before after out left result
-    → (inside : W → S) → ((whole : W) → IsSameStore outer inner whole (inside whole)) → inside before ≡ old → inside after ≡ new
+pub carried_inside : {W S O : Type 0} (outer : Ghosts W) (inner : Ghosts S) (contents : O → List ℕ)
+    (has_failed : O → Bool) (request : Request) (options : PrintOptions)
+    (before after : W) (old new : S) (out left : O) (result : Result ℕ Fault)
+    → CarriesOut outer contents has_failed request options before after out left result
+    → (inside : W → S) → ((whole : W) → IsSameStore outer inner whole (inside whole)) → inside before ≡ old
+    → inside after ≡ new
     → CarriesOut inner contents has_failed request options old new out left result
-carried_inside outer inner contents has_failed request options before after old new out left result carried inside same was is =
-    same_inside outer inner contents has_failed request options before after old new out left result (subst (IsSameStore outer inner before) was (same before))
+carried_inside outer inner contents has_failed request options before after old new out left result carried
+    inside same was is =
+    same_inside outer inner contents has_failed request options before after old new out left result
+    (subst (IsSameStore outer inner before) was (same before))
     (subst (IsSameStore outer inner after) is (same after)) carried

@@ -15,7 +15,7 @@ ghost use Rattle.reuse_print.specs.declared.fault.Fault.TheVariants as faults;
 
 use super::planned::PlannedChanges;
 use reuse_change::{Change, Direction, PathText};
-use reuse_diff::{Turn, bytes_of, print_diff};
+use reuse_diff::{DiffInput, bytes_of, print_diff};
 use reuse_print::fault::{Fault, in_memory};
 use reuse_session::Refusal;
 use reuse_store::{Reading, Store};
@@ -68,11 +68,12 @@ fn draw_one<S: Store>(
     ensures drawn { S.honest store.new → (before : Files) → (after : Files) → tree_of (S.files store.old) ≡ before
         → IsSmall change.now
         → AppliesBy direction change.now (get before (path_of change.now)) (get after (path_of change.now))
-        → OnOk result (AppendsSome (Some text.old.items) (Some text.new.items) (IsPathDiff before after (path_of change.now))) }
+        → OnOk result
+        (AppendsSome (Some text.old.items) (Some text.new.items) (IsPathDiff before after (path_of change.now))) }
     ensures reads { OnlyReads S.Store store.old store.new }
     ensures fault { IfErr result (IsOfDiff S.Store store.old store.new) }
 {
-    let turn = turn_of(change, direction);
+    let turn = diff_input_of(change, direction);
     match change {
         Change::Splice { at, .. } => draw_range(alloc, store, text, turn, *at),
         _ => in_memory(print_diff(text, alloc, turn)),
@@ -80,14 +81,14 @@ fn draw_one<S: Store>(
 }
 
 // What a change records, gone through this way.
-fn turn_of(change: &Change, direction: Direction) -> Turn<'_>
+fn diff_input_of(change: &Change, direction: Direction) -> DiffInput<'_>
     ensures path { result.path.now ≡ path_of change.now }
     ensures before { option_copied result.before ≡ part_before (gone direction change.now) }
     ensures after { option_copied result.after ≡ part_after (gone direction change.now) }
 {
     match direction {
-        Direction::Forward => Turn::of(change),
-        Direction::Backward => Turn::of(change).back(),
+        Direction::Forward => DiffInput::of(change),
+        Direction::Backward => DiffInput::of(change).back(),
     }
 }
 
@@ -96,14 +97,16 @@ fn draw_range<S: Store>(
     alloc: Global,
     store: &mut S,
     text: &mut Vec<u8>,
-    range: Turn<'_>,
+    range: DiffInput<'_>,
     at: usize,
 ) -> Result<(), Fault>
     ensures drawn { S.honest store.new → (file : List ℕ)
         → get (tree_of (S.files store.old)) range.entry.path.now ≡ Some file
-        → IsRangeWithin file at (unwrap_or (option_copied range.entry.before) []) (unwrap_or (option_copied range.entry.after) [])
+        → IsRangeWithin file at (unwrap_or (option_copied range.entry.before) [])
+        (unwrap_or (option_copied range.entry.after) [])
         → OnOk result (AppendsSome (Some text.old.items) (Some text.new.items)
-        (IsDiff range.entry.path.now (Some file) (Some (spliced file at (length (unwrap_or (option_copied range.entry.before) [])) (unwrap_or (option_copied range.entry.after) []))))) }
+        (IsDiff range.entry.path.now (Some file) (Some (spliced file at (length
+        (unwrap_or (option_copied range.entry.before) [])) (unwrap_or (option_copied range.entry.after) []))))) }
     ensures reads { OnlyReads S.Store store.old store.new }
     ensures fault { IfErr result (IsOfDiff S.Store store.old store.new) }
 {
@@ -120,13 +123,15 @@ fn draw_range<S: Store>(
 fn draw_within<'a>(
     text: &mut Vec<u8>,
     alloc: Global,
-    range: Turn<'a>,
+    range: DiffInput<'a>,
     file: &'a [u8],
     at: usize,
 ) -> Result<(), Fault>
-    ensures drawn { IsRangeWithin file.now at (unwrap_or (option_copied range.entry.before) []) (unwrap_or (option_copied range.entry.after) [])
+    ensures drawn { IsRangeWithin file.now at (unwrap_or (option_copied range.entry.before) [])
+        (unwrap_or (option_copied range.entry.after) [])
         → OnOk result (AppendsSome (Some text.old.items) (Some text.new.items)
-        (IsDiff range.entry.path.now (Some file.now) (Some (spliced file.now at (length (unwrap_or (option_copied range.entry.before) [])) (unwrap_or (option_copied range.entry.after) []))))) }
+        (IsDiff range.entry.path.now (Some file.now) (Some (spliced file.now at (length
+        (unwrap_or (option_copied range.entry.before) [])) (unwrap_or (option_copied range.entry.after) []))))) }
     ensures fault { IfErr result (λ fault. fault ≡ faults.Memory) }
 {
     let old_len = bytes_of(range.before).len();
@@ -135,7 +140,7 @@ fn draw_within<'a>(
         return Ok(());
     }
     let after = splice(alloc, file, at, old_len, new)?;
-    let turn = Turn {
+    let turn = DiffInput {
         path: range.path,
         before: Some(file),
         after: Some(after.as_slice()),

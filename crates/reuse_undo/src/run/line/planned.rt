@@ -58,7 +58,8 @@ fn revert_with_changes<S: Store + Drop>(
     number: u32,
     skip_moved: bool,
 ) -> (Answer, Option<PlannedChanges>)
-    ensures { IsAnsweredWith S.Store (Request.Preview (Call.Revert number skip_moved)) result.0 result.1 session.old session.new }
+    ensures { IsAnsweredWith S.Store
+        (Request.Preview (Call.Revert number skip_moved)) result.0 result.1 session.old session.new }
 {
     match session.revert_command(alloc, number, skip_moved) {
         Ok(command) => {

@@ -4,7 +4,9 @@ ghost use Rattle.reuse_diff.specs.DiffText.{AreRecords};
 ghost use Rattle.reuse_print.specs.Outputs.{AddsSome};
 ghost use Rattle.reuse_shown.specs.JoinedTexts.{AppendsSome};
 ghost use Rattle.reuse_undo.specs.run.RunLine.{IfNoDiff};
-ghost use Rattle.reuse_undo.specs.print.Responses.{Accepts, Finishes, HasBehind, is_refusal, is_refused, IsBehind, IsDiffBehind, IsDiffOf, IsDrawnPreview, IsTextIn, IsPrintedText, ReportsFailure};
+ghost use Rattle.reuse_undo.specs.print.Responses.{Accepts, Finishes, HasBehind, is_refusal, is_refused, IsBehind};
+ghost use Rattle.reuse_undo.specs.print.Responses.{IsDiffBehind, IsDiffOf, IsDrawnPreview, IsTextIn, IsPrintedText};
+ghost use Rattle.reuse_undo.specs.print.Responses.{ReportsFailure};
 ghost use Rattle.reuse_print.specs.declared.fault.Fault.TheVariants as faults;
 
 use reuse_arguments::line::{OutputFormat, PrintOptions};
@@ -15,7 +17,7 @@ use reuse_print::lines::{path_count, print_response};
 use reuse_print::objects::{print_path_outcome_objects, print_row_objects, print_shown_object};
 use reuse_print::output::{Sink, write_text};
 use reuse_session::{PathOutcome, PathOutcomes, Response};
-use reuse_shown::shown_name::Names;
+use reuse_shown::shown_name::NameDisplay;
 use std::alloc::Global;
 use std::io::{self, Write};
 
@@ -53,9 +55,11 @@ fn print<O: Sink>(
     diff: Result<Vec<u8>, Fault>,
 ) -> Result<(), Fault>
     requires { IsDiffOf options response.now diff }
-    ensures printed { OnOk result (AddsSome (O.contents out.old) (O.contents out.new) (IsPrintedText options response.now)) }
+    ensures printed { OnOk result
+        (AddsSome (O.contents out.old) (O.contents out.new) (IsPrintedText options response.now)) }
     ensures behind { IsDrawnPreview options response.now → OnOk result (IsOkAnd diff
-        (λ text. AddsSome (O.contents out.old) (O.contents out.new) (HasBehind options.names response.now text.items))) }
+        (λ text. AddsSome (O.contents out.old) (O.contents out.new)
+        (HasBehind options.names response.now text.items))) }
     ensures kept { OnOk result (O.failed out.new ≡ O.failed out.old) }
     ensures finishes { IfErr result
         (λ fault. Finishes options response.now (O.contents out.old) (O.contents out.new) (Err fault)) }
@@ -129,7 +133,8 @@ fn print_in_format<W: Write>(
     ensures text { (options.format ≡ OutputFormat.Diff → IsDiffBehind response.now diff.now)
         → OnOk result (AppendsSome (W.contents out.old) (W.contents out.new) (IsPrintedText options response.now)) }
     ensures behind { options.format ≡ OutputFormat.Diff
-        → OnOk result (AppendsSome (W.contents out.old) (W.contents out.new) (HasBehind options.names response.now diff.now)) }
+        → OnOk result
+        (AppendsSome (W.contents out.old) (W.contents out.new) (HasBehind options.names response.now diff.now)) }
 {
     match options.format {
         OutputFormat::Lines => print_response(out, options.names, response),
@@ -145,10 +150,11 @@ fn print_in_format<W: Write>(
 fn print_objects<W: Write>(
     out: &mut W,
     alloc: Global,
-    names: Names,
+    names: NameDisplay,
     response: &Response,
 ) -> io::Result<()>
-    ensures { OnOk result (AppendsSome (W.contents out.old) (W.contents out.new) (IsTextIn OutputFormat.Json names response.now)) }
+    ensures { OnOk result
+        (AppendsSome (W.contents out.old) (W.contents out.new) (IsTextIn OutputFormat.Json names response.now)) }
 {
     match response {
         Response::Log(rows) => print_row_objects(out, alloc, rows.as_slice()),

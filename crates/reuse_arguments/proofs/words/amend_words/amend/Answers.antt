@@ -1,31 +1,31 @@
 use Rattle.std.proofs.Common.{◌∙◌}
 use Rattle.reuse_arguments.proofs.AmendListLemmas.{turn_end, turn_on, turn_stops}
-use Rattle.reuse_arguments.proofs.LineFaultLemmas.{due_after, due_same, mistake_same}
+use Rattle.reuse_arguments.proofs.LineFaultLemmas.{expected_after, expected_same, mistake_same}
 use Rattle.reuse_arguments.specs.AmendSteps.{all_removed, all_replaced, with_holder, with_prefix, with_until}
 use Rattle.reuse_arguments.specs.declared.words.amend_words.Part.TheVariants.{Licence, Holder, Contributor}
 use Rattle.reuse_arguments.proofs.words.amend_words.amend.Goals as goal
 
 pub returns-in_err-replace_all : goal.returns-in_err-replace_all
 returns-in_err-replace_all c =
-    due_after _ _ _ _ c.from_residual.ensures.1 (turn_stops
+    expected_after _ _ _ _ c.from_residual.ensures.1 (turn_stops
     (all_replaced Licence) _ _ _ _ _ c.values.ensures c.in_err-replace_all.ensures)
 
 pub returns-in_err-remove_all : goal.returns-in_err-remove_all
 returns-in_err-remove_all c =
-    due_after _ _ _ _ c.from_residual-in_err-remove_all.ensures.1 (mistake_same _ _ _
+    expected_after _ _ _ _ c.from_residual-in_err-remove_all.ensures.1 (mistake_same _ _ _
     (turn_on (all_replaced Licence) _ _ _ _ _ c.values.ensures c.in_ok-replace_all.ensures)
     (turn_stops (all_removed Licence) _ _ _ _ _ c.values-2.ensures c.in_err-remove_all.ensures))
 
 pub returns-in_err-replace_all-2 : goal.returns-in_err-replace_all-2
 returns-in_err-replace_all-2 c =
-    due_after _ _ _ _ c.from_residual-in_err-replace_all-2.ensures.1 (mistake_same _ _ _
+    expected_after _ _ _ _ c.from_residual-in_err-replace_all-2.ensures.1 (mistake_same _ _ _
     (turn_on (all_replaced Licence) _ _ _ _ _ c.values.ensures c.in_ok-replace_all.ensures
     ∙ turn_on (all_removed Licence) _ _ _ _ _ c.values-2.ensures c.in_ok-remove_all.ensures)
     (turn_stops (all_replaced Holder) _ _ _ _ _ c.values-3.ensures c.in_err-replace_all-2.ensures))
 
 pub returns-in_err-remove_all-2 : goal.returns-in_err-remove_all-2
 returns-in_err-remove_all-2 c =
-    due_after _ _ _ _ c.from_residual-in_err-remove_all-2.ensures.1 (mistake_same _ _ _
+    expected_after _ _ _ _ c.from_residual-in_err-remove_all-2.ensures.1 (mistake_same _ _ _
     (turn_on (all_replaced Licence) _ _ _ _ _ c.values.ensures c.in_ok-replace_all.ensures
     ∙ turn_on (all_removed Licence) _ _ _ _ _ c.values-2.ensures c.in_ok-remove_all.ensures
     ∙ turn_on (all_replaced Holder) _ _ _ _ _ c.values-3.ensures c.in_ok-replace_all-2.ensures)
@@ -33,7 +33,7 @@ returns-in_err-remove_all-2 c =
 
 pub returns-in_err-replace_all-3 : goal.returns-in_err-replace_all-3
 returns-in_err-replace_all-3 c =
-    due_after _ _ _ _ c.from_residual-in_err-replace_all-3.ensures.1 (mistake_same _ _ _
+    expected_after _ _ _ _ c.from_residual-in_err-replace_all-3.ensures.1 (mistake_same _ _ _
     (turn_on (all_replaced Licence) _ _ _ _ _ c.values.ensures c.in_ok-replace_all.ensures
     ∙ turn_on (all_removed Licence) _ _ _ _ _ c.values-2.ensures c.in_ok-remove_all.ensures
     ∙ turn_on (all_replaced Holder) _ _ _ _ _ c.values-3.ensures c.in_ok-replace_all-2.ensures
@@ -42,7 +42,7 @@ returns-in_err-replace_all-3 c =
 
 pub returns-in_err-remove_all-3 : goal.returns-in_err-remove_all-3
 returns-in_err-remove_all-3 c =
-    due_after _ _ _ _ c.from_residual-in_err-remove_all-3.ensures.1 (mistake_same _ _ _
+    expected_after _ _ _ _ c.from_residual-in_err-remove_all-3.ensures.1 (mistake_same _ _ _
     (turn_on (all_replaced Licence) _ _ _ _ _ c.values.ensures c.in_ok-replace_all.ensures
     ∙ turn_on (all_removed Licence) _ _ _ _ _ c.values-2.ensures c.in_ok-remove_all.ensures
     ∙ turn_on (all_replaced Holder) _ _ _ _ _ c.values-3.ensures c.in_ok-replace_all-2.ensures
@@ -52,7 +52,7 @@ returns-in_err-remove_all-3 c =
 
 pub returns-in_err-set_until : goal.returns-in_err-set_until
 returns-in_err-set_until c =
-    due_after _ _ _ _ c.from_residual-in_err-set_until.ensures.1 (mistake_same _ _ _
+    expected_after _ _ _ _ c.from_residual-in_err-set_until.ensures.1 (mistake_same _ _ _
     (turn_on (all_replaced Licence) _ _ _ _ _ c.values.ensures c.in_ok-replace_all.ensures
     ∙ turn_on (all_removed Licence) _ _ _ _ _ c.values-2.ensures c.in_ok-remove_all.ensures
     ∙ turn_on (all_replaced Holder) _ _ _ _ _ c.values-3.ensures c.in_ok-replace_all-2.ensures
@@ -63,7 +63,7 @@ returns-in_err-set_until c =
 
 pub returns-in_err-set_prefix : goal.returns-in_err-set_prefix
 returns-in_err-set_prefix c =
-    due_after _ _ _ _ c.from_residual-in_err-set_prefix.ensures.1 (mistake_same _ _ _
+    expected_after _ _ _ _ c.from_residual-in_err-set_prefix.ensures.1 (mistake_same _ _ _
     (turn_on (all_replaced Licence) _ _ _ _ _ c.values.ensures c.in_ok-replace_all.ensures
     ∙ turn_on (all_removed Licence) _ _ _ _ _ c.values-2.ensures c.in_ok-remove_all.ensures
     ∙ turn_on (all_replaced Holder) _ _ _ _ _ c.values-3.ensures c.in_ok-replace_all-2.ensures
@@ -75,7 +75,7 @@ returns-in_err-set_prefix c =
 
 pub returns : goal.returns
 returns c =
-    due_same _ _ _ _
+    expected_same _ _ _ _
     (turn_on (all_replaced Licence) _ _ _ _ _ c.values.ensures c.in_ok-replace_all.ensures
     ∙ turn_on (all_removed Licence) _ _ _ _ _ c.values-2.ensures c.in_ok-remove_all.ensures
     ∙ turn_on (all_replaced Holder) _ _ _ _ _ c.values-3.ensures c.in_ok-replace_all-2.ensures

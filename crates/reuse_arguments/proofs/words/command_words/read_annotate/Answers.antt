@@ -1,22 +1,22 @@
 use Rattle.std.proofs.Common.{◌∙◌}
-use Rattle.reuse_arguments.proofs.LineFaultLemmas.{due_after, mistake_behind, mistake_first, read_on}
+use Rattle.reuse_arguments.proofs.LineFaultLemmas.{expected_after, mistake_behind, mistake_first, read_on}
 use Rattle.reuse_arguments.specs.CommandWords.{annotate_read}
 use Rattle.reuse_arguments.proofs.words.command_words.read_annotate.Goals as goal
 
 pub returns-in_err-places : goal.returns-in_err-places
 unfolding annotate_read
-returns-in_err-places c = due_after _ _ _ _ c.from_residual.ensures.1 (mistake_first _ _ _ c.in_err-places.ensures)
+returns-in_err-places c = expected_after _ _ _ _ c.from_residual.ensures.1 (mistake_first _ _ _ c.in_err-places.ensures)
 
 pub returns-in_err-additions : goal.returns-in_err-additions
 unfolding annotate_read
 returns-in_err-additions c =
-    due_after _ _ _ _ c.from_residual-in_err-additions.ensures.1
+    expected_after _ _ _ _ c.from_residual-in_err-additions.ensures.1
     (mistake_behind _ _ _ _ c.in_ok-places.ensures (mistake_first _ _ _ c.in_err-additions.ensures))
 
 pub returns-in_err-scope : goal.returns-in_err-scope
 unfolding annotate_read
 returns-in_err-scope c =
-    due_after _ _ _ _ c.from_residual-in_err-scope.ensures.1
+    expected_after _ _ _ _ c.from_residual-in_err-scope.ensures.1
     (mistake_behind _ _ _ _ c.in_ok-places.ensures (mistake_behind _ _ _ _ c.in_ok-additions.ensures
     (mistake_first _ _ _ c.in_err-scope.ensures)))
 

@@ -1,13 +1,13 @@
 use Rattle.std.proofs.Common.{arith, ◌∷◌, [], Ok}
 use Rattle.reuse_arguments.specs.FileWords.{number_read}
 use Rattle.reuse_arguments.specs.LineFaults.{then_read}
-use Rattle.reuse_arguments.proofs.LineFaultLemmas.{due_after, mistake_first, read_on}
+use Rattle.reuse_arguments.proofs.LineFaultLemmas.{expected_after, mistake_first, read_on}
 use Rattle.reuse_arguments.proofs.WordListLemmas.{HasRead-end, HasRead-more, HasRead-stops}
 use Rattle.reuse_arguments.proofs.words.file_words.numbers_in.Goals as goal
 
 pub returns-in_err-read_number : goal.returns-in_err-read_number
 returns-in_err-read_number c =
-    due_after _ _ _ _ c.from_residual.ensures.1
+    expected_after _ _ _ _ c.from_residual.ensures.1
     (HasRead-stops (λ word. then_read (number_read word) (λ a. Ok (a ∷ []))) _ c.loop-word.word-index _ _ _
     (omega arith) c.loop-word.invariant (mistake_first _ _ _ c.in_err-read_number.ensures))
 

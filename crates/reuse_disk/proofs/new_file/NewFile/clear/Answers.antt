@@ -1,5 +1,5 @@
 use Rattle.std.proofs.Common.{◌≡◌, ◌∙◌, refl, sym, subst}
-use Rattle.reuse_system.specs.Asides.{name_in, IsNewIn}
+use Rattle.reuse_system.specs.TempFiles.{name_in, IsNewIn}
 use Rattle.reuse_system.specs.NameChanges.{change_at}
 use Rattle.reuse_disk.proofs.EditLemmas.{only_one, only_then}
 use Rattle.reuse_disk.proofs.new_file.NewFile.clear.Goals as goal
@@ -11,8 +11,10 @@ returns-in_err-remove-clause-changes g c =
     let place = name_in folder c.as_str.result.now in
     let new : IsNewIn folder.identity place = (c.as_str.result.now, c.as_str.ensures.is_new, refl) in
     let before = c.loop-name.system in
-    only_then (IsNewIn folder.identity) (s.changes c.args.system.now) (s.changes before) (s.changes c.remove.new.self) c.loop-name.invariant.3
-    (only_one (IsNewIn folder.identity) (s.changes before) (s.changes c.remove.new.self) (change_at (s.looked before) place) c.remove.ensures.changes new)
+    only_then (IsNewIn folder.identity) (s.changes c.args.system.now) (s.changes before)
+    (s.changes c.remove.new.self) c.loop-name.invariant.3
+    (only_one (IsNewIn folder.identity) (s.changes before) (s.changes c.remove.new.self)
+    (change_at (s.looked before) place) c.remove.ensures.changes new)
 
 pub loop-name-preserved : goal.loop-name-preserved
 loop-name-preserved g c =
@@ -21,9 +23,12 @@ loop-name-preserved g c =
     let place = name_in folder c.as_str.result.now in
     let new : IsNewIn folder.identity place = (c.as_str.result.now, c.as_str.ensures.is_new, refl) in
     let before = c.loop-name.system in (
-      (λ other no. c.in_ok-remove.ensures.removed.others other (λ e. no (subst (IsNewIn folder.identity) (sym e) new)) ∙ c.loop-name.invariant.0 other no),
+      (λ other no. c.in_ok-remove.ensures.removed.others other (λ e. no (subst (IsNewIn folder.identity) (sym e) new))
+          ∙ c.loop-name.invariant.0 other no),
       c.remove.ensures.still ∙ c.loop-name.invariant.1,
       (λ honest. c.loop-name.invariant.2 (c.remove.ensures.earlier honest)),
-      only_then (IsNewIn folder.identity) (s.changes c.args.system.now) (s.changes before) (s.changes c.remove.new.self) c.loop-name.invariant.3
-          (only_one (IsNewIn folder.identity) (s.changes before) (s.changes c.remove.new.self) (change_at (s.looked before) place) c.remove.ensures.changes new),
+      only_then (IsNewIn folder.identity) (s.changes c.args.system.now) (s.changes before)
+          (s.changes c.remove.new.self) c.loop-name.invariant.3
+          (only_one (IsNewIn folder.identity) (s.changes before) (s.changes c.remove.new.self)
+          (change_at (s.looked before) place) c.remove.ensures.changes new),
     )

@@ -1,6 +1,6 @@
 use Rattle.std.proofs.Common.{◌≡◌}
 use Rattle.reuse_system.specs.SystemLaws.{IsAlikeUnless}
-use Rattle.reuse_system.specs.Asides.{IsNewIn}
+use Rattle.reuse_system.specs.TempFiles.{IsNewIn}
 use Rattle.reuse_system.specs.NameChanges.{OnlyChanges}
 use Rattle.reuse_disk.proofs.new_file.NewFile.clear.Given as goal
 

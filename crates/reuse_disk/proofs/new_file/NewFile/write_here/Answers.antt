@@ -1,6 +1,6 @@
 use Rattle.std.proofs.Common.{◌≡◌, ◌∙◌, inl, inr, refl, sym, subst}
 use Rattle.std.specs.Prelude.{codes}
-use Rattle.reuse_system.specs.Asides.{name_in, place_of, IsNewIn, IsNewPlace}
+use Rattle.reuse_system.specs.TempFiles.{name_in, place_of, IsNewIn, IsNewPlace}
 use Rattle.reuse_system.specs.FileStates.{Place}
 use Rattle.reuse_disk.proofs.EditLemmas.{guarded_only, guarded_then, guarded_weaker, only_weaker}
 use Rattle.reuse_disk.proofs.new_file.NewFile.write_here.Goals as goal
@@ -13,13 +13,17 @@ returns-clause-guarded g c =
     let target = name_in c.args.target.folder.now c.args.target.name.now in
     let seen = c.args.content.found in
     let place = name_in c.args.self.now.folder (codes "new") in
-    let is : (other : Place) → other ≡ place → IsNewPlace folder to other = λ other e. inl (subst (IsNewIn folder) (sym e) (codes "new", refl, refl)) in
+    let is : (other : Place) → other ≡ place → IsNewPlace folder to other =
+    λ other e. inl (subst (IsNewIn folder) (sym e) (codes "new", refl, refl)) in
     let a = c.args.system.now in
     let b = c.make.new.system in
     let d = c.put_or_discard.new.system in
-    let from = place_of c.in_ok-aside.aside in
-    guarded_then (IsNewPlace folder to) target seen (s.changes a) (s.changes b) (s.changes d) (s.holds a) (s.holds b) (s.holds d)
+    let from = place_of c.in_ok-temp_file.temp_file in
+    guarded_then (IsNewPlace folder to) target seen (s.changes a) (s.changes b) (s.changes d) (s.holds a)
+    (s.holds b) (s.holds d)
     (guarded_only (IsNewPlace folder to) target seen (s.changes a) (s.changes b) (s.holds a) (s.holds b)
-    (only_weaker (λ other. other ≡ place) (IsNewPlace folder to) is (s.changes a) (s.changes b) c.make.ensures.changes) (λ no. c.make.ensures.others target (λ e. no (is target e))))
-    (guarded_weaker (λ other. other ≡ from) (IsNewPlace folder to) target seen (λ other e. is other (e ∙ c.in_ok-aside.ensures.made.0)) (s.changes b) (s.changes d) (s.holds b) (s.holds d)
-    (c.put_or_discard.ensures.guarded c.in_ok-aside.ensures.made.1))
+    (only_weaker (λ other. other ≡ place) (IsNewPlace folder to) is (s.changes a) (s.changes b) c.make.ensures.changes)
+    (λ no. c.make.ensures.others target (λ e. no (is target e))))
+    (guarded_weaker (λ other. other ≡ from) (IsNewPlace folder to) target seen
+    (λ other e. is other (e ∙ c.in_ok-temp_file.ensures.made.0)) (s.changes b) (s.changes d) (s.holds b) (s.holds d)
+    (c.put_or_discard.ensures.guarded c.in_ok-temp_file.ensures.made.1))

@@ -1,5 +1,5 @@
 use Rattle.std.proofs.Common.{◌≡◌}
-use Rattle.reuse_disk.specs.Trails.{AreOpenedIf}
+use Rattle.reuse_disk.specs.OpenFolders.{AreOpenedIf}
 use Rattle.reuse_disk.proofs.syncs.Unsynced.folders_there.Given as goal
 
 abbrev pub invariant-loop-folder : goal.invariant-loop-folder
@@ -8,5 +8,6 @@ invariant-loop-folder g l =
     (s.holds l.system ≡ s.holds l.fn.system) ×
     (s.folders l.system ≡ s.folders l.fn.system) ×
     (s.honest l.system → s.honest l.fn.system) ×
-    (AreOpenedIf (s.honest l.fn.system) (s.folders l.fn.system) l.fn.trail → AreOpenedIf (s.honest l.system) (s.folders l.system) l.trail) ×
+    (AreOpenedIf (s.honest l.fn.system) (s.folders l.fn.system) l.fn.open_folders
+    → AreOpenedIf (s.honest l.system) (s.folders l.system) l.open_folders) ×
     (s.changes l.system ≡ s.changes l.fn.system)

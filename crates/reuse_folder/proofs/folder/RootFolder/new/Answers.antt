@@ -4,4 +4,4 @@ use Rattle.reuse_folder.proofs.folder.RootFolder.new.Goals as goal
 pub invariant_of-result : goal.invariant_of-result
 invariant_of-result g c =
     let noted = c.new.result.noted in
-    record { opened = λ honest. c.new-trail.ensures (folders_after noted.folders noted.fates noted.calls) }
+    record { opened = λ honest. c.new-open_folders.ensures (folders_after noted.folders noted.effects noted.calls) }

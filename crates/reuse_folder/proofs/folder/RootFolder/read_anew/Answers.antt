@@ -1,8 +1,8 @@
 use Rattle.std.proofs.Common.{rules}
-use Rattle.reuse_system.specs.Asides.{opened_at}
+use Rattle.reuse_system.specs.TempFiles.{opened_at}
 use Rattle.reuse_system.specs.Names.{IsNameOf}
 use Rattle.reuse_system.specs.SystemCalls.{held_after}
-use Rattle.reuse_disk.specs.Trails.{current_of}
+use Rattle.reuse_disk.specs.OpenFolders.{current_of}
 use Rattle.reuse_folder.proofs.ReadLemmas.{read_in, read_opened}
 use Rattle.reuse_folder.proofs.folder.RootFolder.read_anew.Goals as goal
 
@@ -13,9 +13,11 @@ returns-clause-read g c honest at =
     let named : IsNameOf c.args.path.now name = search rules in
     let first = c.args.self.now.system.noted in
     let second = c.read.new.self.noted in
-    let old = held_after first.files first.fates first.calls in
-    let new = held_after second.files second.fates second.calls in
+    let old = held_after first.files first.effects first.calls in
+    let new = held_after second.files second.effects second.calls in
     let was = c.in_ok-reading.ensures.read (rw c.remember.ensures.system at honest) in
     let opened = rw c.in-Some.is at c.in_ok-file.ensures in
-    read_in (current_of c.args.self.now.trail) folder c.args.path.now name c.args.limit old c.args.status c.in_ok-reading.reading c.in_ok-folder.ensures named at
-    (read_opened folder name (opened_at c.in-Some.file) c.args.status.len c.args.limit old new c.in_ok-reading.reading opened c.in_ok-reading.ensures.kept was)
+    read_in (current_of c.args.self.now.open_folders) folder c.args.path.now name c.args.limit old c.args.status
+    c.in_ok-reading.reading c.in_ok-folder.ensures named at
+    (read_opened folder name (opened_at c.in-Some.file) c.args.status.len c.args.limit old new c.in_ok-reading.reading
+    opened c.in_ok-reading.ensures.kept was)

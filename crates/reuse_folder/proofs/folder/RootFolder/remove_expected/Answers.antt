@@ -1,11 +1,11 @@
 use Rattle.std.proofs.Common.{rules, inl, refl, ◌≡◌, subst, sym, Some}
 use Rattle.reuse_folder.specs.FolderReads.{LiesIn}
-use Rattle.reuse_disk.specs.Trails.{current_of}
+use Rattle.reuse_disk.specs.OpenFolders.{current_of}
 use Rattle.reuse_folder.specs.FolderWrites.{IsGone, IsRemovedIn}
 use Rattle.reuse_system.specs.Names.{IsNameOf}
 use Rattle.reuse_system.specs.SystemCalls.{changes_of, folders_after, held_after}
 use Rattle.reuse_folder.proofs.FolderLemmas.{nothing_removed, removed_at}
-use Rattle.reuse_folder.proofs.ReadLemmas.{always, gone_if, gone_told, no_file_of, removed_in}
+use Rattle.reuse_folder.proofs.ReadLemmas.{always, gone_if, gone_reported, no_file_of, removed_in}
 use Rattle.reuse_folder.proofs.SeenLemmas.{loses_none, loses_removed}
 use Rattle.reuse_folder.proofs.folder.RootFolder.remove_expected.Goals as goal
 
@@ -22,22 +22,27 @@ pub returns-in_err-current-in-File-clause-removed : goal.returns-in_err-current-
 returns-in_err-current-in-File-clause-removed g c = rw c.look_unless_seen.ensures.kept (nothing_removed _ _)
 
 pub returns-in_err-status-clause-keeps_edits : goal.returns-in_err-status-clause-keeps_edits
-returns-in_err-status-clause-keeps_edits g c = loses_none c.args.path.now c.args.expected _ _ _ _ c.look_unless_seen.ensures.changes c.look_unless_seen.ensures.kept
+returns-in_err-status-clause-keeps_edits g c = loses_none c.args.path.now c.args.expected _ _ _ _
+    c.look_unless_seen.ensures.changes c.look_unless_seen.ensures.kept
 
 pub returns-in_err-seen-in-File-clause-keeps_edits : goal.returns-in_err-seen-in-File-clause-keeps_edits
-returns-in_err-seen-in-File-clause-keeps_edits g c = loses_none c.args.path.now c.args.expected _ _ _ _ c.look_unless_seen.ensures.changes c.look_unless_seen.ensures.kept
+returns-in_err-seen-in-File-clause-keeps_edits g c = loses_none c.args.path.now c.args.expected _ _ _ _
+    c.look_unless_seen.ensures.changes c.look_unless_seen.ensures.kept
 
 pub returns-in_err-note-in-File-clause-keeps_edits : goal.returns-in_err-note-in-File-clause-keeps_edits
-returns-in_err-note-in-File-clause-keeps_edits g c = loses_none c.args.path.now c.args.expected _ _ _ _ c.look_unless_seen.ensures.changes c.look_unless_seen.ensures.kept
+returns-in_err-note-in-File-clause-keeps_edits g c = loses_none c.args.path.now c.args.expected _ _ _ _
+    c.look_unless_seen.ensures.changes c.look_unless_seen.ensures.kept
 
 pub returns-in_err-current-in-File-clause-keeps_edits : goal.returns-in_err-current-in-File-clause-keeps_edits
-returns-in_err-current-in-File-clause-keeps_edits g c = loses_none c.args.path.now c.args.expected _ _ _ _ c.look_unless_seen.ensures.changes c.look_unless_seen.ensures.kept
+returns-in_err-current-in-File-clause-keeps_edits g c = loses_none c.args.path.now c.args.expected _ _ _ _
+    c.look_unless_seen.ensures.changes c.look_unless_seen.ensures.kept
 
 pub returns-in_ok-current-in-File-clause-removed : goal.returns-in_ok-current-in-File-clause-removed
 returns-in_ok-current-in-File-clause-removed g c =
     let name = c.folder_and_name.result.1.now in
     let named : IsNameOf c.args.path.now name = search rules in
-    rw (← c.look_unless_seen.ensures.kept) (removed_at c.args.path.now name c.in_ok-current-in-File.field-0.now.identity _ _ c.remove_seen.result named c.remove_seen.ensures.removed)
+    rw (← c.look_unless_seen.ensures.kept) (removed_at c.args.path.now name c.in_ok-current-in-File.field-0.now.identity
+    _ _ c.remove_seen.result named c.remove_seen.ensures.removed)
 
 pub returns-in_ok-current-in-File-clause-place : goal.returns-in_ok-current-in-File-clause-place
 returns-in_ok-current-in-File-clause-place g c honest =
@@ -46,15 +51,18 @@ returns-in_ok-current-in-File-clause-place g c honest =
     let named : IsNameOf path name = search rules in
     let seen = c.look_unless_seen.new.self.system.noted in
     let now = c.remove_seen.new.system.noted in
-    let folders = folders_after seen.folders seen.fates seen.calls in
-    let current = current_of c.look_unless_seen.new.self.trail in
+    let folders = folders_after seen.folders seen.effects seen.calls in
+    let current = current_of c.look_unless_seen.new.self.open_folders in
     let folder = c.in_ok-current-in-File.field-0.now.identity in
-    let lies = subst (LiesIn folders path current) c.in-File.is (c.in_ok-status.ensures.lies (c.remove_seen.ensures.earlier honest)) in
-    let a = held_after seen.files seen.fates seen.calls in
-    let b = held_after now.files now.fates now.calls in
-    let removed = removed_in folders path name current folder a b c.remove_seen.result named lies c.in_ok-current-in-File.ensures c.remove_seen.ensures.removed in
-    subst (λ held. IsRemovedIn (folders_after now.folders now.fates now.calls) path held b) c.look_unless_seen.ensures.kept
-    (subst (λ told. IsRemovedIn told path a b) (sym c.remove_seen.ensures.still) removed)
+    let lies = subst (LiesIn folders path current) c.in-File.is
+    (c.in_ok-status.ensures.lies (c.remove_seen.ensures.earlier honest)) in
+    let a = held_after seen.files seen.effects seen.calls in
+    let b = held_after now.files now.effects now.calls in
+    let removed = removed_in folders path name current folder a b c.remove_seen.result named lies
+    c.in_ok-current-in-File.ensures c.remove_seen.ensures.removed in
+    subst
+    (λ held. IsRemovedIn (folders_after now.folders now.effects now.calls) path held b) c.look_unless_seen.ensures.kept
+    (subst (λ reported. IsRemovedIn reported path a b) (sym c.remove_seen.ensures.still) removed)
 
 pub returns-in_ok-current-in-File-clause-gone : goal.returns-in_ok-current-in-File-clause-gone
 returns-in_ok-current-in-File-clause-gone g c honest =
@@ -63,35 +71,40 @@ returns-in_ok-current-in-File-clause-gone g c honest =
     let named : IsNameOf path name = search rules in
     let seen = c.look_unless_seen.new.self.system.noted in
     let now = c.remove_seen.new.system.noted in
-    let folders = folders_after seen.folders seen.fates seen.calls in
-    let current = current_of c.look_unless_seen.new.self.trail in
+    let folders = folders_after seen.folders seen.effects seen.calls in
+    let current = current_of c.look_unless_seen.new.self.open_folders in
     let folder = c.in_ok-current-in-File.field-0.now.identity in
-    let lies = subst (LiesIn folders path current) c.in-File.is (c.in_ok-status.ensures.lies (c.remove_seen.ensures.earlier honest)) in
-    let a = held_after seen.files seen.fates seen.calls in
-    let b = held_after now.files now.fates now.calls in
-    gone_if (folders_after now.folders now.fates now.calls) folders path name current folder a b c.remove_seen.result c.remove_seen.ensures.still named lies c.in_ok-current-in-File.ensures c.remove_seen.ensures.removed
+    let lies = subst (LiesIn folders path current) c.in-File.is
+    (c.in_ok-status.ensures.lies (c.remove_seen.ensures.earlier honest)) in
+    let a = held_after seen.files seen.effects seen.calls in
+    let b = held_after now.files now.effects now.calls in
+    gone_if (folders_after now.folders now.effects now.calls) folders path name current folder a b c.remove_seen.result
+    c.remove_seen.ensures.still named lies c.in_ok-current-in-File.ensures c.remove_seen.ensures.removed
 
 pub returns-in_ok-current-in-File-clause-keeps_edits : goal.returns-in_ok-current-in-File-clause-keeps_edits
 returns-in_ok-current-in-File-clause-keeps_edits g c =
     let path = c.args.path.now in
     let name = c.folder_and_name.result.1.now in
     let named : IsNameOf path name = search rules in
-    loses_removed path name c.args.expected (Some c.in_ok-seen-in-File.seen) c.in_ok-current-in-File.field-0.now.identity _ _ _ _ named c.in_ok-seen-in-File.ensures
+    loses_removed path name c.args.expected (Some c.in_ok-seen-in-File.seen)
+    c.in_ok-current-in-File.field-0.now.identity _ _ _ _ named c.in_ok-seen-in-File.ensures
     (rw (c.look_unless_seen.ensures.changes, c.look_unless_seen.ensures.kept) at c.remove_seen.ensures.guarded)
 
 pub returns-in_default : goal.returns-in_default
 returns-in_default g c =
     let path = c.args.path.now in
     let noted = c.look_unless_seen.new.self.system.noted in
-    let folders = folders_after noted.folders noted.fates noted.calls in
-    let held = held_after noted.files noted.fates noted.calls in
-    let current = current_of c.look_unless_seen.new.self.trail in
+    let folders = folders_after noted.folders noted.effects noted.calls in
+    let held = held_after noted.files noted.effects noted.calls in
+    let current = current_of c.look_unless_seen.new.self.open_folders in
     let place = c.in_ok-status.field-0 in
     let free = no_file_of place c.in_default.not-File in
     record {
       removed = rw c.look_unless_seen.ensures.kept (nothing_removed _ _);
       still = c.look_unless_seen.ensures.still;
       place = λ honest. rw c.look_unless_seen.ensures.kept (inl (λ at. refl));
-      gone = λ honest. always c.nothing.result (IsGone folders held path) (gone_told folders held path current place free (c.in_ok-status.ensures.apart honest free));
-      keeps_edits = loses_none path c.args.expected _ _ _ _ c.look_unless_seen.ensures.changes c.look_unless_seen.ensures.kept;
+      gone = λ honest. always c.nothing.result (IsGone folders held path)
+          (gone_reported folders held path current place free (c.in_ok-status.ensures.apart honest free));
+      keeps_edits =
+          loses_none path c.args.expected _ _ _ _ c.look_unless_seen.ensures.changes c.look_unless_seen.ensures.kept;
     }

@@ -1,8 +1,8 @@
 use Rattle.std.proofs.Common.{rules, ◌≡◌, false, is_ok, refl, subst, sym}
 use Rattle.reuse_change.specs.Parts.{joined}
-use Rattle.reuse_system.specs.Asides.{IsNewIn, IsNewPlace}
+use Rattle.reuse_system.specs.TempFiles.{IsNewIn, IsNewPlace}
 use Rattle.reuse_system.specs.FileStates.{place_in}
-use Rattle.reuse_disk.specs.Trails.{current_of, AreOpened}
+use Rattle.reuse_disk.specs.OpenFolders.{current_of, AreOpened}
 use Rattle.reuse_system.specs.NameChanges.{OnlyChanges}
 use Rattle.reuse_system.specs.Names.{IsNameOf, IsSplit}
 use Rattle.reuse_system.specs.SystemCalls.{changes_of, folders_after, held_after}
@@ -14,7 +14,8 @@ use Rattle.reuse_folder.proofs.SeenLemmas.{loses_none, loses_only, loses_put}
 use Rattle.reuse_folder.proofs.folder.RootFolder.write.Goals as goal
 
 pub returns-in_err-note-clause-written : goal.returns-in_err-note-clause-written
-returns-in_err-note-clause-written g c = let failed : is_ok c.from_residual.result ≡ false = search rules in rw failed (nothing_put _ _ _ _)
+returns-in_err-note-clause-written g c = let failed : is_ok c.from_residual.result ≡ false = search rules in
+    rw failed (nothing_put _ _ _ _)
 
 pub returns-in_err-new_file-clause-written : goal.returns-in_err-new_file-clause-written
 returns-in_err-new_file-clause-written g c =
@@ -38,11 +39,12 @@ returns-clause-written g c =
     let between = c.take_new_file.new.self.system.noted in
     let second = c.enter_seen.new.system.noted in
     let third = c.write-written.new.system.noted in
-    let a = held_after first.files first.fates first.calls in
-    let b = held_after second.files second.fates second.calls in
-    let d = held_after third.files third.fates third.calls in
+    let a = held_after first.files first.effects first.calls in
+    let b = held_after second.files second.effects second.calls in
+    let d = held_after third.files third.effects third.calls in
     let cleared = c.in_ok-new_file.ensures.cleared in
-    let cleared_alike : IsAlikeUnless (IsNewIn new_files) a (held_after between.files between.fates between.calls) = rw cleared.is_folder cleared.others in
+    let cleared_alike : IsAlikeUnless (IsNewIn new_files) a (held_after between.files between.effects between.calls) =
+    rw cleared.is_folder cleared.others in
     let alike : IsAlikeUnless (IsNewIn new_files) a b = rw c.enter_seen.ensures.kept cleared_alike in
     let written : IsWritten (IsNewPlace new_files folder) (place_in folder name) bytes is b d is_done = search rules in
     let put = put_at path name new_files folder bytes is a b d is_done named alike written in
@@ -63,22 +65,28 @@ returns-clause-place g c honest =
     let between = c.take_new_file.new.self.system.noted in
     let second = c.enter_seen.new.system.noted in
     let third = c.write-written.new.system.noted in
-    let a = held_after first.files first.fates first.calls in
-    let b = held_after second.files second.fates second.calls in
-    let d = held_after third.files third.fates third.calls in
+    let a = held_after first.files first.effects first.calls in
+    let b = held_after second.files second.effects second.calls in
+    let d = held_after third.files third.effects third.calls in
     let cleared = c.in_ok-new_file.ensures.cleared in
-    let cleared_alike : IsAlikeUnless (IsNewIn new_files) a (held_after between.files between.fates between.calls) = rw cleared.is_folder cleared.others in
+    let cleared_alike : IsAlikeUnless (IsNewIn new_files) a (held_after between.files between.effects between.calls) =
+    rw cleared.is_folder cleared.others in
     let alike : IsAlikeUnless (IsNewIn new_files) a b = rw c.enter_seen.ensures.kept cleared_alike in
     let written : IsWritten (IsNewPlace new_files folder) (place_in folder name) bytes is b d is_done = search rules in
-    let entered = c.in_ok-enter_seen.ensures.entered c.take_new_file.new.self.opened (c.write-written.ensures.earlier (rw c.note_written.ensures at honest)) in
-    rw c.note_written.ensures (put_in (folders_after third.folders third.fates third.calls) (folders_after second.folders second.fates second.calls) path above name (current_of c.enter_seen.new.self) new_files folder bytes is a b d is_done
+    let entered = c.in_ok-enter_seen.ensures.entered c.take_new_file.new.self.opened
+    (c.write-written.ensures.earlier (rw c.note_written.ensures at honest)) in
+    rw c.note_written.ensures (put_in (folders_after third.folders third.effects third.calls)
+    (folders_after second.folders second.effects second.calls) path above name
+    (current_of c.enter_seen.new.self) new_files folder bytes is a b d is_done
     c.write-written.ensures.still split entered c.in_ok-current.ensures alike written)
 
 pub returns-in_err-note-clause-place : goal.returns-in_err-note-clause-place
 returns-in_err-note-clause-place g c honest =
     let noted = c.args.self.now.system.noted in
     let failed : is_ok c.from_residual.result ≡ false = search rules in
-    nothing_put_in (folders_after noted.folders noted.fates noted.calls) c.args.path.now (joined c.args.parts) (is_kept c.args.self.now.unsynced.syncs) (held_after noted.files noted.fates noted.calls) (is_ok c.from_residual.result) failed
+    nothing_put_in (folders_after noted.folders noted.effects noted.calls) c.args.path.now (joined c.args.parts)
+    (is_kept c.args.self.now.unsynced.syncs) (held_after noted.files noted.effects noted.calls)
+    (is_ok c.from_residual.result) failed
 
 pub returns-in_err-new_file-clause-place : goal.returns-in_err-new_file-clause-place
 returns-in_err-new_file-clause-place g c honest =
@@ -87,14 +95,16 @@ returns-in_err-new_file-clause-place g c honest =
     let result = c.from_residual-in_err-new_file.result in
     let failed : is_ok result ≡ false = search rules in
     let cleared = c.take_new_file.ensures.cleared in
-    not_put_in (folders_after second.folders second.fates second.calls) c.args.path.now (joined c.args.parts) (is_kept c.args.self.now.unsynced.syncs) (held_after first.files first.fates first.calls)
-    (held_after second.files second.fates second.calls) (is_ok result) cleared.folder failed cleared.others
+    not_put_in (folders_after second.folders second.effects second.calls) c.args.path.now (joined c.args.parts)
+    (is_kept c.args.self.now.unsynced.syncs) (held_after first.files first.effects first.calls)
+    (held_after second.files second.effects second.calls) (is_ok result) cleared.folder failed cleared.others
 
 pub invariant_of-self-2 : goal.invariant_of-self-2
 invariant_of-self-2 g c =
     let was = c.enter_seen.ensures.opened c.take_new_file.new.self.opened in
     record {
-      opened = λ honest. subst (λ folders. AreOpened folders c.enter_seen.new.self) (sym c.write-written.ensures.still) (was (c.write-written.ensures.earlier honest));
+      opened = λ honest. subst (λ folders. AreOpened folders c.enter_seen.new.self) (sym c.write-written.ensures.still)
+          (was (c.write-written.ensures.earlier honest));
     }
 
 pub returns-in_err-note-clause-keeps_edits : goal.returns-in_err-note-clause-keeps_edits
@@ -108,12 +118,14 @@ returns-in_err-new_file-clause-keeps_edits g c expected seen =
 pub returns-in_err-enter_seen-clause-keeps_edits : goal.returns-in_err-enter_seen-clause-keeps_edits
 returns-in_err-enter_seen-clause-keeps_edits g c expected seen =
     let cleared = c.take_new_file.ensures.cleared in
-    loses_only c.args.path.now expected cleared.folder _ _ _ _ (rw c.enter_seen.ensures.changes cleared.changed) (rw c.enter_seen.ensures.kept cleared.others)
+    loses_only c.args.path.now expected cleared.folder _ _ _ _ (rw c.enter_seen.ensures.changes cleared.changed)
+    (rw c.enter_seen.ensures.kept cleared.others)
 
 pub returns-in_err-current-clause-keeps_edits : goal.returns-in_err-current-clause-keeps_edits
 returns-in_err-current-clause-keeps_edits g c expected seen =
     let cleared = c.take_new_file.ensures.cleared in
-    loses_only c.args.path.now expected cleared.folder _ _ _ _ (rw c.enter_seen.ensures.changes cleared.changed) (rw c.enter_seen.ensures.kept cleared.others)
+    loses_only c.args.path.now expected cleared.folder _ _ _ _ (rw c.enter_seen.ensures.changes cleared.changed)
+    (rw c.enter_seen.ensures.kept cleared.others)
 
 pub returns-clause-keeps_edits : goal.returns-clause-keeps_edits
 returns-clause-keeps_edits g c expected seen =
@@ -126,12 +138,16 @@ returns-clause-keeps_edits g c expected seen =
     let between = c.take_new_file.new.self.system.noted in
     let second = c.enter_seen.new.system.noted in
     let third = c.write-written.new.system.noted in
-    let a = held_after first.files first.fates first.calls in
-    let b = held_after second.files second.fates second.calls in
-    let d = held_after third.files third.fates third.calls in
+    let a = held_after first.files first.effects first.calls in
+    let b = held_after second.files second.effects second.calls in
+    let d = held_after third.files third.effects third.calls in
     let cleared = c.in_ok-new_file.ensures.cleared in
-    let cleared_alike : IsAlikeUnless (IsNewIn new_files) a (held_after between.files between.fates between.calls) = rw cleared.is_folder cleared.others in
+    let cleared_alike : IsAlikeUnless (IsNewIn new_files) a (held_after between.files between.effects between.calls) =
+    rw cleared.is_folder cleared.others in
     let alike : IsAlikeUnless (IsNewIn new_files) a b = rw c.enter_seen.ensures.kept cleared_alike in
-    let cleared_only : OnlyChanges (IsNewIn new_files) (changes_of first.calls) (changes_of between.calls) = rw cleared.is_folder cleared.changed in
-    let only : OnlyChanges (IsNewIn new_files) (changes_of first.calls) (changes_of second.calls) = rw c.enter_seen.ensures.changes cleared_only in
-    rw c.note_written.ensures (loses_put path name expected c.args.found new_files folder (changes_of first.calls) (changes_of second.calls) (changes_of third.calls) a b d named seen only alike c.write-written.ensures.guarded)
+    let cleared_only : OnlyChanges (IsNewIn new_files) (changes_of first.calls) (changes_of between.calls) =
+    rw cleared.is_folder cleared.changed in
+    let only : OnlyChanges (IsNewIn new_files) (changes_of first.calls) (changes_of second.calls) =
+    rw c.enter_seen.ensures.changes cleared_only in
+    rw c.note_written.ensures (loses_put path name expected c.args.found new_files folder (changes_of first.calls)
+    (changes_of second.calls) (changes_of third.calls) a b d named seen only alike c.write-written.ensures.guarded)

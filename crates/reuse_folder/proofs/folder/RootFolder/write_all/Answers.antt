@@ -12,9 +12,14 @@ loop-made-preserved g c =
     let a = changes_of c.args.self.now.system.noted.calls in
     let b = changes_of c.loop-made.self.system.noted.calls in
     let d = changes_of c.write_some.new.self.system.noted.calls in
-    let keeps = lose_part c.loop-made.seen.reads.items writes made (length writes - made) b d c.write_some.ensures.keeps_edits in
-    let more : (made + c.in-Ok.count) ≤ length writes = search rules in
-    (more, c.write_some.ensures.reads ∙ c.loop-made.invariant.1, lose_then reads.items writes a b d c.loop-made.invariant.2 (subst (λ r. LoseNoEdits r.items writes b d) c.loop-made.invariant.1 keeps))
+    let keeps =
+    lose_part c.loop-made.seen.reads.items writes made (length writes - made) b d c.write_some.ensures.keeps_edits in
+    let more : (made + c.in-Ok.count) ≤ length writes = search rules in (
+      more,
+      c.write_some.ensures.reads ∙ c.loop-made.invariant.1,
+      lose_then reads.items writes a b d c.loop-made.invariant.2
+          (subst (λ r. LoseNoEdits r.items writes b d) c.loop-made.invariant.1 keeps),
+    )
 
 pub returns-in-Err-clause-keeps_edits : goal.returns-in-Err-clause-keeps_edits
 returns-in-Err-clause-keeps_edits g c =
@@ -24,5 +29,7 @@ returns-in-Err-clause-keeps_edits g c =
     let a = changes_of c.args.self.now.system.noted.calls in
     let b = changes_of c.loop-made.self.system.noted.calls in
     let d = changes_of c.write_some.new.self.system.noted.calls in
-    let keeps = lose_part c.loop-made.seen.reads.items writes made (length writes - made) b d c.write_some.ensures.keeps_edits in
-    lose_then reads.items writes a b d c.loop-made.invariant.2 (subst (λ r. LoseNoEdits r.items writes b d) c.loop-made.invariant.1 keeps)
+    let keeps =
+    lose_part c.loop-made.seen.reads.items writes made (length writes - made) b d c.write_some.ensures.keeps_edits in
+    lose_then reads.items writes a b d c.loop-made.invariant.2
+    (subst (λ r. LoseNoEdits r.items writes b d) c.loop-made.invariant.1 keeps)

@@ -1,5 +1,5 @@
 use Rattle.std.proofs.Common.{◌∙◌, subst, sym}
-use Rattle.reuse_system.specs.Asides.{place_of}
+use Rattle.reuse_system.specs.TempFiles.{place_of}
 use Rattle.reuse_system.specs.NameChanges.{change_at}
 use Rattle.reuse_folder.specs.Seen.{IsNewFile}
 use Rattle.reuse_folder.specs.declared.folder.batch.NewContent.{NewContent}
@@ -11,10 +11,13 @@ loop-one-preserved g c =
     let s = g.S.System in
     let before = c.loop-one.system in
     let now = c.discard.new.self in
-    let from = place_of c.one-item.result.aside in (
+    let from = place_of c.one-item.result.temp_file in (
       c.discard.ensures.still ∙ c.loop-one.invariant.0,
       (λ honest. c.loop-one.invariant.1 (c.discard.ensures.earlier honest)),
-      (λ all. only_then IsNewFile (s.changes c.args.system.now) (s.changes before) (s.changes now) (c.loop-one.invariant.2 all)
-          (only_one IsNewFile (s.changes before) (s.changes now) (change_at (s.looked before) from) c.discard.ensures.changes
-          (subst (λ (one : NewContent). IsNewFile (place_of one.aside)) (sym c.one-item.is) (all c.loop-one.one-index c.one-item.result c.loop-one-test.true)))),
+      (λ all. only_then IsNewFile (s.changes c.args.system.now) (s.changes before) (s.changes now)
+          (c.loop-one.invariant.2 all)
+          (only_one IsNewFile (s.changes before) (s.changes now)
+          (change_at (s.looked before) from) c.discard.ensures.changes
+          (subst (λ (one : NewContent). IsNewFile (place_of one.temp_file)) (sym c.one-item.is)
+          (all c.loop-one.one-index c.one-item.result c.loop-one-test.true)))),
     )

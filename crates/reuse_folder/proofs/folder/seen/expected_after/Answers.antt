@@ -5,7 +5,8 @@ use Rattle.reuse_folder.proofs.folder.seen.expected_after.Goals as goal
 
 pub returns-then-eq : goal.returns-then-eq
 returns-then-eq c reads before =
-    rw c.of.ensures (seen_last reads c.args.read.now c.args.path.now ((bytes_eq-Decides c.args.read.now.path c.args.path.now).0 (sym c.eq.ensures ∙ c.if-eq.true)))
+    rw c.of.ensures (seen_last reads c.args.read.now c.args.path.now
+    ((bytes_eq-Decides c.args.read.now.path c.args.path.now).0 (sym c.eq.ensures ∙ c.if-eq.true)))
 
 pub returns-else-eq : goal.returns-else-eq
 returns-else-eq c reads before =

@@ -12,5 +12,6 @@ returns-in_ok-all_changes-in-Ok-clause-plans c tree edits given =
 
 pub returns-in-Err-clause-plans : goal.returns-in-Err-clause-plans
 returns-in-Err-clause-plans c tree edits given =
-    alone_as c.args.self tree edits (all_or_none edits) c.in-Err.refusal c.refused_alone.result (subst (AnswersEdits tree edits) c.in-Err.is given) (λ e. ap all_or_none e) c.refused_alone.ensures.told
+    alone_as c.args.self tree edits (all_or_none edits) c.in-Err.refusal c.refused_alone.result
+    (subst (AnswersEdits tree edits) c.in-Err.is given) (λ e. ap all_or_none e) c.refused_alone.ensures.reported
     c.refused_alone.ensures.same (c.refused_alone.ensures.plans tree)

@@ -1,13 +1,19 @@
 use Rattle.std.proofs.Common.{sym, subst}
 use Rattle.reuse_plan.specs.Plan.{IsRefusalOf}
-use Rattle.reuse_command.specs.Answer.{IsTold}
-use Rattle.reuse_plan.proofs.PathPlanning.{told_is}
+use Rattle.reuse_command.specs.Answer.{IsNoFailure}
+use Rattle.reuse_plan.proofs.PathPlanning.{reported_is}
 use Rattle.reuse_plan.proofs.path_plan.Policy.refused.Goals as goal
 
-pub returns-in_ok-told-in-Collect-clause-plan : goal.returns-in_ok-told-in-Collect-clause-plan
-returns-in_ok-told-in-Collect-clause-plan c tree here is =
-    let told = c.in_ok-told-in-Collect.ensures.told in
-    (told_is here.edit c.in_ok-told-in-Collect.field-0 told.1 (subst (IsRefusalOf here.edit) (sym told.0) is), told.1, c.in-Collect.is)
+pub returns-in_ok-unless_failure-in-Collect-clause-plan : goal.returns-in_ok-unless_failure-in-Collect-clause-plan
+returns-in_ok-unless_failure-in-Collect-clause-plan c tree here is =
+    let reported = c.in_ok-unless_failure-in-Collect.ensures.reported in (
+      reported_is here.edit c.in_ok-unless_failure-in-Collect.field-0 reported.1
+          (subst (IsRefusalOf here.edit) (sym reported.0) is),
+      reported.1,
+      c.in-Collect.is,
+    )
 
-pub returns-in_ok-told-in-Collect-clause-told : goal.returns-in_ok-told-in-Collect-clause-told
-returns-in_ok-told-in-Collect-clause-told c = subst IsTold c.in_ok-told-in-Collect.ensures.told.0 c.in_ok-told-in-Collect.ensures.told.1
+pub returns-in_ok-unless_failure-in-Collect-clause-reported :
+    goal.returns-in_ok-unless_failure-in-Collect-clause-reported
+returns-in_ok-unless_failure-in-Collect-clause-reported c = subst IsNoFailure
+    c.in_ok-unless_failure-in-Collect.ensures.reported.0 c.in_ok-unless_failure-in-Collect.ensures.reported.1

@@ -5,7 +5,12 @@ use Rattle.reuse_plan.proofs.planned.Planned.of.Goals as goal
 
 pub loop-plan-preserved : goal.loop-plan-preserved
 loop-plan-preserved c = record {
-  path_outcomes = c.in_ok-push.ensures.path_outcomes ∙ ap (λ fs. fs ++ path_outcome_planned c.in-Some.plan ∷ []) c.loop-plan.invariant.path_outcomes ∙ sym (path_outcomes_more c.loop-plan.yielded c.in-Some.plan);
-  changes = c.in_ok-push.ensures.changes ∙ ap (λ cs. cs ++ option_to_list (change_planned c.in-Some.plan)) c.loop-plan.invariant.changes ∙ sym (changes_more c.loop-plan.yielded c.in-Some.plan);
-  refused = c.in_ok-push.ensures.refused ∙ ap (λ b. b || is_refusal c.in-Some.plan) c.loop-plan.invariant.refused ∙ sym (refused_more c.loop-plan.yielded c.in-Some.plan);
+  path_outcomes = c.in_ok-push.ensures.path_outcomes
+      ∙ ap (λ fs. fs ++ path_outcome_planned c.in-Some.plan ∷ []) c.loop-plan.invariant.path_outcomes
+      ∙ sym (path_outcomes_more c.loop-plan.yielded c.in-Some.plan);
+  changes = c.in_ok-push.ensures.changes
+      ∙ ap (λ cs. cs ++ option_to_list (change_planned c.in-Some.plan)) c.loop-plan.invariant.changes
+      ∙ sym (changes_more c.loop-plan.yielded c.in-Some.plan);
+  refused = c.in_ok-push.ensures.refused ∙ ap (λ b. b || is_refusal c.in-Some.plan) c.loop-plan.invariant.refused
+      ∙ sym (refused_more c.loop-plan.yielded c.in-Some.plan);
 }

@@ -4,7 +4,8 @@ use Rattle.std.proofs.lemmas.Result.{err_from_is_err_and}
 use Rattle.reuse_store.proofs.AskedLemmas.{later_none, later_more}
 use Rattle.reuse_store.proofs.ApplyLemmas.{removal_sets, removal_doubt}
 use Rattle.reuse_session.specs.session.Forgetting.{Removes}
-use Rattle.reuse_session.proofs.lemmas.session.ForgottenFiles.{removes_none, removes_more, removes_or_more, removes_some_none, left_by_removal}
+use Rattle.reuse_session.proofs.lemmas.session.ForgottenFiles.{removes_none, removes_more, removes_or_more}
+use Rattle.reuse_session.proofs.lemmas.session.ForgottenFiles.{removes_some_none, left_by_removal}
 use Rattle.reuse_session.proofs.session.forget.remove_each.Goals as goal
 
 pub loop-path-init : goal.loop-path-init
@@ -20,9 +21,13 @@ pub loop-path-preserved : goal.loop-path-preserved
 loop-path-preserved g c =
     let store = g.S.Store in
     record {
-      removed = λ honest. removes_more c.args.paths.now c.loop-path.path-index c.path-item.result c.loop-path-test.true c.path-item.is _ _ _
-          (c.loop-path.invariant.removed (c.remove.ensures.later.was_honest honest)) (removal_sets _ _ _ (c.in_ok-remove.ensures.removes.ok honest));
-      left = left_by_removal store c.args.store.now c.loop-path.store c.remove.new.self c.args.paths.now c.path-item.result (c.loop-path.path-index, c.loop-path-test.true, sym c.path-item.is) c.remove.result c.remove.ensures.removes c.loop-path.invariant.left;
+      removed = λ honest. removes_more c.args.paths.now c.loop-path.path-index c.path-item.result c.loop-path-test.true
+          c.path-item.is _ _ _
+          (c.loop-path.invariant.removed (c.remove.ensures.later.was_honest honest))
+          (removal_sets _ _ _ (c.in_ok-remove.ensures.removes.ok honest));
+      left = left_by_removal store c.args.store.now c.loop-path.store c.remove.new.self c.args.paths.now
+          c.path-item.result (c.loop-path.path-index, c.loop-path-test.true, sym c.path-item.is) c.remove.result
+          c.remove.ensures.removes c.loop-path.invariant.left;
       written = c.remove.ensures.removes.written ∙ c.loop-path.invariant.written;
       mutations = omega (arith, c.remove.ensures.removes.mutations, c.loop-path.invariant.mutations);
       later = later_more store _ _ _ c.loop-path.invariant.later c.remove.ensures.later;
@@ -34,8 +39,12 @@ returns-in_err-remove-clause-stopped g c honest =
     let new = g.S.Store.files c.remove.new.self in
     let p = err_from_is_err_and c.from_residual.result c.from_residual.ensures.1 in
     subst (λ r. OnErr r ((count : ℕ) × Removes (take count c.args.paths.now) old new)) (sym p.1)
-    (removes_or_more c.args.paths.now c.loop-path.path-index c.path-item.result c.loop-path-test.true c.path-item.is old (g.S.Store.files c.loop-path.store) new
-    (c.loop-path.invariant.removed (c.remove.ensures.later.was_honest honest)) (removal_doubt c.in_err-remove.field-0.0 _ _ c.path-item.result (c.in_err-remove.ensures.removes.err honest)))
+    (removes_or_more c.args.paths.now c.loop-path.path-index c.path-item.result c.loop-path-test.true c.path-item.is old
+    (g.S.Store.files c.loop-path.store) new
+    (c.loop-path.invariant.removed (c.remove.ensures.later.was_honest honest))
+    (removal_doubt c.in_err-remove.field-0.0 _ _ c.path-item.result (c.in_err-remove.ensures.removes.err honest)))
 
 pub returns-in_err-remove-clause-left : goal.returns-in_err-remove-clause-left
-returns-in_err-remove-clause-left g c = left_by_removal g.S.Store c.args.store.now c.loop-path.store c.remove.new.self c.args.paths.now c.path-item.result (c.loop-path.path-index, c.loop-path-test.true, sym c.path-item.is) c.remove.result c.remove.ensures.removes c.loop-path.invariant.left
+returns-in_err-remove-clause-left g c = left_by_removal g.S.Store c.args.store.now c.loop-path.store c.remove.new.self
+    c.args.paths.now c.path-item.result (c.loop-path.path-index, c.loop-path-test.true, sym c.path-item.is)
+    c.remove.result c.remove.ensures.removes c.loop-path.invariant.left

@@ -12,6 +12,7 @@ use Rattle.reuse_session.proofs.session.later_steps.touched_paths.Given as goal
 abbrev pub invariant-loop-number : goal.invariant-loop-number
 invariant-loop-number g l = record {
   reads : OnlyReads g.S.Store l.fn.store l.store;
-  left : g.S.Store.honest l.store → (steps : List Recorded) → l.later ≡ map number_of steps → All (IsKeptIn (undo_folder_of (g.S.Store.files l.fn.store))) steps
+  left : g.S.Store.honest l.store → (steps : List Recorded) → l.later ≡ map number_of steps
+      → All (IsKeptIn (undo_folder_of (g.S.Store.files l.fn.store))) steps
       → left_by (drop l.number-index steps) l.left.items ≡ left_by steps (paths_of l.changes);
 }

@@ -11,5 +11,6 @@ invariant-loop-change g l =
     let store = g.S.Store in
     record {
       reads : OnlyReads store l.fn.store l.store;
-      told : store.honest l.store → IsEntry l.changes → ArePathOutcomesOf l.direction (tree_of (store.files l.fn.store)) (take l.change-index l.changes) l.path_outcomes.items;
+      reported : store.honest l.store → IsEntry l.changes → ArePathOutcomesOf l.direction
+          (tree_of (store.files l.fn.store)) (take l.change-index l.changes) l.path_outcomes.items;
     }

@@ -1,7 +1,7 @@
 use Rattle.std.proofs.Common.{rules}
 use Rattle.reuse_store.specs.FileMap.{files_in}
 use Rattle.reuse_change.specs.Parts.{joined}
-use Rattle.reuse_store.proofs.Lasting.{left_by_put}
+use Rattle.reuse_store.proofs.Durable.{left_by_put}
 use Rattle.reuse_store.proofs.memory.MemoryStoreStore.put_parts.Goals as goal
 
 pub returns-clause-puts : goal.returns-clause-puts

@@ -1,5 +1,5 @@
 use Rattle.reuse_store.specs.FileMap.{files_in}
-use Rattle.reuse_store.proofs.Lasting.{certain_alone}
+use Rattle.reuse_store.proofs.Durable.{certain_alone}
 use Rattle.reuse_store.proofs.memory.MemoryStoreStore.sync.Goals as goal
 
 pub returns-clause-barrier : goal.returns-clause-barrier

@@ -18,7 +18,13 @@ use Rattle.reuse_store.proofs.record.CallRecord.new.Statement.{statement}
 use Rattle.reuse_store.proofs.record.CallRecord.new.Code as code
 
 abbrev made : Start → CallRecord
-made start = record { marker = record {}; start = start.files; doubts = start.doubts; fates = start.fates; calls = [] }
+made start = record {
+  marker = record {};
+  start = start.files;
+  initial_crash_states = start.initial_crash_states;
+  effects = start.effects;
+  calls = [];
+}
 
 abbrev stored : Val
 stored = vstruct (vcons (vstruct vnil) vnil)

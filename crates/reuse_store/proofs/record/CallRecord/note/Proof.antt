@@ -98,7 +98,7 @@ note_spec 𝓤 𝓛 𝓜 𝓡 wired =
     let noted : CallRecord = record h {
       calls = call_of a.1.0.now a.1.1.0.now
           (a.1.1.1.0.now ++ a.1.1.1.1.0.now ++ a.1.1.1.1.1.0.now) a.1.1.1.1.1.1.0
-          (took_effect h.fates h.calls) ∷ h.calls;
+          (took_effect h.effects h.calls) ∷ h.calls;
     } in
     let y : W.Ghost = (
       (

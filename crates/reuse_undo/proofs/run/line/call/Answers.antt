@@ -19,33 +19,39 @@ returns-in-Recover g c =
     let options = c.args.options in
     let skip_moved = c.in-Recover.skip_moved in
     let recover = c.recover-store.ensures in
-    let told = c.recover-store.result.1 in
+    let reported = c.recover-store.result.1 in
     let old = c.args.store in
     let new = c.recover-store.result.0 in
     let before = store.files old in
     let answer = c.recovered_answer-answer.result in
-    subst (λ r. IsCalled store RequestLeaves AnswersAfterStop r options old new answer (Ok c.new.result)) (sym c.in-Recover.is) (record {
+    subst (λ r. IsCalled store RequestLeaves AnswersAfterStop r options old new answer (Ok c.new.result))
+    (sym c.in-Recover.is) (record {
       carries = λ honest. (
-        told,
+        reported,
         c.recovered_answer-answer.ensures,
         record {
           recovered = recover.recovered honest;
           refused =
-              refuses skip_moved before (store.files new) told recover.refusal (recover.exact honest) (recover.clash honest)
-              (early_files store old new told recover.early honest) (recover.interrupted honest);
+              refuses skip_moved before (store.files new) reported recover.refusal (recover.exact honest)
+              (recover.clash honest)
+              (early_files store old new reported recover.early honest) (recover.interrupted honest);
           recovers = recover.recovers honest;
           folder = recover.folder honest;
         },
       );
       survives = λ honest start found.
-          let end = recovers_safely store old new skip_moved (closed start) refl told found (recover.recovered honest) (recover.recovers honest) (recover.survives honest) in
+          let end = recovers_safely store old new skip_moved (closed start) refl reported found
+          (recover.recovered honest) (recover.recovers honest) (recover.survives honest) in
           (end.0, subst (λ a. Recovers a (closed start) end.0) (sym c.recovered_answer-answer.ensures) end.1, end.3);
-      reads_only = λ honest look held standing. recover.quiet honest held.journal (none_pending before held standing);
-      fault = subst (λ a. IfErr a (HasCause (store.failures old < store.failures new))) (sym c.recovered_answer-answer.ensures) (err_as_answer responses.Recovered told _ recover.fault);
-      clash = λ honest held standing.
-          subst (λ a. IfErr a (HasCallClash (requests.Recover skip_moved) held before)) (sym c.recovered_answer-answer.ensures) (err_as_answer responses.Recovered told _ (recover.clash honest));
+      reads_only = λ honest look held committed. recover.quiet honest held.journal (none_pending before held committed);
+      fault = subst (λ a. IfErr a (HasCause (store.failures old < store.failures new)))
+          (sym c.recovered_answer-answer.ensures) (err_as_answer responses.Recovered reported _ recover.fault);
+      clash = λ honest held committed.
+          subst (λ a. IfErr a (HasCallClash (requests.Recover skip_moved) held before))
+          (sym c.recovered_answer-answer.ensures)
+          (err_as_answer responses.Recovered reported _ (recover.clash honest));
       diff_of = none_of options answer c.new.result c.new.ensures.items;
-      drawn = λ honest held standing. none_drawn options skip_moved held answer c.new.result;
+      drawn = λ honest held committed. none_drawn options skip_moved held answer c.new.result;
       undrawn = tt;
       failures = recover.later.failures;
       was_honest = recover.later.was_honest;

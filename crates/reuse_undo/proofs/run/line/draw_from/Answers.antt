@@ -3,4 +3,5 @@ use Rattle.reuse_undo.proofs.run.line.draw_from.Goals as goal
 
 pub returns-clause-drawn : goal.returns-clause-drawn
 returns-clause-drawn g c honest before after is previews =
-    drawn_trees before after c.args.planned.now.changes c.draw-diff.result previews.paths (c.draw-diff.ensures.drawn honest before after is previews.leads)
+    drawn_trees before after c.args.planned.now.changes c.draw-diff.result previews.paths
+    (c.draw-diff.ensures.drawn honest before after is previews.leads)

@@ -1,12 +1,12 @@
 use Rattle.std.proofs.Common.{◌≡◌, ◌==◌, ◌∙◌, length, sym, true}
 use Rattle.std.proofs.lemmas.Bool.{eq-eqb, eqb-true}
 use Rattle.reuse_arguments.proofs.AmendListLemmas.{replaced_all, replaced_odd, replaced_on, replaced_stops}
-use Rattle.reuse_arguments.proofs.LineFaultLemmas.{due_after, mistake_same}
+use Rattle.reuse_arguments.proofs.LineFaultLemmas.{expected_after, mistake_same}
 use Rattle.reuse_arguments.proofs.words.amend_words.Part.replace_all.Goals as goal
 
 pub returns-in_err-replace : goal.returns-in_err-replace
 returns-in_err-replace c =
-    due_after _ _ _ c.in_err-replace.field-0.0 c.from_residual.ensures.1
+    expected_after _ _ _ c.in_err-replace.field-0.0 c.from_residual.ensures.1
     (mistake_same _ _ _ c.loop-texts.invariant
     (replaced_stops _ c.loop-texts.texts.now _ _ _ c.in-len2-up.len_at_least c.in_err-replace.ensures))
 

@@ -14,4 +14,5 @@ returns-in-Some-clause-expected c =
     let short : at < length reads = rw c.deref.ensures.value at c.in-Some.ensures.lookup.3.0 in
     let is : read ≡ get_or reads at read = rw c.deref.ensures.value at c.in-Some.ensures.lookup.1 in
     let same = (bytes_eq-Decides read.path path).0 (sym c.eq.ensures ∙ c.if-eq.true) in
-    rw c.of.ensures (subst (λ (one : ReadPath). IsSeenBefore reads path (expected_of one.seen)) (sym is) (seen_at reads at read path short (ap (λ (one : ReadPath). one.path) (sym is) ∙ same)))
+    rw c.of.ensures (subst (λ (one : ReadPath). IsSeenBefore reads path (expected_of one.seen)) (sym is)
+    (seen_at reads at read path short (ap (λ (one : ReadPath). one.path) (sym is) ∙ same)))

@@ -16,7 +16,8 @@ loop-change-preserved g c =
       reads = reads_more g.S.Store _ _ _ so_far.reads read;
       drawn = λ honest before after tree steps.
           let was = read.was_honest honest in
-          drawn_step c.args.direction before after c.args.changes.now c.loop-change.change-index c.change-item.result c.loop-change.text.items c.draw_one.new.text.items c.loop-change-test.true c.change-item.is
+          drawn_step c.args.direction before after c.args.changes.now c.loop-change.change-index c.change-item.result
+          c.loop-change.text.items c.draw_one.new.text.items c.loop-change-test.true c.change-item.is
           steps (so_far.drawn was before after tree steps)
           (c.in_ok-draw_one.ensures.drawn honest before after (ap tree_of (so_far.reads.files was) ∙ tree));
     }
@@ -24,7 +25,9 @@ loop-change-preserved g c =
 pub returns-clause-drawn : goal.returns-clause-drawn
 returns-clause-drawn g c honest before after tree steps =
     let changes = c.args.changes.now in
-    subst (λ l. AreDiffs before after l c.loop-change.text.items) (take_all c.loop-change.change-index changes c.loop-change-test.false) (c.loop-change.invariant.drawn honest before after tree steps)
+    subst (λ l. AreDiffs before after l c.loop-change.text.items)
+    (take_all c.loop-change.change-index changes c.loop-change-test.false)
+    (c.loop-change.invariant.drawn honest before after tree steps)
 
 pub returns-in_err-draw_one-clause-fault : goal.returns-in_err-draw_one-clause-fault
 returns-in_err-draw_one-clause-fault g c =
@@ -32,4 +35,5 @@ returns-in_err-draw_one-clause-fault g c =
     let old = c.args.store.now in
     let new = c.draw_one.new.store in
     let fault = c.in_err-draw_one.field-0.0 in
-    handed (IsOfDiff store old new) fault c.from_residual.result c.from_residual.ensures.1 (of_diff_after store old c.loop-change.store new fault c.loop-change.invariant.reads.failures c.in_err-draw_one.ensures.fault)
+    handed (IsOfDiff store old new) fault c.from_residual.result c.from_residual.ensures.1 (of_diff_after store old
+    c.loop-change.store new fault c.loop-change.invariant.reads.failures c.in_err-draw_one.ensures.fault)

@@ -8,6 +8,7 @@ use Rattle.reuse_undo.proofs.run.line.drawn.draw_all.Given as goal
 abbrev pub invariant-loop-change : goal.invariant-loop-change
 invariant-loop-change g l = record {
   reads : OnlyReads g.S.Store l.initial.store l.store;
-  drawn : g.S.Store.honest l.store → (before after : Files) → tree_of (g.S.Store.files l.initial.store) ≡ before → AreSmallSteps l.direction l.changes before after
+  drawn : g.S.Store.honest l.store → (before after : Files) → tree_of (g.S.Store.files l.initial.store) ≡ before
+      → AreSmallSteps l.direction l.changes before after
       → AreDiffs before after (take l.change-index l.changes) l.text.items;
 }

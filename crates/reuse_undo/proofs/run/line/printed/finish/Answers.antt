@@ -10,7 +10,8 @@ use Rattle.reuse_command.specs.declared.reply.Response.{Response}
 use Rattle.reuse_undo.proofs.run.line.printed.finish.Goals as goal
 
 -- what is accepted, or would be refused, is reported, and no diff is lacking
-finished : (options : PrintOptions) (answer : Response) (old new : List ℕ) (result : Result ℕ Fault) → Accepts answer result → AddsSome old new (IsPrintedText options answer) → Finishes options answer old new result
+finished : (options : PrintOptions) (answer : Response) (old new : List ℕ) (result : Result ℕ Fault)
+    → Accepts answer result → AddsSome old new (IsPrintedText options answer) → Finishes options answer old new result
 finished options answer old new (Ok count) accepts appends = (appends, accepts)
 finished options answer old new (Err (WouldRefuse path_outcomes)) accepts appends = (appends, accepts)
 finished options answer old new (Err fault) accepts appends = absurd accepts
@@ -20,12 +21,14 @@ either_direction : {T E : Type 0} {P : Type 0} (result : Result T E) → P → I
 either_direction (Ok value) holds = holds
 either_direction (Err fault) holds = tt
 
-drawn : (answer : Response) (Claim : Refusal → Type 0) (result : Result ℕ Fault) → Accepts answer result → IfNoDiff result Claim
+drawn : (answer : Response) (Claim : Refusal → Type 0) (result : Result ℕ Fault) → Accepts answer result
+    → IfNoDiff result Claim
 drawn answer Claim (Ok count) accepts = tt
 drawn answer Claim (Err (WouldRefuse path_outcomes)) accepts = tt
 drawn answer Claim (Err fault) accepts = absurd accepts
 
-written : (answer : Response) (old new : Bool) (result : Result ℕ Fault) → Accepts answer result → new ≡ old → ReportsFailure old new result
+written : (answer : Response) (old new : Bool) (result : Result ℕ Fault) → Accepts answer result → new ≡ old
+    → ReportsFailure old new result
 written answer old new (Ok count) accepts kept = kept
 written answer old new (Err (WouldRefuse path_outcomes)) accepts kept = kept
 written answer old new (Err fault) accepts kept = absurd accepts

@@ -13,4 +13,5 @@ returns-in_err-write_text-clause-finishes g c =
     let front = rw c.as_slice-2.ensures.value at c.in_err-write_text.ensures.front in
     let residual = c.from_residual-in_err-write_text in
     handed _ c.in_err-write_text.field-0.0 residual.result residual.ensures.1
-    (cut_short c.args.options c.args.response.now _ _ c.in_ok-text.text.items c.in_err-write_text.field-0.0 c.in_err-write_text.ensures.fault.0 printed_text front)
+    (cut_short c.args.options c.args.response.now _ _ c.in_ok-text.text.items c.in_err-write_text.field-0.0
+    c.in_err-write_text.ensures.fault.0 printed_text front)

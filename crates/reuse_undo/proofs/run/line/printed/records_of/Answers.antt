@@ -11,5 +11,7 @@ of_ok (Err fault) holds is = absurd (cc)
 
 pub loop-change-preserved : goal.loop-change-preserved
 loop-change-preserved c =
-    AppendsSome-row IsRecord (Some []) (Some c.loop-change.text.items) (Some c.print_record.new.out.items) c.args.changes.now c.loop-change.change-index c.change-item.result (omega arith) c.change-item.is c.loop-change.invariant
+    AppendsSome-row IsRecord (Some []) (Some c.loop-change.text.items)
+    (Some c.print_record.new.out.items) c.args.changes.now c.loop-change.change-index c.change-item.result
+    (omega arith) c.change-item.is c.loop-change.invariant
     (of_ok c.print_record.result c.print_record.ensures (c.in_ok-in_memory.ensures.done.0 refl))

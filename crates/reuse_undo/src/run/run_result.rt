@@ -1,0 +1,42 @@
+//! What comes of what was asked for.
+use crate::run::access_refusal::AccessRefusal;
+use crate::run::answering::CallEnding;
+use crate::run::diagnostics::Diagnostics;
+use reuse_print::fault::Fault;
+
+/// What comes of what was asked for.
+#[derive(Drop)]
+pub struct RunResult {
+    /// How many paths changed, or would change in a dry run; or why it wasn't begun.
+    pub ending: CallEnding,
+    /// The step that was rolled back, which a stopped run had begun, and how many files.
+    pub rolled_back: Option<(u32, usize)>,
+    /// What notes report, where they are asked for.
+    pub diagnostics: Option<Diagnostics>,
+}
+
+impl RunResult {
+    /// It failed before it was begun.
+    pub fn fault(fault: Fault) -> RunResult {
+        RunResult::of(Ok(Err(fault)))
+    }
+
+    /// It was denied.
+    pub fn denied(access_refusal: AccessRefusal) -> RunResult {
+        RunResult::of(Err(access_refusal))
+    }
+
+    /// No more than how it ended.
+    fn of(ending: CallEnding) -> RunResult {
+        RunResult {
+            ending,
+            rolled_back: None,
+            diagnostics: None,
+        }
+    }
+}
+
+/// The step that was pending and isn't any more, and how many files were rolled back.
+pub fn rolled_back_step(pending: Option<u32>, files: Option<usize>) -> Option<(u32, usize)> {
+    Some((pending?, files?))
+}
