@@ -55,7 +55,8 @@ calls() {
   is "$(told "${change[@]}" --dry-run --json build/d.py)" \
     $'{"outcome":"would change","path":"build/d.py"}\nstatus 0' 'JSON'
   is "$(told --remove-license MIT --dry-run --json build/d.py)" \
-    "$(printf '%s\n' '{"outcome":"refused","path":"build/d.py","reason":"build/d.py: nothing left"}' \
+    "$(printf '%s\n' \
+      '{"outcome":"refused","path":"build/d.py","reason":"build/d.py: nothing left"}' \
       'reuse-undo: build/d.py: nothing left' 'status 1')" 'JSON of a refusal'
   told "${change[@]}" --dry-run --diff build/d.py > "$room/diff"
   has_line "$room/diff" '-# SPDX-License-Identifier: MIT'
@@ -81,8 +82,9 @@ calls() {
 # The REUSE.toml at the root: given, beneath the root, listed and left out
 tables() {
   local change=(--replace-license MIT ISC)
-  local table='version = 1 # MIT\n[[annotations]]\npath = "**" # "MIT"\nSPDX-License-Identifier = "MIT" # one\n'
-  local new='version = 1 # MIT\n[[annotations]]\npath = "**" # "MIT"\nSPDX-License-Identifier = "ISC" # one\n'
+  local head='version = 1 # MIT\n[[annotations]]\npath = "**" # "MIT"\n'
+  local table=$head'SPDX-License-Identifier = "MIT" # one\n'
+  local new=$head'SPDX-License-Identifier = "ISC" # one\n'
   files REUSE.toml "$table" a.py "$mit" src/REUSE.toml "$table" src/b.py "$mit"
   cp "$tree/REUSE.toml" "$room/table"
   is "$(told "${change[@]}" -r . --dry-run)" "$(printf '%s\n' 'would change REUSE.toml' \
@@ -245,4 +247,5 @@ metadata
 tasks
 random=$(python3 "$here/random_trees.py" "$program" "$room" "${TREES:-300}" "${SEED:-1}") ||
   fail "$random"
-echo "$examples; four tasks on 600 files, of which reuse judged $lints times; random trees: $random"
+echo "$examples; four tasks on 600 files, of which reuse judged $lints times;" \
+  "random trees: $random"

@@ -19,8 +19,8 @@ def made_of(tree, path, amendments, style, own):
 
 
 def outcomes(tree, amendments, style=None, own={}):
-    """For each file that is gone through, in byte order: its path, and the path that changes and its
-    bytes, or None, or a refusal."""
+    """For each file that is gone through, in byte order: its path, and the path that changes and
+    its bytes, or None, or a refusal."""
     worked = [path for path in tree if is_covered(path) or path == TABLE]
     for path in sorted(worked, key=str.encode):
         try:

@@ -15,10 +15,14 @@ OLD_LICENCES = LICENCES + ["GPL-2.0"] * 8 + ["Classpath-exception-2.0", "AND", "
 NEW_LICENCES = """GPL-2.0-or-later|MIT OR ISC|(ISC)|X-1.0+|MIT|GPL-2.0|GPL-3.0-only WITH X-exception
 MIT AND (ISC OR 0BSD)| Apache-2.0 |REUSE-IgnoreStart""".replace("\n", "|").split("|")
 HOLDERS = """Jane Doe|Jane Doe <jane@example.com>|Jane|Joe Bloggs|(C) Corp|- 2019 Jo|2019|jane doe
-Ünsal Ö.|Jane  Doe|Copyright Jane Doe|Jane Doe and others""".replace("\n", "|").split("|")
+Ünsal Ö.|Jane  Doe|Copyright Jane Doe|Jane Doe and others|Jane Doe, 2019|Joe Bloggs, 2012 & 2014
+Jane, 2019, Joe|Jane ,2010-present|and Jane|by Joe|, Jane|Jane Doe
+Jane Doe""".replace("\n", "|").split("|")
 CONTRIBUTORS = ["Joe Bloggs", "Mary Major", "Jane Doe", "Joe  Bloggs", "joe bloggs", "Élan"]
 YEARS = """2019|2019-2021|2019 - 2021|2024|1999 - 1999|2021-2019|24|2020,|2020 -2021|2019 - 2030
-20201""".replace("\n", "|").split("|")
+20201|2012, 2014-2016|2019-present|2010 and 2012|2012 & 2010,|2019 – 2021,2022|2001 -today
+(c) 2019|(C) 2012, 2014|: 2019|2019 by|2019, by|2020 - 2019, 2021|2019-now, 2018|2012, and 2013
+2019-2020x|© 2019""".replace("\n", "|").split("|")
 NEW_HOLDERS = HOLDERS + ["Jane */ Doe", "A --> B", "Jane Roe", "Jane Roe", "O'Day", 'J "J" \\ Day']
 FREE = ["A tool.", "", "  indented", "* starred", "Licensed as is", "SPDX-License-Identifier:"]
 BODIES = ["x = 1", "", "# not a header", "// a comment", "/* block */", "text", "\tindented", "é"]

@@ -2,6 +2,8 @@
 paths to bytes. The tags below are data: REUSE-IgnoreStart"""
 import re
 
+import notices
+
 BLANKS = b" \t\r"
 MARK = b"\xef\xbb\xbf"
 BARRIERS = (b"REUSE-IgnoreStart", b"SPDX-SnippetBegin")
@@ -98,36 +100,17 @@ def tag_of(content, punctuation):
     return None, content
 
 
+def has_prefix(text, name):
+    """Whether a text begins with a prefix that leaves something."""
+    begin = PREFIXES[name].encode()
+    fits = text.startswith(begin + b" ") or (name == "spdx" and text.startswith(begin))
+    return fits and bool(text[len(begin):].strip(BLANKS))
+
+
 def prefix_of(text):
     """The longest prefix that leaves something, or None."""
-    fit = [
-        (len(begin), name)
-        for name, begin in ((name, begin.encode()) for name, begin in PREFIXES.items())
-        if (text.startswith(begin + b" ") or (name == "spdx" and text.startswith(begin)))
-        and text[len(begin):].strip(BLANKS)
-    ]
+    fit = [(len(begin), name) for name, begin in PREFIXES.items() if has_prefix(text, name)]
     return max(fit)[1] if fit else None
-
-
-def read_notice(text):
-    """Prefix, years or None, and holder."""
-    prefix = prefix_of(text)
-    rest = text[len(PREFIXES[prefix].encode()):].strip(BLANKS)
-    for form in rb"(\d{4}) - (\d{4})", rb"(\d{4})-(\d{4})", rb"(\d{4})()":
-        found = re.match(form + rb"[ \t\r]+(.*)\Z", rest, re.S)
-        if found:
-            low, high, holder = found.groups()
-            high = high or low
-            if low <= high:
-                return prefix, (low, high), holder
-    return prefix, None, rest
-
-
-def write_notice(prefix, years, holder):
-    words = [PREFIXES[prefix].encode()]
-    if years:
-        words.append(years[0] if years[0] == years[1] else years[0] + b" - " + years[1])
-    return b" ".join(words + [holder])
 
 
 class Info:
@@ -363,7 +346,7 @@ def replace_licence(value, old, new):
 
 class Amendments:
     """`replaced` and `removed` have lists for licence, holder and contributor. `reads_back`: whether
-    each notice that was written so far is read with what it was to say."""
+    each notice so far is read again as the parts that it was put together of."""
 
     def __init__(self):
         self.replaced = {"licence": [], "holder": [], "contributor": []}
@@ -378,19 +361,25 @@ class Amendments:
         return text
 
     def notice(self, text):
-        prefix, years, holder = said = read_notice(text)
-        holder = self.text("holder", holder)
-        if holder in self.removed["holder"]:
+        notice = notices.read(text, PREFIXES, has_prefix)
+        notice.holder = self.text("holder", notice.holder)
+        if notice.holder in self.removed["holder"]:
             return None
-        if self.holder is None or self.holder == holder:
-            if self.until and years and years[1] < self.until:
-                years = years[0], self.until
-            prefix = self.prefix or prefix
-        if (prefix, years, holder) == said:
-            return text
-        written = write_notice(prefix, years, holder)
-        self.reads_back = self.reads_back and read_notice(written) == (prefix, years, holder)
+        if self.holder is None or self.holder == notice.holder:
+            if self.until:
+                notice.years = notices.reach(notice.years, self.until)
+            if self.prefix:
+                self.begin(notice)
+        written = notice.text()
+        again = notices.read(written, PREFIXES, has_prefix)
+        self.reads_back = self.reads_back and again.parts() == notice.parts()
         return written
+
+    def begin(self, notice):
+        """Gives a notice the prefix, unless only that and blanks stand in front."""
+        begin = PREFIXES[self.prefix].encode()
+        if notice.prefix != self.prefix or notice.front[len(begin):].strip(BLANKS):
+            notice.prefix, notice.front = self.prefix, begin + b" "
 
     def licence(self, value):
         for old, new in self.replaced["licence"]:

@@ -33,7 +33,7 @@ use Rattle.reuse_amend.proofs.WordLemmas.{Word, kinds, kinds-append, no_space, w
 use Rattle.reuse_amend.proofs.WordLemmas.{name_is, identifier_words, lone, grouped}
 use Rattle.reuse_amend.proofs.PassLemmas.{Passes, passes_both, close_with, with_twice, with_plus}
 use Rattle.reuse_amend.proofs.ReplacedLemmas.{new_pieces, new_words, new_together, not_old, new_cut, words_replaced}
-use Rattle.reuse_amend.proofs.FusedLemmas.{replaced_pieces}
+use Rattle.reuse_amend.proofs.ReplacedPieceLemmas.{replaced_pieces}
 use Rattle.reuse_amend.proofs.MeantLemmas.{one_meant, phrase_spelled}
 
 -- what has a meaning is an expression

@@ -66,7 +66,7 @@ found Symbol rest h = let some = h.some in rw some refl
 -- ---- the years
 
 -- a byte that is no digit begins no year
-no_year : (b : ℕ) (bytes : List ℕ) → is_ascii_digit b ≡ false → year_of (b ∷ bytes) ≡ None
+pub no_year : (b : ℕ) (bytes : List ℕ) → is_ascii_digit b ≡ false → year_of (b ∷ bytes) ≡ None
 no_year b [] e = refl
 no_year b (c ∷ []) e = refl
 no_year b (c ∷ d ∷ []) e = refl
@@ -117,7 +117,7 @@ a_digit : (n : ℕ) → n ≤ 9 → is_ascii_digit (48 + n) ≡ true
 a_digit n low = grind (arith, nat_tests)
 
 -- four digits are read as the number that they write
-year_again : (n : ℕ) → n ≤ 9999 → year_of (four_digits n) ≡ Some n
+pub year_again : (n : ℕ) → n ≤ 9999 → year_of (four_digits n) ≡ Some n
 year_again n low =
     let a = a_digit (n / 1000) (omega arith) in
     let b = a_digit (n / 100 % 10) (omega arith) in
@@ -135,8 +135,8 @@ year_again n low =
         (48 + m / 1000 - 48) * 1000 + (48 + m / 100 % 10 - 48) * 100 + (48 + m / 10 % 10 - 48) * 10 + (48 + m % 10 - 48)
 
     same : (m : ℕ) → m ≤ 9999
-        → (48 + m / 1000 - 48) * 1000 + (48 + m / 100 % 10 - 48) * 100 + (48 + m / 10 % 10 - 48) * 10
-        + (48 + m % 10 - 48) ≡ m
+        → (48 + m / 1000 - 48) * 1000 + (48 + m / 100 % 10 - 48) * 100 + (48 + m / 10 % 10 - 48) * 10 +
+        (48 + m % 10 - 48) ≡ m
     same m low = omega arith
 
 between_again : (low high : ℕ) → low ≤ high
@@ -261,12 +261,13 @@ said_behind prefix rest holder years n apart first front is =
     ap (λ o. says prefix years holder (option_map (notice_behind text) o)) (found prefix rest apart)
     ∙ ap (λ v. says prefix years holder (Some (record {
       prefix = prefix;
-      years = (years_front v).0;
+      years =
+          (years_front v).0;
       holder = trimmed is_blank (drop (years_front v).1 v);
       text = text;
     }))) value
-    ∙ ap (λ (f : Option Years × ℕ). says prefix years holder
-    (Some (record { prefix = prefix; years = f.0; holder = trimmed is_blank (drop f.1 rest); text = text }))) front
+    ∙ ap (λ (f : Option Years × ℕ). says prefix years holder (Some
+    (record { prefix = prefix; years = f.0; holder = trimmed is_blank (drop f.1 rest); text = text }))) front
     ∙ ap (λ h. says prefix years holder (Some (record { prefix = prefix; years = years; holder = h; text = text }))) is
     ∙ ap (λ b. b && same_years years years && bytes_eq holder holder) (own_text (prefix_text prefix))
     ∙ ap (λ b. b && bytes_eq holder holder) (own_years years) ∙ own_text holder
@@ -293,7 +294,7 @@ no_digit m n low (inr large) = grind (arith, nat_tests)
 full_digit : (n : ℕ) → is_blank (48 + n) ≡ false
 full_digit n = grind (arith, nat_tests)
 
-blank_behind : (xs ys : List ℕ) → all_blank ys ≡ false → all_blank (xs ++ ys) ≡ false
+pub blank_behind : (xs ys : List ℕ) → all_blank ys ≡ false → all_blank (xs ++ ys) ≡ false
 blank_behind [] ys e = e
 blank_behind (x ∷ xs) ys e = ap (λ t. is_blank x && t) (blank_behind xs ys e) ∙ by (is_blank x)
   where
@@ -347,15 +348,15 @@ pub said_again : (prefix : Prefix) (years : Option Years) (holder : List ℕ) �
 said_again prefix None holder can some trim clear = said_none prefix holder some trim (is_clear holder clear)
 said_again prefix (Some years) holder can some trim clear = elim (truth (years.low == years.high)) [
   | inl e ↦ (let same : years.low ≡ years.high = eqb-true years.low years.high e in
-      ap (λ t. says prefix (Some years) holder
-      (notice_of (prefix_text prefix ++ 32 ∷ cond t (four_digits years.low) two ++ 32 ∷ holder))) e
+      ap (λ t. says prefix (Some years) holder (notice_of (prefix_text prefix ++ 32 ∷ cond t
+      (four_digits years.low) two ++ 32 ∷ holder))) e
       ∙ ap (λ (h : ℕ). says prefix (Some (record { low = years.low; high = h })) holder
       (notice_of (prefix_text prefix ++ 32 ∷ four_digits years.low ++ 32 ∷ holder)))
       (sym same)
       ∙ said_one prefix years.low holder (omega (arith, same, can.1)) some trim (is_clear holder clear))
   | inr e ↦
-      ap (λ t. says prefix (Some years) holder
-      (notice_of (prefix_text prefix ++ 32 ∷ cond t (four_digits years.low) two ++ 32 ∷ holder))) e
+      ap (λ t. says prefix (Some years) holder (notice_of (prefix_text prefix ++ 32 ∷ cond t
+      (four_digits years.low) two ++ 32 ∷ holder))) e
       ∙ said_two prefix years.low years.high holder can.0 can.1 some trim
 ]
   where

@@ -1,30 +1,30 @@
 -- Information that was amended once stays when it is amended again.
-use Rattle.std.proofs.Common.{◌≡◌, ◌≢◌, ℕ, ◌<◌, nat_eq, Bool, true, false, cond, List, [], ◌∷◌, map, Option, Some, None}
-use Rattle.std.proofs.Common.{refl, sym, ap, subst, ◌∙◌, inl, inr, arith}
-use Rattle.std.specs.Prelude.{Contains, filter_map, nat_lt, not, ◌&&◌, ◌==◌, unwrap_or}
+use Rattle.std.proofs.Common.{◌≡◌, ◌≢◌, ℕ, Bool, true, false, cond, List, [], ◌∷◌, ◌++◌, map, length, drop, Option}
+use Rattle.std.proofs.Common.{Some, None, refl, sym, ap, subst, ◌∙◌, inl, inr}
+use Rattle.std.specs.Prelude.{Contains, filter_map, not, ◌&&◌, unwrap_or, codes}
 use Rattle.std.specs.Option.{option_map, option_map_or, option_and_then}
 use Rattle.std.specs.List.{AllByRecursion, cons_option}
 use Rattle.std.specs.Str.{bytes_eq}
-use Rattle.std.proofs.lemmas.Bool.{false≢true, and_parts, ltb-true, eqb-true, eq-eqb}
+use Rattle.std.proofs.lemmas.Bool.{false≢true, and_parts}
 use Rattle.std.proofs.lemmas.Slice.Eq.{bytes_eq-Decides}
+use Rattle.std.proofs.Math.Seq.{drop-append_seam}
 use Rattle.reuse_amend.specs.declared.replacements.Replacement.{Replacement}
 use Rattle.reuse_amend.specs.declared.amendments.Amendments.{Amendments}
 use Rattle.reuse_notice.specs.declared.infos.Info.{Info}
 use Rattle.reuse_notice.specs.declared.prefixes.Prefix.{Prefix}
-use Rattle.reuse_notice.specs.declared.tags.Years.{Years}
 use Rattle.reuse_notice.specs.Prefixes.{prefix_text}
-use Rattle.reuse_notice.specs.Tags.{NoticeText, notice_of}
-use Rattle.reuse_notice.specs.Adding.{notice_written}
-use Rattle.reuse_notice.specs.Merging.{says, same_years}
+use Rattle.reuse_notice.specs.Tags.{all_blank}
 use Rattle.reuse_notice.specs.MergeSteps.{is_among}
 use Rattle.reuse_notice.specs.Sets.{set_of}
 use Rattle.reuse_notice.specs.TextLists.{without}
+use Rattle.reuse_amend.specs.NoticeParts.{Parts, parts_text, parts_of}
 use Rattle.reuse_amend.specs.Amending
-use Rattle.reuse_amend.specs.Settled.{NoTextComesBack, BringNothingBack, ReadsAsAmended}
-use Rattle.reuse_notice.proofs.ClassLemmas.{text_kept}
+use Rattle.reuse_amend.specs.Settled.{NoTextComesBack, BringNothingBack, ReadsAsAmended, HasFourDigits}
 use Rattle.reuse_amend.proofs.UnnamedLemmas.{other_text, own_text, are_amended}
 use Rattle.reuse_notice.proofs.SetLemmas.{In, Contains-from_in, In-set_of, sorted-set_of, set_of-sorted}
 use Rattle.reuse_amend.proofs.SettledLemmas.{licence_again}
+use Rattle.reuse_amend.proofs.WrittenLemmas.{chosen_short}
+use Rattle.reuse_amend.proofs.UntilLemmas.{until_again}
 
 -- ---- whole texts
 
@@ -55,7 +55,8 @@ text_by_all : (text : List ℕ) (rs : List Replacement) → NoTextComesBack rs
 text_by_all text [] back = tt
 text_by_all text (r ∷ rs) back = (
   text_by_later (Amending.text_replaced text r) r.old rs back.0.1 (text_made text r back.0.0),
-  text_by_all (Amending.text_replaced text r) rs back.1,
+  text_by_all
+      (Amending.text_replaced text r) rs back.1,
 )
 
 texts_stay : (text : List ℕ) (rs : List Replacement) → AllByRecursion (λ s. text ≢ s.old) rs
@@ -70,127 +71,99 @@ text_again rs text back = texts_stay (Amending.text_amended rs text) rs (text_by
 
 -- ---- notices
 
-own_years : (o : Option Years) → same_years o o ≡ true
-own_years None = refl
-own_years (Some y) = ap (λ b. b && nat_eq y.high y.high) (eq-eqb y.low y.low refl) ∙ eq-eqb y.high y.high refl
+-- a prefix that was set is there
+prefix_again : (o : Option Prefix) (was : Prefix) → unwrap_or o (unwrap_or o was) ≡ unwrap_or o was
+prefix_again None was = refl
+prefix_again (Some prefix) was = refl
 
--- the prefix is the one that it became
-prefix_again : (commanded : Bool) (set : Option Prefix) (was is : Prefix)
-    → bytes_eq (prefix_text is) (prefix_text (cond commanded (unwrap_or set was) was)) ≡ true
-    → bytes_eq (prefix_text is) (prefix_text (cond commanded (unwrap_or set is) is)) ≡ true
-prefix_again false set was is e = own_text (prefix_text is)
-prefix_again true None was is e = own_text (prefix_text is)
-prefix_again true (Some prefix) was is e = e
-
-abbrev reaching : Option ℕ → Years → Years
-reaching until y = option_map_or (λ year. Amending.years_until year y) until y
-
--- and years that reach the year reach it
-reaching_again : (until : Option ℕ) (was is : Years) → same_years (Some is) (Some (reaching until was)) ≡ true
-    → same_years (Some is) (Some (reaching until is)) ≡ true
-reaching_again None was is e = own_years (Some is)
-reaching_again (Some year) was is e = by (nat_lt was.high year) refl (nat_lt is.high year) refl e
+-- a front of the prefix
+front_again : (p q : Parts) (o : Option Prefix) → q.prefix ≡ unwrap_or o p.prefix
+    → q.front ≡ option_map_or (Amending.front_with p) o p.front
+    → option_map_or (Amending.front_with q) o q.front ≡ q.front
+front_again p q None prefix front = refl
+front_again p q (Some r) prefix front =
+    ap (λ t. cond t q.front (prefix_text r ++ codes " ")) is
   where
-    low : (t : Bool) → nat_lt was.high year ≡ t → nat_lt is.high year ≡ true
-        → is.high ≡ (cond t (record { low = was.low; high = year }) was).high → ⊥
-    low true a b same = let h : is.high < year = ltb-true is.high year b in absurd (omega (arith, h, same))
-    low false a b same = false≢true (sym a ∙ ap (λ n. nat_lt n year) (sym same) ∙ b)
+    blank : (t : Bool) → Amending.is_front r p ≡ t → all_blank
+        (drop (length (prefix_text r)) (cond t p.front (prefix_text r ++ codes " "))) ≡ true
+    blank true e =
+        let two = and_parts (bytes_eq (prefix_text p.prefix) (prefix_text r))
+        (all_blank (drop (length (prefix_text p.prefix)) p.front)) e in
+        let same : prefix_text p.prefix ≡ prefix_text r = (bytes_eq-Decides (prefix_text p.prefix)
+        (prefix_text r)).0 two.0 in
+        ap (λ t. all_blank (drop (length t) p.front)) (sym same) ∙ two.1
+    blank false e = ap all_blank (drop-append_seam (prefix_text r) (codes " "))
 
-    by : (t : Bool) → nat_lt was.high year ≡ t → (u : Bool) → nat_lt is.high year ≡ u
-        → same_years (Some is) (Some (cond t (record { low = was.low; high = year }) was)) ≡ true
-        → same_years (Some is) (Some (cond u (record { low = is.low; high = year }) is)) ≡ true
-    by t a false b e' = own_years (Some is)
-    by t a true b e' =
-        let years : Years = cond t (record { low = was.low; high = year }) was in
-        absurd (low t a b (eqb-true is.high years.high (and_parts (is.low == years.low) (is.high == years.high) e').1))
+    is : Amending.is_front r q ≡ true
+    is =
+        ap (λ (x : Prefix). bytes_eq (prefix_text x) (prefix_text r) && all_blank
+        (drop (length (prefix_text x)) q.front)) prefix
+        ∙ ap (λ t. t && all_blank (drop (length (prefix_text r)) q.front)) (own_text (prefix_text r))
+        ∙ ap (λ f. all_blank (drop (length (prefix_text r)) f)) front
+        ∙ blank (Amending.is_front r p) refl
 
-years_again : (commanded : Bool) (until : Option ℕ) (was is : Option Years)
-    → same_years is (cond commanded (option_map (reaching until) was) was) ≡ true
-    → same_years is (cond commanded (option_map (reaching until) is) is) ≡ true
-years_again false until was is e = own_years is
-years_again true until was None e = refl
-years_again true until None (Some is) e = absurd (cc e)
-years_again true until (Some was) (Some is) e = reaching_again until was is e
+-- years that reach the year
+years_again : (years : List ℕ) (o : Option ℕ) → HasFourDigits o
+    → (let new = option_map_or (λ year. Amending.years_until year years) o years in option_map_or
+    (λ year. Amending.years_until year new) o new ≡ new)
+years_again years None short = refl
+years_again years (Some year) short = until_again year years short
 
--- what a notice was to say it says
-record Says (a : Amendments) (n : NoticeText) (holder : List ℕ) (new : List ℕ) : Type 0 where
-  notice : NoticeText
-  read : notice_of new ≡ Some notice
-  prefix : bytes_eq (prefix_text notice.prefix) (prefix_text (Amending.prefix_amended a n holder)) ≡ true
-  years : same_years notice.years (Amending.years_amended a n holder) ≡ true
-  holder_is : notice.holder ≡ holder
-
-said : (a : Amendments) (n : NoticeText) (holder new : List ℕ)
-    → says (Amending.prefix_amended a n holder) (Amending.years_amended a n holder) holder (notice_of new) ≡ true
-    → Says a n holder new
-said a n holder new e = by (notice_of new) refl e
+-- parts that were amended stay
+parts_again : (a : Amendments) (p : Parts) (holder : List ℕ) → HasFourDigits a.until
+    → Amending.parts_amended a (Amending.parts_amended a p holder) holder ≡ Amending.parts_amended a p holder
+parts_again a p holder short =
+    let o = Amending.if_concerned a holder a.prefix in
+    ap (λ x. made x (option_map_or (Amending.front_with q) o q.front)
+    (option_map_or (λ year. Amending.years_until year q.years) (Amending.if_concerned a holder a.until) q.years))
+    (prefix_again o p.prefix)
+    ∙ ap (λ x. made q.prefix x (option_map_or (λ year. Amending.years_until year q.years)
+    (Amending.if_concerned a holder a.until) q.years)) (front_again p q o refl refl)
+    ∙ ap (λ x. made q.prefix q.front x) (years_again p.years (Amending.if_concerned a holder a.until)
+    (chosen_short a holder short))
   where
-    by : (o : Option NoticeText) → notice_of new ≡ o
-        → says (Amending.prefix_amended a n holder) (Amending.years_amended a n holder) holder o ≡ true
-        → Says a n holder new
-    by None read e' = absurd (cc e')
-    by (Some m) read e' =
-        let p =
-        and_parts
-        (bytes_eq (prefix_text m.prefix) (prefix_text (Amending.prefix_amended a n holder)) && same_years m.years
-        (Amending.years_amended a n holder))
-        (bytes_eq m.holder holder) e' in
-        let q =
-        and_parts (bytes_eq (prefix_text m.prefix) (prefix_text (Amending.prefix_amended a n holder)))
-        (same_years m.years (Amending.years_amended a n holder)) p.0 in
-        record {
-          notice = m;
-          read = read;
-          prefix = q.0;
-          years = q.1;
-          holder_is = (bytes_eq-Decides m.holder holder).0 p.1;
-        }
+    q : Parts
+    q = Amending.parts_amended a p holder
 
--- a notice that says already what it is to say stays
-notice_says : (a : Amendments) (new holder : List ℕ) (m : NoticeText) → notice_of new ≡ Some m
-    → Amending.text_amended a.replaced_holders m.holder ≡ holder → m.holder ≡ holder
-    → is_among a.removed_holders holder ≡ false
-    → bytes_eq (prefix_text m.prefix) (prefix_text (Amending.prefix_amended a m holder)) ≡ true
-    → same_years m.years (Amending.years_amended a m holder) ≡ true → Amending.notice_amended a new ≡ Some new
-notice_says a new holder m read stays is removed prefix years =
-    ap (λ o. option_map_or (λ n. Amending.holder_amended a n (Amending.text_amended a.replaced_holders n.holder)) o
-    (Some new)) read
-    ∙ ap (Amending.holder_amended a m) stays
-    ∙ ap (λ b. cond b None (Some
-    (Amending.notice_saying (Amending.prefix_amended a m holder) (Amending.years_amended a m holder) holder m))) removed
-    ∙ ap (λ b. Some (cond b m.text
-    (notice_written (Amending.prefix_amended a m holder) (Amending.years_amended a m holder) holder))) all
-    ∙ ap (λ t. Some t) (text_kept new m read)
-  where
-    all : says (Amending.prefix_amended a m holder) (Amending.years_amended a m holder) holder (Some m) ≡ true
-    all =
-        ap (λ b. b && same_years m.years (Amending.years_amended a m holder) && bytes_eq m.holder holder) prefix
-        ∙ ap (λ b. b && bytes_eq m.holder holder) years ∙ (bytes_eq-Decides m.holder holder).1 is
+    made : Prefix → List ℕ → List ℕ → Parts
+    made prefix front years = record {
+      prefix = prefix;
+      front = front;
+      years = years;
+      between = p.between;
+      holder = holder;
+      trailing = p.trailing;
+      years_first = p.years_first;
+    }
 
-notice_again : (a : Amendments) (text new : List ℕ) → NoTextComesBack a.replaced_holders → ReadsAsAmended a text
+notice_again : (a : Amendments) (text new : List ℕ) → NoTextComesBack a.replaced_holders → HasFourDigits a.until
+    → ReadsAsAmended a text
     → Amending.notice_amended a text ≡ Some new → Amending.notice_amended a new ≡ Some new
-notice_again a text new back reads e = by (notice_of text) refl e
+notice_again a text new back short reads e = by (parts_of text) refl e
   where
-    stays : (holder : List ℕ) (t : Bool) (made : List ℕ) → is_among a.removed_holders holder ≡ t
-        → cond t None (Some made) ≡ Some new → is_among a.removed_holders holder ≡ false
-    stays holder true made is e' = absurd (cc e')
-    stays holder false made is e' = is
-
-    by : (o : Option NoticeText) → notice_of text ≡ o
-        → option_map_or (λ n. Amending.holder_amended a n (Amending.text_amended a.replaced_holders n.holder)) o
+    by : (o : Option Parts) → parts_of text ≡ o
+        → option_map_or (λ p. Amending.holder_amended a p (Amending.text_amended a.replaced_holders p.holder)) o
         (Some text) ≡ Some new
         → Amending.notice_amended a new ≡ Some new
     by None is e' = let same : text ≡ new = cc e' in subst (λ t. Amending.notice_amended a t ≡ Some new) same e
-    by (Some n) is e' =
-        let holder = Amending.text_amended a.replaced_holders n.holder in
-        let h = said a n holder new (reads n new is e) in
-        notice_says a new holder h.notice h.read
-        (ap (Amending.text_amended a.replaced_holders) h.holder_is
-        ∙ text_again a.replaced_holders n.holder back) h.holder_is
-        (stays holder (is_among a.removed_holders holder) (Amending.notice_saying (Amending.prefix_amended a n holder)
-        (Amending.years_amended a n holder) holder n) refl e')
-        (prefix_again (Amending.concerns a holder) a.prefix n.prefix h.notice.prefix h.prefix)
-        (years_again (Amending.concerns a holder) a.until n.years h.notice.years h.years)
+    by (Some p) is e' = stays (is_among a.removed_holders holder) refl e'
+      where
+        holder : List ℕ
+        holder = Amending.text_amended a.replaced_holders p.holder
+
+        stays : (t : Bool) → is_among a.removed_holders holder ≡ t
+            → cond t None (Some (parts_text (Amending.parts_amended a p holder))) ≡ Some new
+            → Amending.notice_amended a new ≡ Some new
+        stays true removed e'' = absurd (cc e'')
+        stays false removed e'' =
+            let q = Amending.parts_amended a p holder in
+            let same : parts_text q ≡ new = cc e'' in
+            subst (λ t. Amending.notice_amended a t ≡ Some t) same
+            (ap (λ o. option_map_or (λ m. Amending.holder_amended a m
+            (Amending.text_amended a.replaced_holders m.holder)) o (Some (parts_text q))) (reads p is removed)
+            ∙ ap (Amending.holder_amended a q) (text_again a.replaced_holders p.holder back)
+            ∙ ap (λ b. cond b None (Some (parts_text (Amending.parts_amended a q holder)))) removed
+            ∙ ap (λ m. Some (parts_text m)) (parts_again a p holder short))
 
 -- ---- lists and sets
 
@@ -280,8 +253,8 @@ filter_map_stays f (x ∷ xs) h =
 
 licences_again : (a : Amendments) (xs ys : List (List ℕ)) → BringNothingBack a
     → Amending.each_made (Amending.licence_amended a.replaced_licences) xs ≡ Some ys
-    → Amending.licences_amended a (set_of (without a.removed_licences ys)) ≡ Some
-    (set_of (without a.removed_licences ys))
+    → Amending.licences_amended a (set_of (without a.removed_licences ys))
+    ≡ Some (set_of (without a.removed_licences ys))
 licences_again a xs ys back made =
     let zs = set_of (without a.removed_licences ys) in
     ap (option_map (λ texts. set_of (without a.removed_licences texts)))
@@ -320,10 +293,10 @@ contributors_again a xs back =
         subst (λ t. Amending.text_amended a.replaced_contributors t ≡ t) from.1
         (text_again a.replaced_contributors from.0 back.contributors)
 
-notices_again : (a : Amendments) (xs : List (List ℕ)) → BringNothingBack a
+notices_again : (a : Amendments) (xs : List (List ℕ)) → BringNothingBack a → HasFourDigits a.until
     → ((text : List ℕ) → Contains xs text → ReadsAsAmended a text)
     → Amending.notices_amended a (Amending.notices_amended a xs) ≡ Amending.notices_amended a xs
-notices_again a xs back reads =
+notices_again a xs back short reads =
     ap set_of (filter_map_stays (Amending.notice_amended a) (Amending.notices_amended a xs) stays)
     ∙ set_again (filter_map (Amending.notice_amended a) xs)
   where
@@ -331,12 +304,12 @@ notices_again a xs back reads =
     stays z h =
         let from =
         filter_map_from (Amending.notice_amended a) xs z (In-set_of (filter_map (Amending.notice_amended a) xs) z h) in
-        notice_again a from.0 z back.holders (reads from.0 (Contains-from_in xs from.0 from.1)) from.2
+        notice_again a from.0 z back.holders short (reads from.0 (Contains-from_in xs from.0 from.1)) from.2
 
-pub amended_again : (a : Amendments) (info new : Info) → BringNothingBack a
+pub amended_again : (a : Amendments) (info new : Info) → BringNothingBack a → HasFourDigits a.until
     → ((text : List ℕ) → Contains info.notices text → ReadsAsAmended a text) → Amending.amended a info ≡ Some new
     → Amending.amended a new ≡ Some new
-amended_again a info new back reads e =
+amended_again a info new back short reads e =
     let parts = are_amended a info new e in
     let licences : Amending.licences_amended a new.licences ≡ Some new.licences =
     subst (λ xs. Amending.licences_amended a xs ≡ Some xs) (sym parts.new_licences)
@@ -346,9 +319,9 @@ amended_again a info new back reads e =
     (contributors_again a info.contributors back) in
     let notices : Amending.notices_amended a new.notices ≡ new.notices =
     subst (λ xs. Amending.notices_amended a xs ≡ xs) (sym parts.new_notices)
-    (notices_again a info.notices back reads) in
-    ap (option_map
-    (together (Amending.notices_amended a new.notices) (Amending.contributors_amended a new.contributors))) licences
+    (notices_again a info.notices back short reads) in
+    ap (option_map (together (Amending.notices_amended a new.notices)
+    (Amending.contributors_amended a new.contributors))) licences
     ∙ ap (λ xs. Some (together xs (Amending.contributors_amended a new.contributors) new.licences)) notices
     ∙ ap (λ xs. Some (together new.notices xs new.licences)) contributors
   where

@@ -24,7 +24,7 @@ use Rattle.reuse_amend.proofs.CutLemmas.{WellCut, pieces_cut}
 use Rattle.reuse_amend.proofs.WordLemmas.{Word, kinds, without_blanks, blank_plain, name_is, identifier_pieces}
 use Rattle.reuse_amend.proofs.WordLemmas.{grouped_pieces}
 use Rattle.reuse_amend.proofs.ReplacedLemmas.{new_pieces}
-use Rattle.reuse_amend.proofs.FusedLemmas.{new_expression, replaced_pieces}
+use Rattle.reuse_amend.proofs.ReplacedPieceLemmas.{new_expression, replaced_pieces}
 use Rattle.reuse_amend.proofs.MeaningLemmas.{expression_is}
 
 -- ---- behind an expression comes no exception

@@ -31,7 +31,7 @@ abbrev first_passes : (ℕ → Bool) → List ℕ → Bool
 first_passes test [] = false
 first_passes test (b ∷ bytes) = test b
 
-abbrev last_passes : (ℕ → Bool) → List ℕ → Bool
+abbrev pub last_passes : (ℕ → Bool) → List ℕ → Bool
 last_passes test [] = false
 last_passes test (b ∷ []) = test b
 last_passes test (b ∷ c ∷ bytes) = last_passes test (c ∷ bytes)
@@ -39,7 +39,7 @@ last_passes test (b ∷ c ∷ bytes) = last_passes test (c ∷ bytes)
 abbrev first_blank : List ℕ → Bool
 first_blank bytes = first_passes is_blank bytes
 
-abbrev last_blank : List ℕ → Bool
+abbrev pub last_blank : List ℕ → Bool
 last_blank bytes = last_passes is_blank bytes
 
 abbrev holds_feed : List ℕ → Bool
@@ -55,7 +55,7 @@ first_more : (x y : List ℕ) → 0 < length x → first_blank (x ++ y) ≡ firs
 first_more [] y some = absurd (omega arith)
 first_more (b ∷ x) y some = refl
 
-last_more : (x y : List ℕ) → 0 < length y → last_blank (x ++ y) ≡ last_blank y
+pub last_more : (x y : List ℕ) → 0 < length y → last_blank (x ++ y) ≡ last_blank y
 last_more [] y some = refl
 last_more (b ∷ []) [] some = absurd (omega arith)
 last_more (b ∷ []) (c ∷ y) some = refl
@@ -106,7 +106,8 @@ last_replaced r behind p [] new cut last =
     let same : piece_replaced r behind p.0 ++ [] ≡ piece_replaced r behind p.0 =
     append-nil (piece_replaced r behind p.0) in (
       subst (λ t. 0 < length t) (sym same) (piece_some r behind p.0 new cut.0.some),
-      ap last_blank same ∙ last_kept r behind p.0 new own,
+      ap last_blank same
+          ∙ last_kept r behind p.0 new own,
     )
 last_replaced r behind p (q ∷ ps) new cut last =
     let n = length-append q.0 (together ps) in
@@ -116,7 +117,8 @@ last_replaced r behind p (q ∷ ps) new cut last =
     let h = last_replaced r (is_behind_with behind p.1) q ps new cut.2 rest in
     let m = length-append (piece_replaced r behind p.0) (pieces_replaced r (is_behind_with behind p.1) (q ∷ ps)) in (
       omega (arith, m, h.0),
-      last_more (piece_replaced r behind p.0) (pieces_replaced r (is_behind_with behind p.1) (q ∷ ps)) h.0 ∙ h.1,
+      last_more (piece_replaced r behind p.0)
+          (pieces_replaced r (is_behind_with behind p.1) (q ∷ ps)) h.0 ∙ h.1,
     )
 
 trim_pieces : (r : Replacement) (ps : List Word) → IsTrim r.new → WellCut ps → IsTrim (together ps)
@@ -196,7 +198,7 @@ module _ (test : ℕ → Bool) where
       by true h = omega (arith, h)
       by false h = omega arith
 
-  first_of : (xs : List ℕ) → drop_front test xs ≡ xs → first_passes test xs ≡ false
+  pub first_of : (xs : List ℕ) → drop_front test xs ≡ xs → first_passes test xs ≡ false
   unfolding drop_front
   first_of [] e = refl
   first_of (x ∷ xs) e = by (test x) refl e
@@ -205,7 +207,7 @@ module _ (test : ℕ → Bool) where
       by true is e' = absurd (let n = ap length e' in let m = no_more xs in omega (arith, n, m))
       by false is e' = is
 
-  last_of : (xs : List ℕ) → drop_end test xs ≡ xs → last_passes test xs ≡ false
+  pub last_of : (xs : List ℕ) → drop_end test xs ≡ xs → last_passes test xs ≡ false
   unfolding drop_end
   last_of [] e = refl
   last_of (x ∷ []) e = elim (truth (test x)) [
@@ -214,8 +216,8 @@ module _ (test : ℕ → Bool) where
   ]
   last_of (x ∷ y ∷ xs) e = elim (truth (list_all test (x ∷ y ∷ xs))) [
     | inl t ↦ absurd (not_nil x (y ∷ xs) (sym (ap (λ b. cond b [] (x ∷ drop_end test (y ∷ xs))) t) ∙ e))
-    | inr f ↦
-        last_of (y ∷ xs) (rest (drop_end test (y ∷ xs)) (sym (ap (λ b. cond b [] (x ∷ drop_end test (y ∷ xs))) f) ∙ e))
+    | inr f ↦ last_of (y ∷ xs) (rest (drop_end test (y ∷ xs))
+        (sym (ap (λ b. cond b [] (x ∷ drop_end test (y ∷ xs))) f) ∙ e))
   ]
     where
       rest : (ys : List ℕ) → x ∷ ys ≡ x ∷ y ∷ xs → ys ≡ y ∷ xs
@@ -234,7 +236,7 @@ not_all : (x : ℕ) (xs : List ℕ) → last_blank (x ∷ xs) ≡ false → list
 not_all x [] e = ap (λ t. t && true) e
 not_all x (y ∷ xs) e = and_none (is_blank x) (list_all is_blank (y ∷ xs)) (not_all y xs e)
 
-of_last : (xs : List ℕ) → last_blank xs ≡ false → drop_end is_blank xs ≡ xs
+pub of_last : (xs : List ℕ) → last_blank xs ≡ false → drop_end is_blank xs ≡ xs
 unfolding drop_end
 of_last [] e = refl
 of_last (x ∷ []) e = ap (λ t. cond t [] (x ∷ [])) (not_all x [] e)
@@ -278,8 +280,8 @@ plain_whole [] plain = absurd (plain.some refl)
 plain_whole (b ∷ text) plain = trim_whole (b ∷ text) (record {
   some = omega arith;
   first = full b (or-parts (is_control b) (list_any is_control text) plain.printable).0
-      (first_of is_space (b ∷ text)
-      (ap (drop_front is_space) (sym plain.trimmed) ∙ drop_front-kept is_space (b ∷ text) ∙ plain.trimmed));
+      (first_of is_space (b ∷ text) (ap (drop_front is_space) (sym plain.trimmed)
+      ∙ drop_front-kept is_space (b ∷ text) ∙ plain.trimmed));
   last = full_last (b ∷ text) plain.printable
       (last_of is_space (b ∷ text) (ap (drop_end is_space) (sym plain.trimmed)
       ∙ drop_end-twice is_space (drop_front is_space (b ∷ text)) ∙ plain.trimmed));

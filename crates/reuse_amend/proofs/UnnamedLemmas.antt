@@ -53,8 +53,8 @@ pieces_from-join zero (b ∷ bytes) =
   where
     by : (n : ℕ) → 0 < n → take n (b ∷ bytes) ++ drop (n - 1) bytes ≡ b ∷ bytes
     by zero low = absurd (omega arith)
-    by (suc n) low = let less : suc n - 1 ≡ n = omega arith in
-        ap (λ k. take (suc n) (b ∷ bytes) ++ drop k bytes) less ∙ ap (λ xs. b ∷ xs) (take-append-drop n bytes)
+    by (suc n) low = let less : suc n - 1 ≡ n = omega arith in ap (λ k. take (suc n) (b ∷ bytes) ++ drop k bytes) less
+        ∙ ap (λ xs. b ∷ xs) (take-append-drop n bytes)
 
 pub pieces-join : (text : List ℕ) → together (pieces_of text) ≡ text
 pieces-join text = pieces_from-join 0 text
@@ -66,12 +66,12 @@ pieces-stay : (r : Replacement) (behind : Bool) (pieces : List (List ℕ × Toke
 unfolding Amending.pieces_replaced
 pieces-stay r behind [] h = refl
 pieces-stay r behind (p ∷ pieces) h =
-    ap (λ b. cond (b && (is_identifier r.new || not behind)) (Amending.operand r.new) p.0 ++ Amending.pieces_replaced r
-    (Amending.is_behind_with behind p.1) pieces) (other_text p.0 r.old h.0)
+    ap (λ b. cond (b && (is_identifier r.new || not behind)) (Amending.operand r.new) p.0
+    ++ Amending.pieces_replaced r (Amending.is_behind_with behind p.1) pieces) (other_text p.0 r.old h.0)
     ∙ ap (λ xs. p.0 ++ xs) (pieces-stay r (Amending.is_behind_with behind p.1) pieces h.1)
 
-licence-stays : (r : Replacement) (value : List ℕ) → value ≢ r.old → AllByRecursion (λ p. p.0 ≢ r.old) (pieces_of value)
-    → Amending.licence_replaced r value ≡ Some value
+licence-stays : (r : Replacement) (value : List ℕ) → value ≢ r.old
+    → AllByRecursion (λ p. p.0 ≢ r.old) (pieces_of value) → Amending.licence_replaced r value ≡ Some value
 licence-stays r value whole tokens =
     ap (λ b. cond b (Some r.new) (cond (is_identifier r.old && is_none (fault_of value))
     (Amending.if_expression (Amending.expression_replaced r value)) (Some value))) (other_text value r.old whole)
@@ -99,8 +99,8 @@ each-has : (f : List ℕ → Option (List ℕ)) (xs ys : List (List ℕ)) (x y :
     → In x xs → f x ≡ Some y → In y ys
 unfolding Amending.each_made
 each-has f [] ys x y e h is = absurd h
-each-has f (z ∷ xs) ys x y e h is =
-    by (λ others rest k. each-has f xs others x y rest k is) (f z) refl (Amending.each_made f xs) refl e
+each-has f (z ∷ xs) ys x y e h is = by (λ others rest k. each-has f xs others x y rest k is) (f z) refl
+    (Amending.each_made f xs) refl e
   where
     later : ((others : List (List ℕ)) → Amending.each_made f xs ≡ Some others → In x xs → In y others)
         → (made : List ℕ) (others : List (List ℕ)) → f z ≡ Some made → Amending.each_made f xs ≡ Some others
@@ -113,8 +113,8 @@ each-has f (z ∷ xs) ys x y e h is =
         → option_and_then (λ made. option_map (λ others. made ∷ others) os) o ≡ Some ys → In y ys
     by again None first os rest e' = absurd (cc e')
     by again (Some made) first None rest e' = absurd (cc e')
-    by again (Some made) first (Some others) rest e' = let same : made ∷ others ≡ ys = cc e' in
-        subst (In y) same (later again made others first rest h)
+    by again (Some made) first (Some others) rest e' = let same : made ∷ others
+        ≡ ys = cc e' in subst (In y) same (later again made others first rest h)
 
 without-has : (removed xs : List (List ℕ)) (x : List ℕ) → is_among removed x ≡ false → In x xs
     → In x (without removed xs)
@@ -133,18 +133,18 @@ map-has f [] x h = absurd h
 map-has f (z ∷ xs) x (inl e) = inl (ap f e)
 map-has f (z ∷ xs) x (inr h) = inr (map-has f xs x h)
 
-filter_map-has : (f : List ℕ → Option (List ℕ)) (xs : List (List ℕ)) (x y : List ℕ) → In x xs → f x ≡ Some y
+pub filter_map-has : (f : List ℕ → Option (List ℕ)) (xs : List (List ℕ)) (x y : List ℕ) → In x xs → f x ≡ Some y
     → In y (filter_map f xs)
 filter_map-has f [] x y h is = absurd h
-filter_map-has f (z ∷ xs) x y (inl e) is =
-    subst (λ o. In y (cons_option o (filter_map f xs))) (sym is ∙ ap f e) (inl refl)
+filter_map-has f (z ∷ xs) x y (inl e) is = subst (λ o. In y (cons_option o (filter_map f xs))) (sym is ∙ ap f e)
+    (inl refl)
 filter_map-has f (z ∷ xs) x y (inr h) is = by (filter_map-has f xs x y h is) (f z)
   where
     by : In y (filter_map f xs) → (o : Option (List ℕ)) → In y (cons_option o (filter_map f xs))
     by again None = again
     by again (Some w) = inr again
 
-in_set : (xs : List (List ℕ)) (x : List ℕ) → In x xs → Contains (set_of xs) x
+pub in_set : (xs : List (List ℕ)) (x : List ℕ) → In x xs → Contains (set_of xs) x
 in_set xs x h = Contains-from_in (set_of xs) x (set_of-has xs x h)
 
 -- ---- the information
@@ -171,8 +171,8 @@ are_amended a info new e = by (Amending.each_made (Amending.licence_amended a.re
   where
     by : (o : Option (List (List ℕ)))
         → Amending.each_made (Amending.licence_amended a.replaced_licences) info.licences ≡ o
-        → option_map (amended_with a info)
-        (option_map (λ texts. set_of (without a.removed_licences texts)) o) ≡ Some new → AreAmended a info new
+        → option_map (amended_with a info) (option_map (λ texts. set_of (without a.removed_licences texts)) o)
+        ≡ Some new → AreAmended a info new
     by None is e' = absurd (cc e')
     by (Some licences) is e' =
         let same : amended_with a info (set_of (without a.removed_licences licences)) ≡ new = cc e' in
@@ -197,87 +197,20 @@ other_licence-stays a info new value e other h =
 
 pub text-stays : (rs : List Replacement) (text : List ℕ) → IsNoOld rs text → Amending.text_amended rs text ≡ text
 text-stays [] text h = refl
-text-stays (r ∷ rs) text h =
-    ap (λ b. fold Amending.text_replaced (cond b r.new text) rs) (other_text text r.old h.0) ∙ text-stays rs text h.1
+text-stays (r ∷ rs) text h = ap (λ b. fold Amending.text_replaced (cond b r.new text) rs) (other_text text r.old h.0)
+    ∙ text-stays rs text h.1
 
 pub other_contributor-stays : (a : Amendments) (info new : Info) (text : List ℕ) → Amending.amended a info ≡ Some new
     → IsOtherContributor a text → Contains info.contributors text → Contains new.contributors text
 other_contributor-stays a info new text e other h =
     let parts = are_amended a info new e in
     let f = Amending.text_amended a.replaced_contributors in
-    let stands : In text (map f info.contributors) =
-    subst (λ t. In t (map f info.contributors)) (text-stays a.replaced_contributors text other.whole)
+    let stands : In text (map f info.contributors) = subst (λ t. In t (map f info.contributors))
+    (text-stays a.replaced_contributors text other.whole)
     (map-has f info.contributors text (In-from_contains info.contributors text h)) in
     subst (λ xs. Contains xs text) (sym parts.new_contributors)
     (in_set (without a.removed_contributors (map f info.contributors)) text
     (without-has a.removed_contributors (map f info.contributors) text other.stays stands))
-
-pub own_years : (o : Option Years) → same_years o o ≡ true
-own_years None = refl
-own_years (Some y) = ap (λ b. b && nat_eq y.high y.high) (eq-eqb y.low y.low refl) ∙ eq-eqb y.high y.high refl
-
-says_itself : (n : NoticeText) → says n.prefix n.years n.holder (Some n) ≡ true
-says_itself n =
-    ap (λ b. b && same_years n.years n.years && bytes_eq n.holder n.holder) (own_text (prefix_text n.prefix))
-    ∙ ap (λ b. b && bytes_eq n.holder n.holder) (own_years n.years) ∙ own_text n.holder
-
-notice-stays : (a : Amendments) (text : List ℕ) → IsOtherNotice a text → Amending.notice_amended a text ≡ Some text
-notice-stays a text other =
-    let n = other.notice in
-    ap (λ o. option_map_or (λ m. Amending.holder_amended a m (Amending.text_amended a.replaced_holders m.holder)) o
-    (Some text)) other.read
-    ∙ ap (Amending.holder_amended a n) (text-stays a.replaced_holders n.holder other.whole)
-    ∙ ap (λ b. cond b None (Some (Amending.notice_saying (Amending.prefix_amended a n n.holder)
-    (Amending.years_amended a n n.holder) n.holder n))) other.stays
-    ∙ ap (λ p. Some (Amending.notice_saying p (Amending.years_amended a n n.holder) n.holder n))
-    (prefix_is (Amending.concerns a n.holder))
-    ∙ ap (λ y. Some (Amending.notice_saying n.prefix y n.holder n)) (years_is (Amending.concerns a n.holder) n.years)
-    ∙ ap (λ b. Some (cond b n.text (notice_written n.prefix n.years n.holder))) (says_itself n)
-    ∙ ap (λ t. Some t) (text_kept text n other.read)
-  where
-    prefix_is : (b : Bool) → cond b (unwrap_or a.prefix other.notice.prefix) other.notice.prefix ≡ other.notice.prefix
-    prefix_is true = ap (λ o. unwrap_or o other.notice.prefix) other.prefix
-    prefix_is false = refl
-
-    years_is : (b : Bool) (o : Option Years)
-        → cond b (option_map (λ years. option_map_or (λ year. Amending.years_until year years) a.until years) o) o ≡ o
-    years_is true None = refl
-    years_is true (Some y) = ap (λ u. Some (option_map_or (λ year. Amending.years_until year y) u y)) other.until
-    years_is false o = refl
-
-pub other_notice-stays : (a : Amendments) (info new : Info) (text : List ℕ) → Amending.amended a info ≡ Some new
-    → IsOtherNotice a text → Contains info.notices text → Contains new.notices text
-other_notice-stays a info new text e other h =
-    let parts = are_amended a info new e in
-    subst (λ xs. Contains xs text) (sym parts.new_notices)
-    (in_set (filter_map (Amending.notice_amended a) info.notices) text
-    (filter_map-has (Amending.notice_amended a) info.notices text text (In-from_contains info.notices text h)
-    (notice-stays a text other)))
-
--- ---- years
-
-include-own : (o : Option Years) → Include o o
-include-own None = tt
-include-own (Some y) = (omega arith, omega arith)
-
-include-until : (u : Option ℕ) (y : Years)
-    → Include (Some (option_map_or (λ year. Amending.years_until year y) u y)) (Some y)
-include-until None y = include-own (Some y)
-include-until (Some year) y = by (nat_lt y.high year) refl
-  where
-    by : (b : Bool) → nat_lt y.high year ≡ b → Include (Some (cond b (record { low = y.low; high = year }) y)) (Some y)
-    by true e = let low : y.high < year = ltb-true y.high year e in (omega arith, omega arith)
-    by false e = include-own (Some y)
-
-pub include-amended : (a : Amendments) (n : NoticeText) (holder : List ℕ)
-    → Include (Amending.years_amended a n holder) n.years
-include-amended a n holder = by (Amending.concerns a holder) n.years
-  where
-    by : (b : Bool) (o : Option Years) → Include
-        (cond b (option_map (λ years. option_map_or (λ year. Amending.years_until year years) a.until years) o) o) o
-    by true None = tt
-    by true (Some y) = include-until a.until y
-    by false o = include-own o
 
 -- ---- the same
 

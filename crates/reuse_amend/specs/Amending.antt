@@ -1,7 +1,7 @@
 -- What amendments make of the licensing information of a file (this project's own; docs/RULES.md, "What amend
 -- writes").
-use Rattle.std.specs.Prelude.{ℕ, Bool, true, false, not, ◌&&◌, ◌||◌, nat_lt, List, [], ◌∷◌, ◌++◌, map, filter_map, fold}
-use Rattle.std.specs.Prelude.{Option, None, Some, unwrap_or, if◌then◌else◌, codes}
+use Rattle.std.specs.Prelude.{ℕ, Bool, true, false, not, ◌&&◌, ◌||◌, nat_lt, List, [], ◌∷◌, ◌++◌, length, drop, map}
+use Rattle.std.specs.Prelude.{filter_map, fold, Option, None, Some, unwrap_or, if◌then◌else◌, codes}
 use Rattle.std.specs.Option.{option_map, option_map_or, option_and_then, is_none}
 use Rattle.std.specs.Str.{bytes_eq}
 use Rattle.reuse_notice.specs.declared.expressions.Token.{Token}
@@ -10,15 +10,16 @@ use Rattle.reuse_amend.specs.declared.replacements.Replacement.{Replacement}
 use Rattle.reuse_amend.specs.declared.amendments.Amendments.{Amendments}
 use Rattle.reuse_notice.specs.declared.infos.Info.{Info}
 use Rattle.reuse_notice.specs.declared.prefixes.Prefix.{Prefix}
-use Rattle.reuse_notice.specs.declared.tags.Years.{Years}
 use Rattle.reuse_notice.specs.Sets.{set_of}
-use Rattle.reuse_notice.specs.Tags.{NoticeText, notice_of}
-use Rattle.reuse_notice.specs.Adding.{notice_written}
-use Rattle.reuse_notice.specs.Merging.{says}
+use Rattle.reuse_notice.specs.Tags.{all_blank}
+use Rattle.reuse_notice.specs.Adding.{four_digits}
+use Rattle.reuse_notice.specs.Prefixes.{prefix_text}
 use Rattle.reuse_notice.specs.MergeSteps.{is_among}
 use Rattle.reuse_notice.specs.ExpressionSteps.{fault_of}
 use Rattle.reuse_notice.specs.TextLists.{without}
 use Rattle.reuse_amend.specs.Pieces.{pieces_of, is_identifier, has_operator}
+use Rattle.reuse_amend.specs.YearSpans.{SpanText, upto, run_front}
+use Rattle.reuse_amend.specs.NoticeParts.{Parts, parts_text, parts_of}
 
 -- ---- licences
 
@@ -85,35 +86,62 @@ text_replaced text r = if bytes_eq text r.old then r.new else text
 abbrev pub text_amended : List Replacement → List ℕ → List ℕ
 text_amended replacements text = fold text_replaced text replacements
 
--- years that reach a year, if there are some
-abbrev pub years_until : ℕ → Years → Years
-years_until year years = if nat_lt years.high year then record { low = years.low; high = year } else years
-
 -- whether the amendments of years and prefix are of this holder, as they are of each where they name none
 abbrev pub concerns : Amendments → List ℕ → Bool
 concerns a holder = option_map_or (λ only. bytes_eq holder only) a.holder true
 
-abbrev pub years_amended : Amendments → NoticeText → List ℕ → Option Years
-years_amended a n holder = if concerns a holder
-    then option_map (λ years. option_map_or (λ year. years_until year years) a.until years) n.years else n.years
+abbrev pub if_concerned : {X : Type 0} → Amendments → List ℕ → Option X → Option X
+if_concerned a holder o = if concerns a holder then o else None
 
-abbrev pub prefix_amended : Amendments → NoticeText → List ℕ → Prefix
-prefix_amended a n holder = if concerns a holder then unwrap_or a.prefix n.prefix else n.prefix
+-- ---- notices
 
--- a notice with this prefix, these years and this holder: its own text, if it says them already
-abbrev pub notice_saying : Prefix → Option Years → List ℕ → NoticeText → List ℕ
-notice_saying prefix years holder n =
-    if says prefix years holder (Some n) then n.text else notice_written prefix years holder
+-- years from one to another, as an addition writes them
+abbrev pub range_text : ℕ → ℕ → List ℕ
+range_text low high = four_digits low ++ codes " - " ++ four_digits high
+
+-- whether years end before a year; those that last until today don't
+abbrev pub is_before : ℕ → Option ℕ → Bool
+is_before year None = false
+is_before year (Some high) = nat_lt high year
+
+-- years of which the span that ends last reaches a year, if none does yet; all other bytes stay
+abbrev pub span_until : ℕ → List ℕ → SpanText → List ℕ
+span_until year years span =
+    if is_before year span.high then upto years span.start ++ range_text span.low year ++ span.rest else years
+
+abbrev pub years_until : ℕ → List ℕ → List ℕ
+years_until year years = option_map_or (λ run. span_until year years run.latest) (run_front years) years
+
+-- all in front of years and holder, with another prefix: as it is, if it is this prefix and blank bytes
+abbrev pub is_front : Prefix → Parts → Bool
+is_front prefix p =
+    bytes_eq (prefix_text p.prefix) (prefix_text prefix)
+    && all_blank (drop (length (prefix_text p.prefix)) p.front)
+
+abbrev pub front_with : Parts → Prefix → List ℕ
+front_with p prefix = if is_front prefix p then p.front else prefix_text prefix ++ codes " "
+
+-- the parts of a notice, amended, where its holder becomes this one
+abbrev pub parts_amended : Amendments → Parts → List ℕ → Parts
+parts_amended a p holder = record {
+  prefix = unwrap_or (if_concerned a holder a.prefix) p.prefix;
+  front = option_map_or (front_with p) (if_concerned a holder a.prefix) p.front;
+  years = option_map_or (λ year. years_until year p.years) (if_concerned a holder a.until) p.years;
+  between = p.between;
+  holder = holder;
+  trailing = p.trailing;
+  years_first = p.years_first;
+}
 
 -- what a notice becomes, none where its holder is removed
-abbrev pub holder_amended : Amendments → NoticeText → List ℕ → Option (List ℕ)
-holder_amended a n holder =
-    if is_among a.removed_holders holder then None
-    else Some (notice_saying (prefix_amended a n holder) (years_amended a n holder) holder n)
+abbrev pub holder_amended : Amendments → Parts → List ℕ → Option (List ℕ)
+holder_amended a p holder =
+    if is_among a.removed_holders holder then None else Some (parts_text (parts_amended a p holder))
 
 abbrev pub notice_amended : Amendments → List ℕ → Option (List ℕ)
 notice_amended a text =
-    option_map_or (λ n. holder_amended a n (text_amended a.replaced_holders n.holder)) (notice_of text) (Some text)
+    option_map_or (λ p. holder_amended a p (text_amended a.replaced_holders p.holder)) (parts_of text)
+    (Some text)
 
 -- ---- the information
 

@@ -1,7 +1,11 @@
 pub mod Pieces
+pub mod YearSpans
+pub mod NoticeParts
+pub mod PartViews
 pub mod Amending
 pub mod AmendmentViews
 pub mod Unnamed
+pub mod InPlace
 pub mod Searched
 pub mod Settled
 pub mod Meanings

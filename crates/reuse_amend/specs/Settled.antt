@@ -1,18 +1,20 @@
 -- Amendments after which nothing is left to amend (this project's own).
-use Rattle.std.specs.Prelude.{◌≡◌, ◌≢◌, ◌≤◌, ℕ, nat_eq, Bool, true, ◌||◌, List, [], ◌∷◌, take, Option, None, Some}
-use Rattle.std.specs.Prelude.{IsUtf8, codes}
+use Rattle.std.specs.Prelude.{◌≡◌, ◌≢◌, ◌≤◌, ℕ, nat_eq, Bool, true, false, ◌&&◌, ◌||◌, ◌==◌, List, [], ◌∷◌, take}
+use Rattle.std.specs.Prelude.{Option, None, Some, IsUtf8, codes}
 use Rattle.std.specs.Char.{is_ascii_digit}
 use Rattle.std.specs.List.{AllByRecursion, list_any, starts_with}
 use Rattle.reuse_amend.specs.declared.replacements.Replacement.{Replacement}
 use Rattle.reuse_amend.specs.declared.amendments.Amendments.{Amendments}
 use Rattle.reuse_notice.specs.declared.tags.Years.{Years}
 use Rattle.reuse_notice.specs.Prefixes.{copyright_sign}
-use Rattle.reuse_notice.specs.Tags.{NoticeText, notice_of}
-use Rattle.reuse_notice.specs.Merging.{says}
+use Rattle.reuse_notice.specs.Tags.{is_blank, drop_front}
+use Rattle.reuse_notice.specs.MergeSteps.{is_among}
 use Rattle.reuse_notice.specs.Plain.{IsPlain}
 use Rattle.reuse_notice.specs.ExpressionSteps.{fault_of}
 use Rattle.reuse_amend.specs.Pieces.{pieces_of, is_identifier}
-use Rattle.reuse_amend.specs.Amending.{text_amended, years_amended, prefix_amended, notice_amended}
+use Rattle.reuse_amend.specs.NoticeParts.{Parts, parts_text, parts_of}
+use Rattle.reuse_amend.specs.Amending.{text_amended, parts_amended}
+use Rattle.reuse_amend.specs.InPlace.{goes_on}
 
 -- a replacement after which a licence stands nowhere anew: neither NEW is the licence nor a token of it; and where the
 -- replacement works within expressions, the licence isn't one of several tokens, which might be put together
@@ -38,12 +40,13 @@ pub record BringNothingBack (a : Amendments) : Type 0 where
   pub holders : NoTextComesBack a.replaced_holders
   pub contributors : NoTextComesBack a.replaced_contributors
 
--- what a notice becomes is read with the prefix, the years and the holder that it was to have
+-- what a notice becomes is read as the parts that it is put together of
 abbrev pub ReadsAsAmended : Amendments → List ℕ → Type 0
 ReadsAsAmended a text =
-    (notice : NoticeText) (new : List ℕ) → notice_of text ≡ Some notice → notice_amended a text ≡ Some new
-    → let holder = text_amended a.replaced_holders notice.holder in
-    says (prefix_amended a notice holder) (years_amended a notice holder) holder (notice_of new) ≡ true
+    (parts : Parts) → parts_of text ≡ Some parts
+    → is_among a.removed_holders (text_amended a.replaced_holders parts.holder) ≡ false
+    → let new = parts_amended a parts (text_amended a.replaced_holders parts.holder) in
+    parts_of (parts_text new) ≡ Some new
 
 -- each NEW is plain, as the calls that take it make sure of
 pub record WritePlainTexts (a : Amendments) : Type 0 where
@@ -65,6 +68,21 @@ may_be_misread holder =
     list_any is_ascii_digit (take 1 holder)
     || list_any (λ lead. starts_with nat_eq holder lead)
     (codes "-" ∷ codes "(C)" ∷ codes "Copyright" ∷ copyright_sign ∷ [])
+
+-- whether a comma stands in a text, and behind it and blank bytes a digit
+abbrev pub begins_digit : List ℕ → Bool
+begins_digit bytes = list_any is_ascii_digit (take 1 bytes)
+
+abbrev pub has_dated_comma : List ℕ → Bool
+has_dated_comma [] = false
+has_dated_comma (b ∷ bytes) = (b == 44 && begins_digit (drop_front is_blank bytes)) || has_dated_comma bytes
+
+-- a holder that might be read so by amend, too, or as years behind a holder
+abbrev pub may_be_read_on : List ℕ → Bool
+may_be_read_on holder =
+    may_be_misread holder || goes_on holder
+    || list_any (λ lead. starts_with nat_eq holder lead) (codes ":" ∷ codes "(c)" ∷ [])
+    || has_dated_comma holder
 
 -- years in order, and of four digits, if there are some
 abbrev pub CanBeWritten : Option Years → Type 0

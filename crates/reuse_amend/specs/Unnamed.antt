@@ -3,9 +3,10 @@ use Rattle.std.specs.Prelude.{◌≡◌, ◌≢◌, ℕ, false, List, None, Some
 use Rattle.std.specs.List.{AllByRecursion}
 use Rattle.reuse_amend.specs.declared.replacements.Replacement.{Replacement}
 use Rattle.reuse_amend.specs.declared.amendments.Amendments.{Amendments}
-use Rattle.reuse_notice.specs.Tags.{NoticeText, notice_of}
 use Rattle.reuse_notice.specs.MergeSteps.{is_among}
 use Rattle.reuse_amend.specs.Pieces.{pieces_of}
+use Rattle.reuse_amend.specs.NoticeParts.{Parts, parts_of}
+use Rattle.reuse_amend.specs.Amending.{if_concerned}
 
 -- a text is none of those that are replaced
 abbrev pub IsNoOld : List Replacement → List ℕ → Type 0
@@ -26,11 +27,11 @@ pub record IsOtherContributor (a : Amendments) (text : List ℕ) : Type 0 where
   pub whole : IsNoOld a.replaced_contributors text
   pub stays : is_among a.removed_contributors text ≡ false
 
--- a notice whose holder they don't name, where they set neither years nor prefix
+-- a notice whose holder they don't name, and for which they set neither years nor a prefix
 pub record IsOtherNotice (a : Amendments) (text : List ℕ) : Type 0 where
-  pub notice : NoticeText
-  pub read : notice_of text ≡ Some notice
-  pub whole : IsNoOld a.replaced_holders notice.holder
-  pub stays : is_among a.removed_holders notice.holder ≡ false
-  pub until : a.until ≡ None
-  pub prefix : a.prefix ≡ None
+  pub parts : Parts
+  pub read : parts_of text ≡ Some parts
+  pub whole : IsNoOld a.replaced_holders parts.holder
+  pub stays : is_among a.removed_holders parts.holder ≡ false
+  pub until : if_concerned a parts.holder a.until ≡ None
+  pub prefix : if_concerned a parts.holder a.prefix ≡ None

@@ -5,20 +5,24 @@ ghost use Rattle.reuse_amend.specs.declared.amendments.Amendments.{Amendments};
 ghost use Rattle.reuse_notice.specs.declared.prefixes.Prefix.{Prefix};
 ghost use Rattle.reuse_notice.specs.declared.tags.Years.{Years};
 ghost use Rattle.reuse_notice.specs.Tags.{NoticeText, is_blank, all_blank, trimmed, year_of, notice_of};
-ghost use Rattle.reuse_notice.specs.Keeping.{Include};
 ghost use Rattle.reuse_notice.specs.Infos.{says_the_same};
 ghost use Rattle.reuse_amend.specs.declared.replacements.Replacement.{Replacement};
 ghost use Rattle.reuse_notice.specs.Expressions.{IsExpressionText};
 ghost use Rattle.reuse_amend.specs.Pieces.{pieces_of, is_identifier};
 ghost use Rattle.reuse_amend.specs.Meanings.{Meaning, Means, meaning_replaced};
-ghost use Rattle.reuse_amend.specs.Amending.{amended, years_amended, licence_replaced, licence_amended, text_amended};
+ghost use Rattle.reuse_amend.specs.Amending.{amended, licence_replaced, licence_amended, text_amended, notice_amended};
+ghost use Rattle.reuse_amend.specs.Amending.{parts_amended};
+ghost use Rattle.reuse_amend.specs.YearSpans.{spans_of};
+ghost use Rattle.reuse_amend.specs.NoticeParts.{Parts, parts_text, parts_of};
+ghost use Rattle.reuse_amend.specs.InPlace.{IsChangedInPlace, EachIncludes, goes_on, IsReadAlike, addition_amended};
 ghost use Rattle.reuse_amend.specs.Unnamed.{IsOtherLicence, IsOtherContributor, IsOtherNotice};
 ghost use Rattle.reuse_notice.specs.ExpressionSteps.{fault_of};
 ghost use Rattle.reuse_notice.specs.Adding.{without_spaces, is_bad_text, notice_written};
 ghost use Rattle.reuse_notice.specs.Merging.{says};
+ghost use Rattle.reuse_notice.specs.MergeSteps.{is_among};
 ghost use Rattle.reuse_notice.specs.Plain.{IsPlain};
-ghost use Rattle.reuse_amend.specs.Settled.{NoLicenceComesBack, BringNothingBack, ReadsAsAmended, WritePlainTexts};
-ghost use Rattle.reuse_amend.specs.Settled.{CanBeWritten, HasFourDigits, may_be_misread};
+ghost use Rattle.reuse_amend.specs.Settled.{NoLicenceComesBack, BringNothingBack, ReadsAsAmended, CanBeWritten};
+ghost use Rattle.reuse_amend.specs.Settled.{HasFourDigits, WritePlainTexts, may_be_misread, may_be_read_on};
 
 /// A licence is its pieces, put together: its tokens and the bytes between them.
 pub fn licences_are_their_pieces()
@@ -38,10 +42,28 @@ pub fn unnamed_information_stays()
     ensures free { (a : Amendments) (info new : Info) → amended a info ≡ Some new → new.free ≡ info.free }
 {}
 
-/// The years of an amended notice include those that it had: none is lowered at its end.
+/// The parts of a notice, put together, are its text. Amendments change them in place: the holder,
+/// one span of the years, and all in front of both, if a prefix is set. All else stays byte for
+/// byte.
+pub fn notices_are_changed_in_place()
+    ensures parts { (text : List ℕ) (parts : Parts) → parts_of text ≡ Some parts → parts_text parts ≡ text }
+    ensures changed { (a : Amendments) (text new : List ℕ) (parts : Parts) → parts_of text ≡ Some parts
+        → notice_amended a text ≡ Some new → IsChangedInPlace a parts new }
+{}
+
+/// The years of an amended notice include those that it had: no span is lost, and none ends
+/// earlier, if the year has four digits.
 pub fn amended_years_include_the_old()
-    ensures { (a : Amendments) (notice : NoticeText) (holder : List ℕ)
-        → Include (years_amended a notice holder) notice.years }
+    ensures { (a : Amendments) (parts : Parts) (holder : List ℕ) → HasFourDigits a.until
+        → EachIncludes (spans_of parts.years) (spans_of (parts_amended a parts holder).years) }
+{}
+
+/// Where annotate reads years in a notice, amend reads the same prefix, years and holder, unless
+/// the holder might be read as a part of the years.
+pub fn years_are_read_alike()
+    ensures { (text : List ℕ) (notice : NoticeText) (years : Years) → notice_of text ≡ Some notice
+        → notice.years ≡ Some years → goes_on notice.holder ≡ false
+        → (parts : Parts) × (parts_of text ≡ Some parts) × IsReadAlike notice years parts }
 {}
 
 /// Information says the same exactly where the notices, the contributors and the licences are the
@@ -72,7 +94,7 @@ pub fn replaced_licences_keep_their_meaning()
 pub fn second_amendments_change_nothing()
     ensures licences { (replacements : List Replacement) (value new : List ℕ) → NoLicenceComesBack replacements
         → licence_amended replacements value ≡ Some new → licence_amended replacements new ≡ Some new }
-    ensures information { (a : Amendments) (info new : Info) → BringNothingBack a
+    ensures information { (a : Amendments) (info new : Info) → BringNothingBack a → HasFourDigits a.until
         → ((text : List ℕ) → Contains info.notices text → ReadsAsAmended a text) → amended a info ≡ Some new
         → amended a new ≡ Some new }
 {}
@@ -86,13 +108,25 @@ pub fn replacing_texts_are_plain()
 {}
 
 /// A notice is read with the prefix, the years and the holder that it is written of, where the
-/// holder begins neither as years may go on nor as a prefix may. So is each that amendments write,
-/// if their texts are plain and their year has four digits.
+/// holder begins neither as years may go on nor as a prefix may. Amended, it is read as the parts
+/// that it is put together of, where neither holder might be read as years, too.
 pub fn written_notices_are_read()
     ensures written { (prefix : Prefix) (years : Option Years) (holder : List ℕ) → CanBeWritten years
         → all_blank holder ≡ false → trimmed is_blank holder ≡ holder → may_be_misread holder ≡ false
         → says prefix years holder (notice_of (notice_written prefix years holder)) ≡ true }
-    ensures amended { (a : Amendments) (text : List ℕ) → WritePlainTexts a → HasFourDigits a.until
-        → ((notice : NoticeText) → notice_of text ≡ Some notice
-        → may_be_misread (text_amended a.replaced_holders notice.holder) ≡ false) → ReadsAsAmended a text }
+    ensures amended { (a : Amendments) (prefix : Prefix) (years : Option Years) (holder : List ℕ) → WritePlainTexts a
+        → HasFourDigits a.until → CanBeWritten years
+        → all_blank holder ≡ false → trimmed is_blank holder ≡ holder → may_be_read_on holder ≡ false
+        → may_be_read_on (text_amended a.replaced_holders holder) ≡ false
+        → ReadsAsAmended a (notice_written prefix years holder) }
+{}
+
+/// A notice that is written as an addition is stays one: it gets the prefix, the years and the
+/// holder that the amendments make of its own.
+pub fn additions_stay_additions()
+    ensures { (a : Amendments) (prefix : Prefix) (years : Option Years) (holder : List ℕ) → CanBeWritten years
+        → all_blank holder ≡ false → trimmed is_blank holder ≡ holder → may_be_read_on holder ≡ false
+        → is_among a.removed_holders (text_amended a.replaced_holders holder) ≡ false
+        → notice_amended a (notice_written prefix years holder) ≡ Some
+        (addition_amended a prefix years (text_amended a.replaced_holders holder)) }
 {}

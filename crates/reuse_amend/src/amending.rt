@@ -1,19 +1,20 @@
 //! What amendments make of notices, contributors and licences.
-ghost use Rattle.std.specs.Prelude.{◌≡◌, ◌++◌, IfOk, OnOk};
-ghost use Rattle.std.specs.Option.{option_to_list};
-ghost use Rattle.reuse_notice.specs.TagViews.{notice_view};
+ghost use Rattle.std.specs.Prelude.{◌≡◌, ◌++◌, IfOk, OnOk, if◌then◌else◌};
+ghost use Rattle.std.specs.Option.{option_map_or, option_to_list};
+ghost use Rattle.reuse_amend.specs.NoticeParts.{parts_text};
+ghost use Rattle.reuse_amend.specs.PartViews.{span_view, parts_view};
 ghost use Rattle.reuse_amend.specs.Amending.{amended, each_made, licence_amended, text_amended, text_replaced};
-ghost use Rattle.reuse_amend.specs.Amending.{years_until, years_amended, prefix_amended, notice_saying, notice_amended};
-ghost use Rattle.reuse_amend.specs.Amending.{notices_amended, contributors_amended, licences_amended, licence_alone};
-ghost use Rattle.reuse_amend.specs.Amending.{unless_removed};
+ghost use Rattle.reuse_amend.specs.Amending.{range_text, is_before, span_until, years_until, is_front, front_with};
+ghost use Rattle.reuse_amend.specs.Amending.{parts_amended, holder_amended, notice_amended, notices_amended};
+ghost use Rattle.reuse_amend.specs.Amending.{contributors_amended, licences_amended, licence_alone, unless_removed};
 ghost use Rattle.reuse_amend.specs.AmendmentViews.{IsAnswer};
 
 use crate::amendments::{AmendRefusal, Amendments};
+use crate::notice_parts::{NoticeParts, read_parts};
 use crate::replacements::Replacement;
 use crate::replacing::amend_licence;
-use reuse_notice::{
-    Info, Notice, Prefix, TextSet, Texts, Years, is_among, read_notice, says, write_notice,
-};
+use crate::year_spans::{Span, read_run, upto};
+use reuse_notice::{Info, Prefix, TextSet, Texts, is_all_blank, is_among, push_year};
 use reuse_text::Bytes;
 use std::alloc::{AllocError, Global};
 
@@ -190,69 +191,142 @@ fn amend_notice(
 ) -> Result<Option<Bytes>, AllocError>
     ensures { IfOk result (λ amended. amended ≡ notice_amended amendments.now text.now) }
 {
-    let Some(notice) = read_notice(text) else {
-        return Ok(Some(Bytes::from_slice(alloc, text)?));
-    };
-    let holder = amend_text(notice.holder, amendments.replaced_holders.as_slice());
-    if is_among(amendments.removed_holders.as_slice(), holder) {
-        return Ok(None);
-    }
-    let years = amend_years(amendments, notice, holder);
-    let prefix = amend_prefix(amendments, notice, holder);
-    Ok(Some(write_saying(alloc, notice, prefix, years, holder)?))
-}
-
-// The years of a notice whose holder becomes this one.
-fn amend_years(amendments: &Amendments, notice: Notice<'_>, holder: &[u8]) -> Option<Years>
-    ensures { result ≡ years_amended amendments.now (notice_view notice.entry) holder.now }
-{
-    let Some(years) = notice.years else {
-        return None;
-    };
-    match amendments.until {
-        Some(year) if amendments.concern(holder) => Some(reach_year(years, year)),
-        _ => Some(years),
-    }
-}
-
-// Years that reach a year.
-fn reach_year(years: Years, year: u16) -> Years
-    ensures { result ≡ years_until year years }
-{
-    if years.high < year {
-        Years {
-            low: years.low,
-            high: year,
+    match read_parts(text) {
+        None => Ok(Some(Bytes::from_slice(alloc, text)?)),
+        Some(parts) => {
+            let holder = amend_text(parts.holder, amendments.replaced_holders.as_slice());
+            amend_parts(alloc, amendments, parts, holder)
         }
-    } else {
-        years
     }
 }
 
-// The prefix of a notice whose holder becomes this one.
-fn amend_prefix(amendments: &Amendments, notice: Notice<'_>, holder: &[u8]) -> Prefix
-    ensures { result ≡ prefix_amended amendments.now (notice_view notice.entry) holder.now }
-{
-    match amendments.prefix {
-        Some(prefix) if amendments.concern(holder) => prefix,
-        _ => notice.prefix,
-    }
-}
-
-// The text of a notice with this prefix, these years and this holder: its own, if it says them
-// already.
-fn write_saying(
+// What a notice becomes whose holder becomes this one, none where it is removed.
+fn amend_parts(
     alloc: Global,
-    notice: Notice<'_>,
-    prefix: Prefix,
-    years: Option<Years>,
+    amendments: &Amendments,
+    parts: NoticeParts<'_>,
+    holder: &[u8],
+) -> Result<Option<Bytes>, AllocError>
+    ensures { IfOk result (λ amended. amended ≡ holder_amended amendments.now (parts_view parts.entry) holder.now) }
+{
+    if is_among(amendments.removed_holders.as_slice(), holder) {
+        Ok(None)
+    } else {
+        Ok(Some(write_amended(alloc, amendments, parts, holder)?))
+    }
+}
+
+// The text of a notice whose holder becomes this one: its own, but for the parts that change.
+fn write_amended(
+    alloc: Global,
+    amendments: &Amendments,
+    parts: NoticeParts<'_>,
     holder: &[u8],
 ) -> Result<Bytes, AllocError>
-    ensures { IfOk result (λ text. text ≡ notice_saying prefix years holder.now (notice_view notice.entry)) }
+    ensures { IfOk result
+        (λ text. text ≡ parts_text (parts_amended amendments.now (parts_view parts.entry) holder.now)) }
 {
-    if says(notice, prefix, years, holder) {
-        Bytes::from_slice(alloc, notice.text)
+    let (until, prefix) = amendments.chosen_for(holder);
+    let years = reach(alloc, until, parts.years)?;
+    let (first, last) = in_turn(parts.years_first, years.as_slice(), holder);
+    let mut text = write_front(alloc, prefix, parts)?;
+    text.push_slice(first)?;
+    text.push_slice(parts.between)?;
+    text.push_slice(last)?;
+    text.push_slice(parts.trailing)?;
+    Ok(text)
+}
+
+// Years and holder, as one of them comes first.
+fn in_turn<'a>(years_first: bool, years: &'a [u8], holder: &'a [u8]) -> (&'a [u8], &'a [u8])
+    ensures first { result.0.now ≡ (if years_first then years.now else holder.now) }
+    ensures last { result.1.now ≡ (if years_first then holder.now else years.now) }
+{
+    if years_first {
+        (years, holder)
     } else {
-        write_notice(alloc, prefix, years, holder)
+        (holder, years)
+    }
+}
+
+// All in front of the years and the holder, with another prefix if one is chosen.
+fn write_front(
+    alloc: Global,
+    prefix: Option<Prefix>,
+    parts: NoticeParts<'_>,
+) -> Result<Bytes, AllocError>
+    ensures { IfOk result
+        (λ front. front ≡ option_map_or (front_with (parts_view parts.entry)) prefix (parts_view parts.entry).front) }
+{
+    match prefix {
+        Some(prefix) if !is_front(prefix, parts) => {
+            let mut front = Bytes::from_slice(alloc, prefix.text().as_bytes())?;
+            front.push_slice(b" ")?;
+            Ok(front)
+        }
+        _ => Bytes::from_slice(alloc, parts.front),
+    }
+}
+
+// Whether all in front of the years and the holder is this prefix and blank bytes.
+fn is_front(prefix: Prefix, parts: NoticeParts<'_>) -> bool
+    ensures { result ≡ is_front prefix (parts_view parts.entry) }
+{
+    let own = parts.prefix.text();
+    own == prefix.text()
+        && (own.len() >= parts.front.len() || is_all_blank(&parts.front[own.len()..]))
+}
+
+// ---- years
+
+// The years, of which the span that ends last reaches a year if one is chosen.
+fn reach(alloc: Global, until: Option<u16>, years: &[u8]) -> Result<Bytes, AllocError>
+    ensures { IfOk result (λ reached. reached ≡ option_map_or (λ year. years_until year years.now) until years.now) }
+{
+    match until {
+        None => Bytes::from_slice(alloc, years),
+        Some(year) => reach_year(alloc, year, years),
+    }
+}
+
+// Years of which the span that ends last reaches a year.
+fn reach_year(alloc: Global, year: u16, years: &[u8]) -> Result<Bytes, AllocError>
+    ensures { IfOk result (λ reached. reached ≡ years_until year years.now) }
+{
+    match read_run(years) {
+        None => Bytes::from_slice(alloc, years),
+        Some(run) => reach_span(alloc, year, years, run.latest),
+    }
+}
+
+// Years of which a span reaches a year, if it doesn't yet.
+fn reach_span(alloc: Global, year: u16, years: &[u8], span: Span<'_>) -> Result<Bytes, AllocError>
+    ensures { IfOk result (λ reached. reached ≡ span_until year years.now (span_view span.entry)) }
+{
+    if !is_before(year, span.high) {
+        return Bytes::from_slice(alloc, years);
+    }
+    let mut text = Vec::from_slice(alloc, upto(years, span.start))?;
+    push_range(&mut text, span.low, year)?;
+    text.extend_from_slice(span.rest)?;
+    Ok(Bytes::from_vec(text))
+}
+
+// Adds years from one to another.
+fn push_range(text: &mut Vec<u8>, low: u16, high: u16) -> Result<(), AllocError>
+    ensures { OnOk result (text.new.items ≡ text.old.items ++ range_text low high) }
+{
+    push_year(text, low)?;
+    text.extend_from_slice(b" - ")?;
+    push_year(text, high)
+}
+
+// Whether years end before a year; those that last until today don't.
+fn is_before(year: u16, high: Option<u16>) -> bool
+    ensures { result ≡ is_before year high }
+{
+    match high {
+        None => false,
+        Some(high) => high < year,
     }
 }

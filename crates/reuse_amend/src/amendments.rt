@@ -55,7 +55,7 @@ impl Amendments {
     ghost use Rattle.reuse_notice.specs.Refusals.{refusal_view};
     ghost use Rattle.reuse_notice.specs.Adding.{bad_licence, bad_text, bad_year};
     ghost use Rattle.reuse_amend.specs.AmendmentViews.{no_amendments, replacement};
-    ghost use Rattle.reuse_amend.specs.Amending.{concerns};
+    ghost use Rattle.reuse_amend.specs.Amending.{concerns, if_concerned};
 
     /// Amendments that change nothing.
     pub fn new(alloc: Global) -> Amendments
@@ -224,8 +224,20 @@ impl Amendments {
         Ok(())
     }
 
+    // The year and the prefix that are chosen for the notices of a holder.
+    pub(crate) fn chosen_for(&self, holder: &[u8]) -> (Option<u16>, Option<Prefix>)
+        ensures until { result.0 ≡ if_concerned self.now holder.now self.now.until }
+        ensures prefix { result.1 ≡ if_concerned self.now holder.now self.now.prefix }
+    {
+        if self.concern(holder) {
+            (self.until, self.prefix)
+        } else {
+            (None, None)
+        }
+    }
+
     // Whether the year and the prefix are for the notices of this holder.
-    pub(crate) fn concern(&self, holder: &[u8]) -> bool
+    fn concern(&self, holder: &[u8]) -> bool
         ensures { result ≡ concerns self.now holder.now }
     {
         match &self.holder {

@@ -6,15 +6,17 @@
 mod amend_laws;
 mod amending;
 mod amendments;
+mod notice_parts;
 mod replacements;
 mod replacing;
 mod searched;
+mod year_spans;
 
 pub use amend_laws::{
-    amended_years_include_the_old, expressions_have_one_meaning, licences_are_their_pieces,
-    replaced_licences_keep_their_meaning, replacing_texts_are_plain,
-    second_amendments_change_nothing, the_same_is_said_by_the_same, unnamed_information_stays,
-    written_notices_are_read,
+    additions_stay_additions, amended_years_include_the_old, expressions_have_one_meaning,
+    licences_are_their_pieces, notices_are_changed_in_place, replaced_licences_keep_their_meaning,
+    replacing_texts_are_plain, second_amendments_change_nothing, the_same_is_said_by_the_same,
+    unnamed_information_stays, written_notices_are_read, years_are_read_alike,
 };
 pub use amending::{amend_info, amend_one_licence, amend_one_notice};
 pub use amendments::{AmendRefusal, Amendments};

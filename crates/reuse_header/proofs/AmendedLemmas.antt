@@ -7,25 +7,26 @@ use Rattle.std.specs.List.{AllByRecursion}
 use Rattle.std.specs.Str.{bytes_eq}
 use Rattle.reuse_text.specs.declared.LineKind.{LineKind}
 use Rattle.reuse_text.specs.Text.{AreLines, lines_of, after_mark}
-use Rattle.reuse_notice.specs.declared.prefixes.Prefix.{Prefix}
 use Rattle.reuse_notice.specs.declared.infos.Info.{Info}
 use Rattle.reuse_amend.specs.declared.amendments.Amendments.{Amendments}
 use Rattle.reuse_amend.specs.declared.replacements.Replacement.{Replacement}
-use Rattle.reuse_notice.specs.Tags.{NoticeText, notice_of, trimmed, stripped, tag_of}
+use Rattle.reuse_notice.specs.Tags.{trimmed, stripped, tag_of}
 use Rattle.reuse_notice.specs.Contents.{notice_text, contributor_value, licence_value, is_blank_content}
-use Rattle.reuse_notice.specs.Adding.{notice_written}
 use Rattle.reuse_notice.specs.Infos.{info_of}
-use Rattle.reuse_notice.specs.Merging.{says}
 use Rattle.reuse_notice.specs.MergeSteps.{is_among}
 use Rattle.reuse_notice.specs.Plain.{IsPlain}
 use Rattle.reuse_notice.specs.Sets.{IsSorted}
 use Rattle.reuse_notice.specs.TextLists.{without}
-use Rattle.reuse_amend.specs.Amending.{text_replaced, text_amended, licence_amended, each_made, years_amended}
-use Rattle.reuse_amend.specs.Amending.{prefix_amended, notice_saying, holder_amended, notice_amended, amended}
+use Rattle.reuse_amend.specs.Amending.{text_replaced, text_amended, licence_amended, each_made, parts_amended}
+use Rattle.reuse_amend.specs.Amending.{notice_amended, amended}
+use Rattle.reuse_amend.specs.NoticeParts.{Parts, parts_text, parts_of}
 use Rattle.reuse_amend.specs.Settled.{WritePlainTexts}
-use Rattle.reuse_notice.proofs.ClassLemmas.{text_kept}
 use Rattle.reuse_amend.proofs.UnnamedLemmas.{are_amended}
-use Rattle.reuse_amend.proofs.ShapeLemmas.{IsWhole, whole_kept, feedless_kept}
+use Rattle.reuse_amend.proofs.ShapeLemmas.{IsWhole, plain_whole, whole_kept, feedless_kept}
+use Rattle.reuse_amend.proofs.JoinedLemmas.{parts_whole}
+use Rattle.reuse_amend.proofs.InPlaceLemmas.{becomes}
+use Rattle.reuse_amend.proofs.ShapedLemmas.{begin_kept, end_kept}
+use Rattle.reuse_amend.proofs.AbsentLemmas.{absent_amended}
 use Rattle.reuse_header.specs.declared.style.Style.{Style}
 use Rattle.reuse_header.specs.declared.style.Form.{Form}
 use Rattle.reuse_header.specs.Styles.{punctuation_of}
@@ -36,13 +37,13 @@ use Rattle.reuse_header.specs.Writing.{contributor_text, licence_text, block_lin
 use Rattle.reuse_header.specs.Reading.{IsSayable}
 use Rattle.reuse_header.specs.Laws.{AreContents}
 use Rattle.reuse_header.specs.LowerLaws.{Known}
-use Rattle.reuse_header.proofs.SayableLemmas.{IsValue, Each, all_of_each, each_of_all, each_set, contributor_again}
-use Rattle.reuse_header.proofs.SayableLemmas.{licence_again, contributor_read, licence_read, info_sayable, found_clean}
-use Rattle.reuse_header.proofs.SayableLemmas.{neighbour_clean}
-use Rattle.reuse_header.proofs.PlainLemmas.{NoFillers, letters, no_letters, plain_value, value_notice}
+use Rattle.reuse_header.proofs.SayableLemmas.{IsValue, notice_read, Each, all_of_each, each_of_all, each_set}
+use Rattle.reuse_header.proofs.SayableLemmas.{contributor_again, licence_again, contributor_read, licence_read}
+use Rattle.reuse_header.proofs.SayableLemmas.{info_sayable, found_clean, neighbour_clean}
+use Rattle.reuse_header.proofs.PlainLemmas.{NoFillers, letters, no_letters, plain_value, begins_notice}
 use Rattle.reuse_header.proofs.InfoLemmas.{each_said_of, each_filtered}
-use Rattle.reuse_header.proofs.FeedLemmas.{Feedless, HasNoFeed, plain_feedless, written_feedless, holder_feedless}
-use Rattle.reuse_header.proofs.FeedLemmas.{found_feedless, neighbour_feedless, info_feedless}
+use Rattle.reuse_header.proofs.FeedLemmas.{Feedless, HasNoFeed, is_feed, feed_low, plain_feedless, found_feedless}
+use Rattle.reuse_header.proofs.FeedLemmas.{neighbour_feedless, info_feedless}
 use Rattle.reuse_header.proofs.LinesLemmas.{sayable_contents, sayable_neighbour}
 
 -- ---- what holds of each old text and of each new one holds of what becomes of the old
@@ -83,47 +84,6 @@ module _ (P : List ℕ → Type 0) where
       by true = new.0
       by false = h
 
--- a notice stays, or it is written of its holder
-pub record IsWrittenAnew (a : Amendments) (text new : List ℕ) : Type 0 where
-  pub notice : NoticeText
-  pub prefix : Prefix
-  pub read : notice_of text ≡ Some notice
-  pub holder : List ℕ
-  pub holder_is : holder ≡ text_amended a.replaced_holders notice.holder
-  pub written : notice_written prefix (years_amended a notice holder) holder ≡ new
-
-pub notice_becomes : (a : Amendments) (text new : List ℕ) → notice_amended a text ≡ Some new
-    → (text ≡ new) ⊎ IsWrittenAnew a text new
-notice_becomes a text new e = by (notice_of text) refl e
-  where
-    saying : (n : NoticeText) → notice_of text ≡ Some n → (b : Bool) (prefix : Prefix)
-        → (let holder = text_amended a.replaced_holders n.holder in cond b n.text
-        (notice_written prefix (years_amended a n holder) holder) ≡ new → (text ≡ new) ⊎ IsWrittenAnew a text new)
-    saying n read true prefix same = inl (sym (text_kept text n read) ∙ same)
-    saying n read false prefix same = inr (record {
-      notice = n;
-      prefix = prefix;
-      read = read;
-      holder = text_amended a.replaced_holders n.holder;
-      holder_is = refl;
-      written = same;
-    })
-
-    stays : (b : Bool) (made : List ℕ) → cond b None (Some made) ≡ Some new → made ≡ new
-    stays true made e' = absurd (let none : ⊥ = cc e' in none)
-    stays false made e' = cc e'
-
-    by : (o : Option NoticeText) → notice_of text ≡ o
-        → option_map_or (λ n. holder_amended a n (text_amended a.replaced_holders n.holder)) o (Some text) ≡ Some new
-        → (text ≡ new) ⊎ IsWrittenAnew a text new
-    by None read e' = inl (cc e')
-    by (Some n) read e' =
-        let holder = text_amended a.replaced_holders n.holder in
-        saying n read (says (prefix_amended a n holder) (years_amended a n holder) holder (Some n))
-        (prefix_amended a n holder)
-        (stays (is_among a.removed_holders holder)
-        (notice_saying (prefix_amended a n holder) (years_amended a n holder) holder n) e')
-
 -- what has to be known of the texts
 pub record Turns (a : Amendments) (N C L : List ℕ → Type 0) : Type 0 where
   pub notice : (text new : List ℕ) → N text → notice_amended a text ≡ Some new → N new
@@ -152,12 +112,12 @@ turned a N C L w old new e h =
 
 -- ---- amended information reads back
 
-holder_value : Known → (a : Amendments) → WritePlainTexts a → (text : List ℕ) (n : NoticeText) → notice_of text ≡ Some n
-    → IsValue (text_amended a.replaced_holders n.holder)
-holder_value known a plain text n read =
-    text_kept_by IsValue a.replaced_holders n.holder
-    (all_by (λ r. IsPlain r.new) (λ r. IsValue r.new) a.replaced_holders (λ r h. plain_value r.new h) plain.holders)
-    (record { some = known.merges.some text n read; trim = known.merges.trim text n read })
+holder_whole : (a : Amendments) → WritePlainTexts a → (text : List ℕ) (p : Parts) → parts_of text ≡ Some p
+    → IsWhole (text_amended a.replaced_holders p.holder)
+holder_whole a plain text p read =
+    text_kept_by IsWhole a.replaced_holders p.holder
+    (all_by (λ r. IsPlain r.new) (λ r. IsWhole r.new) a.replaced_holders (λ r h. plain_whole r.new h) plain.holders)
+    (parts_whole text p read)
 
 licence_value_kept : (a : Amendments) → WritePlainTexts a → (value new : List ℕ) → IsValue value
     → licence_amended a.replaced_licences value ≡ Some new → IsValue new
@@ -184,11 +144,15 @@ sayable_turns known punct fillers a plain = record {
   where
     notice : (text new : List ℕ) → notice_text (tag_of punct text) ≡ Some text → notice_amended a text ≡ Some new
         → notice_text (tag_of punct new) ≡ Some new
-    notice text new said e = elim (notice_becomes a text new e) [
+    notice text new said e = elim (becomes a text new e) [
       | inl same ↦ subst (λ (t : List ℕ). notice_text (tag_of punct t) ≡ Some t) same said
-      | inr w ↦ subst (λ (t : List ℕ). notice_text (tag_of punct t) ≡ Some t) w.written
-          (value_notice punct fillers known.none w.prefix (years_amended a w.notice w.holder) w.holder
-          (subst IsValue (sym w.holder_is) (holder_value known a plain text w.notice w.read)))
+      | inr w ↦ (let n = notice_read punct text said in
+          let whole = holder_whole a plain text w.parts w.read in
+          subst (λ (t : List ℕ). notice_text (tag_of punct t) ≡ Some t) w.written
+          (begins_notice punct fillers known.none
+          (parts_text (parts_amended a w.parts (text_amended a.replaced_holders w.parts.holder)))
+          (begin_kept a text w.parts (text_amended a.replaced_holders w.parts.holder) n.prefix w.read n.found whole)
+          (end_kept a text w.parts (text_amended a.replaced_holders w.parts.holder) w.read whole n.end)))
     ]
 
 amended_sayable : Known → (punct : List ℕ) → NoFillers punct → (a : Amendments) → WritePlainTexts a → (old new : Info)
@@ -231,15 +195,13 @@ feedless_turns a plain = record {
 }
   where
     notice : (text new : List ℕ) → Feedless text → notice_amended a text ≡ Some new → Feedless new
-    notice text new f e = elim (notice_becomes a text new e) [
+    notice text new f e = elim (becomes a text new e) [
       | inl same ↦ subst Feedless same f
       | inr w ↦ (let new_are = all_by (λ r. IsPlain r.new) (λ r. Feedless r.new) a.replaced_holders
           (λ r h. plain_feedless r.new h) plain.holders in
-          let kept =
-          text_kept_by Feedless a.replaced_holders w.notice.holder new_are (holder_feedless text w.notice w.read f) in
           subst Feedless w.written
-          (written_feedless w.prefix (years_amended a w.notice w.holder) w.holder
-          (subst Feedless (sym w.holder_is) kept)))
+          (absent_amended is_feed feed_low a text w.parts (text_amended a.replaced_holders w.parts.holder) w.read f
+          (λ old. text_kept_by Feedless a.replaced_holders w.parts.holder new_are old)))
     ]
 
 amended_feedless : (a : Amendments) → WritePlainTexts a → (old new : Info) → amended a old ≡ Some new → HasNoFeed old

@@ -10,13 +10,13 @@ use Rattle.reuse_amend.specs.declared.amendments.Amendments.{Amendments}
 use Rattle.reuse_amend.specs.declared.replacements.Replacement.{Replacement}
 use Rattle.reuse_notice.specs.Infos.{info_of}
 use Rattle.reuse_notice.specs.Plain.{IsPlain}
-use Rattle.reuse_amend.specs.Amending.{years_amended, notice_amended, amended}
+use Rattle.reuse_amend.specs.Amending.{text_amended, notice_amended, amended}
 use Rattle.reuse_amend.specs.Settled.{WritePlainTexts, WriteUtf8Texts, HasFourDigits}
 use Rattle.reuse_amend.proofs.UnnamedLemmas.{are_amended}
 use Rattle.reuse_notice.proofs.SoundLemmas.{IsSound, sound_append}
-use Rattle.reuse_notice.proofs.NoticeSoundLemmas.{written_sound}
 use Rattle.reuse_amend.proofs.ShapeLemmas.{plain_sound, sound_kept}
-use Rattle.reuse_amend.proofs.OrdinaryLemmas.{amended_digits}
+use Rattle.reuse_amend.proofs.InPlaceLemmas.{becomes}
+use Rattle.reuse_amend.proofs.AbsentLemmas.{sound_amended}
 use Rattle.reuse_header.specs.declared.style.Style.{Style}
 use Rattle.reuse_header.specs.declared.annotation.HeaderRefusal.TheVariants.{NotText}
 use Rattle.reuse_header.specs.declared.amendment.AmendHeaderRefusal.TheVariants.{Header as HeaderRefused}
@@ -30,13 +30,13 @@ use Rattle.reuse_header.specs.Amendment.{amended_file}
 use Rattle.reuse_header.proofs.SayableLemmas.{Each}
 use Rattle.reuse_header.proofs.LawLemmas.{text_of_edit, text_lines, neighbour_text}
 use Rattle.reuse_header.proofs.LineSoundLemmas.{mark_sound}
-use Rattle.reuse_header.proofs.InfoSoundLemmas.{IsSoundInfo, holder_sound, info_sound}
+use Rattle.reuse_header.proofs.InfoSoundLemmas.{IsSoundInfo, info_sound}
 use Rattle.reuse_header.proofs.MadeTextLemmas.{block_sound, ended_sound, no_punctuation, no_marks, text_is, text_made}
 use Rattle.reuse_header.proofs.MadeTextLemmas.{contents_are, behind_end}
 use Rattle.reuse_header.proofs.FileTextLemmas.{marks_sound, low_filler, low_punctuation, span_sound}
 use Rattle.reuse_header.proofs.AmendmentLawLemmas.{amendment_ok, amending_replaces, none_stays, neighbour_amendment_ok}
 use Rattle.reuse_header.proofs.AmendmentLawLemmas.{amending_replaces_neighbour}
-use Rattle.reuse_header.proofs.AmendedLemmas.{text_kept_by, notice_becomes, Turns, turned}
+use Rattle.reuse_header.proofs.AmendedLemmas.{text_kept_by, Turns, turned}
 use Rattle.reuse_header.proofs.SecondLemmas.{of_edit, both}
 
 -- ---- the information
@@ -62,15 +62,12 @@ sound_turns a w = record {
 }
   where
     notice : (text new : List ℕ) → IsSound text → notice_amended a text ≡ Some new → IsSound new
-    notice text new s e = elim (notice_becomes a text new e) [
+    notice text new s e = elim (becomes a text new e) [
       | inl same ↦ subst IsSound same s
       | inr n ↦ (let new_are = sound_new a.replaced_holders w.plain.holders w.utf8.holders in
-          let kept =
-          text_kept_by IsSound a.replaced_holders n.notice.holder new_are (holder_sound text n.notice n.read s) in
-          let digits = amended_digits a text n.notice n.holder w.short n.read in
           subst IsSound n.written
-          (written_sound n.prefix (years_amended a n.notice n.holder) n.holder digits
-          (subst IsSound (sym n.holder_is) kept)))
+          (sound_amended a text n.parts (text_amended a.replaced_holders n.parts.holder) n.read w.short s
+          (λ old. text_kept_by IsSound a.replaced_holders n.parts.holder new_are old)))
     ]
 
 amended_sound : (a : Amendments) → WriteText a → (old new : Info) → amended a old ≡ Some new → IsSoundInfo old

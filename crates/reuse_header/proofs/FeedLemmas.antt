@@ -1,6 +1,6 @@
 -- The texts of contents and of additions hold no LF.
-use Rattle.std.proofs.Common.{◌≡◌, ℕ, zero, suc, ◌+◌, ◌/◌, ◌%◌, Bool, true, false, List, [], ◌∷◌, ◌++◌, length, drop}
-use Rattle.std.proofs.Common.{map, Option, None, Some, refl, sym, ap, subst, ◌∙◌, arith}
+use Rattle.std.proofs.Common.{◌≡◌, ℕ, zero, suc, ◌+◌, ◌/◌, ◌%◌, ◌<◌, Bool, true, false, List, [], ◌∷◌, ◌++◌, length}
+use Rattle.std.proofs.Common.{drop, map, Option, None, Some, refl, sym, ap, subst, ◌∙◌, arith}
 use Rattle.std.specs.Prelude.{not, ◌&&◌, ◌==◌, if◌then◌else◌, Contains, codes, nat_eq}
 use Rattle.std.specs.List.{list_any, starts_with}
 use Rattle.std.specs.Option.{option_map}
@@ -38,6 +38,9 @@ use Rattle.reuse_header.proofs.InfoLemmas.{EachText, EachAdded, Spreads, each_re
 
 abbrev pub is_feed : ℕ → Bool
 is_feed b = b == 10
+
+pub feed_low : (b : ℕ) → is_feed b ≡ true → b < 32
+feed_low b e = let same : b ≡ 10 = eqb-true b 10 e in omega (arith, same)
 
 abbrev pub Feedless : List ℕ → Type 0
 Feedless bytes = list_any is_feed bytes ≡ false

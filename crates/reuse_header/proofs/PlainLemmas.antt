@@ -18,6 +18,7 @@ use Rattle.reuse_notice.specs.Contents.{notice_text}
 use Rattle.reuse_notice.specs.Adding.{Arguments, is_space, is_control, notice_written, years_text, chosen_years}
 use Rattle.reuse_notice.specs.Adding.{additions_of}
 use Rattle.reuse_notice.specs.Plain.{IsPlain, ArePlain}
+use Rattle.reuse_amend.proofs.ShapedLemmas.{BeginsNotice, begins_leaves}
 use Rattle.reuse_header.specs.declared.style.Style.{Style}
 use Rattle.reuse_header.specs.declared.style.Style.TheVariants.{Python, C, Css, Html, Haskell, Tex, Lisp, Semicolon, Ml}
 use Rattle.reuse_header.specs.declared.style.Style.TheVariants.{Vim}
@@ -245,6 +246,33 @@ value_notice punct letters none prefix years holder is =
     ap (drop_end is_blank) b.1 ∙ end_behind is_blank b.0 holder is.some
     ∙ ap (λ (xs : List ℕ). b.0 ++ xs) (value_whole holder is) ∙ sym b.1 in
     notice_said punct letters none prefix years holder ends
+
+-- what begins as a notice, and ends in no blank byte, reads as that notice
+no_lead : (prefix : Prefix) (rest : List ℕ) → (value_after licence_lead (prefix_text prefix ++ rest) ≡ None)
+    × (value_after contributor_lead (prefix_text prefix ++ rest) ≡ None)
+no_lead Spdx rest = (refl, refl)
+no_lead SpdxC rest = (refl, refl)
+no_lead SpdxSymbol rest = (refl, refl)
+no_lead SpdxString rest = (refl, refl)
+no_lead SpdxStringC rest = (refl, refl)
+no_lead SpdxStringSymbol rest = (refl, refl)
+no_lead String rest = (refl, refl)
+no_lead StringC rest = (refl, refl)
+no_lead StringSymbol rest = (refl, refl)
+no_lead Symbol rest = (refl, refl)
+
+pub begins_notice : (punct : List ℕ) → NoFillers punct
+    → ((text : List ℕ) (prefix : Prefix) → prefix_of text ≡ None → leaves_value text prefix ≡ false)
+    → (text : List ℕ) → BeginsNotice text → drop_end is_blank text ≡ text → notice_text (tag_of punct text) ≡ Some text
+begins_notice punct fillers none text b ends =
+    let leads = no_lead b.prefix b.rest in
+    let whole : stripped punct text ≡ text =
+    ap (λ (t : List ℕ). drop_end is_blank (drop_front (is_filler punct) t)) b.is
+    ∙ ap (drop_end is_blank) (first_stays punct fillers b.prefix b.rest)
+    ∙ ap (drop_end is_blank) (sym b.is) ∙ ends in
+    ap (λ (t : List ℕ). notice_text (tag_in t)) whole
+    ∙ said_by text b.prefix (ap (value_after licence_lead) b.is ∙ leads.0)
+    (ap (value_after contributor_lead) b.is ∙ leads.1) (begins_leaves text b) none
 
 each_notice : (punct : List ℕ) → NoFillers punct
     → ((text : List ℕ) (prefix : Prefix) → prefix_of text ≡ None → leaves_value text prefix ≡ false)

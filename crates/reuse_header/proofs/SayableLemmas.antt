@@ -166,6 +166,36 @@ notice_whole text t e = by_tags (value_after licence_lead text) (value_after con
     by_tags None None None e = absurd (let none : ⊥ = cc in none)
     by_tags None None (Some p) e = cc
 
+-- a text that is the whole of a notice has a prefix, and ends in no blank byte
+pub record NoticeRead (text : List ℕ) : Type 0 where
+  pub prefix : Prefix
+  pub found : prefix_of text ≡ Some prefix
+  pub end : drop_end is_blank text ≡ text
+
+prefix_found : (text t : List ℕ) → notice_text (tag_in text) ≡ Some t
+    → (prefix : Prefix) × (prefix_of text ≡ Some prefix)
+prefix_found text t e =
+    by_tags (value_after licence_lead text) (value_after contributor_lead text) (prefix_of text) refl e
+  where
+    by_tags : (licence contributor : Option (List ℕ)) (prefix : Option Prefix) → prefix_of text ≡ prefix
+        → notice_text (option_or (option_map a_licence licence) (option_or (option_map a_contributor contributor)
+        (option_map a_notice (option_map (notice_behind text) prefix)))) ≡ Some t
+        → (prefix : Prefix) × (prefix_of text ≡ Some prefix)
+    by_tags (Some l) contributor prefix is e = absurd (let none : ⊥ = cc in none)
+    by_tags None (Some c) prefix is e = absurd (let none : ⊥ = cc in none)
+    by_tags None None None is e = absurd (let none : ⊥ = cc in none)
+    by_tags None None (Some p) is e = (p, is)
+
+pub notice_read : (punct text : List ℕ) → notice_text (tag_of punct text) ≡ Some text → NoticeRead text
+notice_read punct text e =
+    let whole = notice_whole (stripped punct text) text e in
+    let found = prefix_found (stripped punct text) text e in
+    record {
+      prefix = found.0;
+      found = ap prefix_of whole ∙ found.1;
+      end = ap (drop_end is_blank) whole ∙ drop_end-twice is_blank (drop_front (is_filler punct) text) ∙ sym whole;
+    }
+
 notice_again : (punct content t : List ℕ) → notice_text (tag_of punct content) ≡ Some t
     → notice_text (tag_of punct t) ≡ Some t
 notice_again punct content t e =

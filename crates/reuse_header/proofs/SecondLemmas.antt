@@ -7,7 +7,7 @@ use Rattle.reuse_notice.specs.declared.infos.Info.{Info}
 use Rattle.reuse_amend.specs.declared.amendments.Amendments.{Amendments}
 use Rattle.reuse_notice.specs.Infos.{info_of, says_the_same}
 use Rattle.reuse_amend.specs.Amending.{amended}
-use Rattle.reuse_amend.specs.Settled.{BringNothingBack, WritePlainTexts}
+use Rattle.reuse_amend.specs.Settled.{BringNothingBack, WritePlainTexts, HasFourDigits}
 use Rattle.reuse_amend.proofs.UnnamedLemmas.{is_same}
 use Rattle.reuse_header.specs.declared.style.Style.{Style}
 use Rattle.reuse_header.specs.declared.amendment.AmendHeaderRefusal.{AmendHeaderRefusal}
@@ -31,8 +31,8 @@ use Rattle.reuse_header.proofs.AmendedLemmas.{amended_reads, amended_neighbour_r
 abbrev pub Second : Type 0
 Second =
     (a : Amendments)
-    (info new : Info) → BringNothingBack a → NoticesReadAsAmended a info → amended a info ≡ Some new
-    → amended a new ≡ Some new
+    (info new : Info) → BringNothingBack a → HasFourDigits a.until → NoticesReadAsAmended a info
+    → amended a info ≡ Some new → amended a new ≡ Some new
 
 pub both : (r : Result (Option Edit) AmendHeaderRefusal) (edit : Edit) → r ≡ Ok None → r ≡ Ok (Some edit) → ⊥
 both r edit none some = let same = sym none ∙ some in cc
@@ -68,11 +68,11 @@ said style file span e = by (header_of style file) refl e
         ∙ ap (λ (s : HeaderSpan). Some (info_of (punctuation_of style) s.contents)) same
 
 block_again : Second → Known → Laws → (style : Style) (a : Amendments) (file : List ℕ) (edit : Edit) (span : HeaderSpan)
-    → BringNothingBack a → WritePlainTexts a
+    → BringNothingBack a → HasFourDigits a.until → WritePlainTexts a
     → NoticesReadAsAmended a (info_of (punctuation_of style) span.contents)
     → option_map (span_in file) (header_of style file) ≡ Some span → amendment_of style a file ≡ Ok (Some edit)
     → amendment_of style a (edited file edit) ≡ Ok None
-block_again second known laws style a file edit span back plain reads found e =
+block_again second known laws style a file edit span back short plain reads found e =
     let old = info_of (punctuation_of style) span.contents in
     let w = amendment_ok style a file edit span e found in
     let kind = kind_of_file file in
@@ -88,38 +88,41 @@ block_again second known laws style a file edit span back plain reads found e =
     block s.0 s.1 in
     let q =
     quiet a (info_of (punctuation_of style) read.0.contents) w.info read.1.says
-    (second a old w.info back reads w.is.made) in
+    (second a old w.info back short reads w.is.made) in
     same_stays style a (edited file edit) read.0 w.info read.1.found q.0 q.1
 
 edit_again : Second → Known → Laws → (style : Style) (a : Amendments) (file : List ℕ) (edit : Edit) → BringNothingBack a
+    → HasFourDigits a.until
     → WritePlainTexts a
     → ((info : Info) → information_in style file ≡ Some info → NoticesReadAsAmended a info)
     → amendment_of style a file ≡ Ok (Some edit) → amendment_of style a (edited file edit) ≡ Ok None
-edit_again second known laws style a file edit back plain reads e =
+edit_again second known laws style a file edit back short plain reads e =
     by (option_map (span_in file) (header_of style file)) refl
   where
     by : (o : Option HeaderSpan) → option_map (span_in file) (header_of style file) ≡ o
         → amendment_of style a (edited file edit) ≡ Ok None
     by None found = absurd (both (amendment_of style a file) edit (none_stays style a file found) e)
     by (Some span) found =
-        block_again second known laws style a file edit span back plain
+        block_again second known laws style a file edit span back short plain
         (reads (info_of (punctuation_of style) span.contents) (said style file span found)) found e
 
 pub file_again : Second → Known → Laws → (style : Style) (a : Amendments) (file made : List ℕ) → BringNothingBack a
+    → HasFourDigits a.until
     → WritePlainTexts a
     → ((info : Info) → information_in style file ≡ Some info → NoticesReadAsAmended a info)
     → amended_file file (amendment_of style a file) ≡ Ok made → amendment_of style a made ≡ Ok None
-file_again second known laws style a file made back plain reads e =
+file_again second known laws style a file made back short plain reads e =
     of_edit (λ m. amendment_of style a m ≡ Ok None) file made (amendment_of style a file) e (λ none. none)
-    (λ edit is. edit_again second known laws style a file edit back plain reads is)
+    (λ edit is. edit_again second known laws style a file edit back short plain reads is)
 
 -- ---- neighbour files
 
 neighbour_edit_again : Second → Known → Laws → (a : Amendments) (file : List ℕ) (edit : Edit) → BringNothingBack a
+    → HasFourDigits a.until
     → WritePlainTexts a
     → NoticesReadAsAmended a (info_of [] (neighbour_contents file)) → is_text (edited file edit) ≡ true
     → neighbour_amendment_of a file ≡ Ok (Some edit) → neighbour_amendment_of a (edited file edit) ≡ Ok None
-neighbour_edit_again second known laws a file edit back plain reads text e =
+neighbour_edit_again second known laws a file edit back short plain reads text e =
     let w = neighbour_amendment_ok a file edit e in
     let made = edited file edit in
     let kind = kind_of_file file in
@@ -140,14 +143,15 @@ neighbour_edit_again second known laws a file edit back plain reads text e =
     ∙ read_back laws w.info s.0 in
     let q =
     quiet a (info_of [] (neighbour_contents made)) w.info says
-    (second a (info_of [] (neighbour_contents file)) w.info back reads w.is.made) in
+    (second a (info_of [] (neighbour_contents file)) w.info back short reads w.is.made) in
     neighbour_stays a made w.info text q.0 q.1
 
 pub neighbour_again : Second → Known → Laws → (a : Amendments) (file made : List ℕ) → BringNothingBack a
+    → HasFourDigits a.until
     → WritePlainTexts a
     → NoticesReadAsAmended a (info_of [] (neighbour_contents file)) → is_text made ≡ true
     → amended_file file (neighbour_amendment_of a file) ≡ Ok made → neighbour_amendment_of a made ≡ Ok None
-neighbour_again second known laws a file made back plain reads text e =
+neighbour_again second known laws a file made back short plain reads text e =
     of_edit (λ m. is_text m ≡ true → neighbour_amendment_of a m ≡ Ok None) file made (neighbour_amendment_of a file) e
     (λ none _. none)
-    (λ edit is good. neighbour_edit_again second known laws a file edit back plain reads good is) text
+    (λ edit is good. neighbour_edit_again second known laws a file edit back short plain reads good is) text

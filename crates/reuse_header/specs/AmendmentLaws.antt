@@ -33,6 +33,6 @@ pub record AmendsNeighbour (a : Amendments) (file : List ℕ) (edit : Edit) : Ty
   pub is : IsAmended a (info_of [] (neighbour_contents file)) info
   pub text : edit.text ≡ block_text neighbour_marks (kind_of_file file) info
 
--- each notice of some information, amended, is read with what it was to say
+-- each notice of some information, amended, is read as the parts that it is put together of
 abbrev pub NoticesReadAsAmended : Amendments → Info → Type 0
 NoticesReadAsAmended a info = (text : List ℕ) → Contains info.notices text → ReadsAsAmended a text

@@ -116,14 +116,15 @@ pub fn amended_texts_are_texts()
 }
 
 /// The same amendments leave a file that they made as it is, where they bring nothing back, write
-/// plain texts, and each notice that they write is read with what it was to say. A neighbour must
-/// still be text: if not, it is refused.
+/// plain texts and a year of four digits, and each notice that they write is read as the parts that
+/// it is put together of. A neighbour must still be text: if not, it is refused.
 pub fn second_amendments_leave_files()
-    ensures files { (style : Style) (a : Amendments) (file made : List ℕ) → BringNothingBack a → WritePlainTexts a
+    ensures files { (style : Style) (a : Amendments) (file made : List ℕ) → BringNothingBack a → HasFourDigits a.until
+        → WritePlainTexts a
         → ((info : Info) → information_in style file ≡ Some info → NoticesReadAsAmended a info)
         → amended_file file (amendment_of style a file) ≡ Ok made → amendment_of style a made ≡ Ok None }
-    ensures neighbours { (a : Amendments) (file made : List ℕ) → BringNothingBack a → WritePlainTexts a
-        → NoticesReadAsAmended a (info_of [] (neighbour_contents file))
+    ensures neighbours { (a : Amendments) (file made : List ℕ) → BringNothingBack a → HasFourDigits a.until
+        → WritePlainTexts a → NoticesReadAsAmended a (info_of [] (neighbour_contents file))
         → is_text made ≡ true → amended_file file (neighbour_amendment_of a file) ≡ Ok made
         → neighbour_amendment_of a made ≡ Ok None }
 {

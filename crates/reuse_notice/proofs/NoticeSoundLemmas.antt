@@ -43,7 +43,7 @@ digit_sound n low = sound_low ((48 + n) ∷ []) (ap (λ (b : Bool). b && true) (
     (ap (λ (b : Bool). b || false)
     (false_from_ne_true (is_nul (48 + n)) (λ t. let e : 48 + n ≡ 0 = eqb-true (48 + n) 0 t in omega arith)))
 
-digits_sound : (n : ℕ) → n ≤ 9999 → IsSound (four_digits n)
+pub digits_sound : (n : ℕ) → n ≤ 9999 → IsSound (four_digits n)
 digits_sound n low =
     sound_append ((48 + n / 1000) ∷ []) ((48 + n / 100 % 10) ∷ (48 + n / 10 % 10) ∷ (48 + n % 10) ∷ [])
     (digit_sound (n / 1000) (omega arith))

@@ -128,7 +128,7 @@ printable-years years short = elim (truth (years.low == years.high)) [
       (printable-digits years.high short.1))
 ]
 
-printable-prefix : (prefix : Prefix) → list_any is_control (prefix_text prefix) ≡ false
+pub printable-prefix : (prefix : Prefix) → list_any is_control (prefix_text prefix) ≡ false
 printable-prefix Spdx = refl
 printable-prefix SpdxC = refl
 printable-prefix SpdxSymbol = refl

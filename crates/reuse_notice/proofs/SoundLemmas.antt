@@ -78,7 +78,7 @@ utf8_tail : (b : ℕ) (bytes : List ℕ) → IsUtf8 (b ∷ bytes) → b < 128 �
 utf8_tail b bytes whole low =
     IsUtf8-drop (b ∷ bytes) 1 whole (IsCharBoundary-after_ascii (b ∷ bytes) 0 whole (omega arith) low)
 
-none_parts : (front rest : List ℕ) → list_any is_nul (front ++ rest) ≡ false
+pub none_parts : (front rest : List ℕ) → list_any is_nul (front ++ rest) ≡ false
     → (list_any is_nul front ≡ false) × (list_any is_nul rest ≡ false)
 none_parts front rest e =
     or_parts (list_any is_nul front) (list_any is_nul rest) (sym (list_any-append is_nul front rest) ∙ e)

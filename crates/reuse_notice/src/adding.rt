@@ -277,11 +277,8 @@ fn write_notices(
     Ok(Texts::new(notices))
 }
 
-/// The text of a notice.
-///
-/// # Errors
-/// There was no memory.
-pub fn write_notice(
+// The text of a notice.
+pub(crate) fn write_notice(
     alloc: Global,
     prefix: Prefix,
     years: Option<Years>,
@@ -303,8 +300,11 @@ pub fn write_notice(
     Ok(Bytes::from_vec(bytes))
 }
 
-// Adds a year in four digits.
-fn push_year(bytes: &mut Vec<u8>, year: u16) -> Result<(), AllocError>
+/// Adds a year in four digits.
+///
+/// # Errors
+/// There was no memory.
+pub fn push_year(bytes: &mut Vec<u8>, year: u16) -> Result<(), AllocError>
     ensures { OnOk result (bytes.new.items ≡ bytes.old.items ++ four_digits year) }
 {
     let digits = [

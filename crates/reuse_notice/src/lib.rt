@@ -13,10 +13,8 @@ mod tags;
 mod text_lists;
 mod trims;
 
-pub use adding::{
-    Additions, NoticeRefusal, copy_text, has_part, is_unfit, trim_spaces, write_notice,
-};
-pub use blanks::{is_all_blank, is_all_filler, trim_blank_end};
+pub use adding::{Additions, NoticeRefusal, copy_text, has_part, is_unfit, push_year, trim_spaces};
+pub use blanks::{is_all_blank, is_all_filler, is_blank_byte, trim_blank_end, trim_blank_start};
 pub use expressions::{
     BadExpression, Token, check_expression, count_token, find_fault, read_token,
 };
@@ -26,8 +24,7 @@ pub use laws::{
     merged_notices_are_one, merged_notices_are_written, merging_keeps_holders,
     repeating_adds_nothing, sets_are_one,
 };
-pub use merging::says;
 pub use prefixes::Prefix;
-pub use tags::{Notice, Tag, Years, parse_year, read_notice, read_tag};
+pub use tags::{LONGEST_FIRST, Notice, Tag, Years, has_value_behind, parse_year, read_tag};
 pub use text_lists::{TextSet, Texts, is_among};
 pub use trims::{trim_end_with, trim_start_with};

@@ -157,8 +157,8 @@ fn reads_as(text: &[u8], prefix: Prefix, years: Option<Years>, holder: &[u8]) ->
     }
 }
 
-/// Whether a notice has this prefix, these years and this holder.
-pub fn says(notice: Notice<'_>, prefix: Prefix, years: Option<Years>, holder: &[u8]) -> bool
+// Whether a notice has this prefix, these years and this holder.
+fn says(notice: Notice<'_>, prefix: Prefix, years: Option<Years>, holder: &[u8]) -> bool
     ensures { result ≡ says prefix years holder.now (Some (notice_view notice.entry)) }
 {
     notice.prefix.text() == prefix.text()

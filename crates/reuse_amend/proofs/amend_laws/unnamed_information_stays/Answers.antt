@@ -1,5 +1,5 @@
 use Rattle.reuse_amend.proofs.UnnamedLemmas.{are_amended, other_licence-stays, other_contributor-stays}
-use Rattle.reuse_amend.proofs.UnnamedLemmas.{other_notice-stays}
+use Rattle.reuse_amend.proofs.InPlaceLemmas.{other_notice-stays}
 use Rattle.reuse_amend.proofs.amend_laws.unnamed_information_stays.Goals as goal
 
 pub returns : goal.returns

@@ -7,7 +7,8 @@ returns c =
     let laws = c.lower_laws.ensures.laws in
     let second = c.second_amendments_change_nothing.ensures.information in
     record {
-      files = λ style a file made back plain reads e. file_again second known laws style a file made back plain reads e;
-      neighbours =
-          λ a file made back plain reads text e. neighbour_again second known laws a file made back plain reads text e;
+      files = λ style a file made back short plain reads e.
+          file_again second known laws style a file made back short plain reads e;
+      neighbours = λ a file made back short plain reads text e.
+          neighbour_again second known laws a file made back short plain reads text e;
     }
