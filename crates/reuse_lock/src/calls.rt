@@ -21,7 +21,7 @@ pub fn absolute_path<R: Files<File = File> + AllocGlobal>(
     ensures { noted.new.calls ≡ PathCall root.now (option_map path_buf_bytes result) ∷ noted.old.calls }
 {
     let reported = fs::canonicalize(rt, root).ok();
-    noted.note(&(root, &reported));
+    noted.note(&root, &reported);
     reported
 }
 
@@ -68,7 +68,7 @@ pub struct AskedFolder {
 fn note_lock(noted: &mut LockRecord, path: &str, mode: LockMode, answer: LockAnswer)
     ensures { noted.new.calls ≡ TryCall path.now mode answer ∷ noted.old.calls }
 {
-    noted.note(&(path, mode, answer));
+    noted.note(&(path, mode), &answer);
 }
 
 /// Opens the folder at this path, if that can be done, and asks for the lock on it.

@@ -27,7 +27,7 @@ pub enum LockAnswer {
     NotOpened,
 }
 
-/// The calls with their answers, the newest first, as a record of them reports.
+/// The calls with their answers, the newest first, as a ghost list.
 pub struct LockCalls {
     marker: PhantomData<u8>,
     pub ghost calls: { List LockCall },

@@ -43,9 +43,9 @@ impl<T> Record<T> {
         }
     }
 
-    /// Notes these parts. What the value is then, the caller's proof picks from the value before
-    /// and from the parts. So a record reports what its owner's contracts say of it, and no more.
-    pub fn note<A>(&mut self, _parts: &A)
+    /// Notes these two. What the value is then, the caller's proof picks from the value before and
+    /// from them. So a record reports what its owner's contracts say of it, and no more.
+    pub fn note<A, B>(&mut self, _first: &A, _second: &B)
         ghost next: { T }
         ensures { self.new ≡ next }
     {

@@ -81,9 +81,3 @@ module _ (m : Files) (are : AreFiles m) where
   makes_where_clash Backward (Drop path old digest) held applies some clash = refl
   makes_where_clash Backward (Splice path at old new rest seal) held applies some clash =
       absurd (there path _ applies.range.3.whole clash)
-
--- a fact of a path and what it holds then, at the names that the two had
-pub sets_as : {path given : List ℕ} {held file : Option (List ℕ)} (Holds : List ℕ → Option (List ℕ) → Type 0)
-    → given ≡ path → held ≡ file → Holds given file → Holds path held
-sets_as {path} {given} {held} {file} Holds paths files h =
-    subst (Holds path) (sym files) (subst (λ p. Holds p file) paths h)

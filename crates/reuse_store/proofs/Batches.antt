@@ -34,7 +34,8 @@ use Rattle.reuse_store.proofs.Durable.{midway_none, midway_set}
 use Rattle.reuse_store.proofs.OfTree.{clash_in_tree, folder_stays, step_of_tree, tree_at}
 use Rattle.reuse_store.proofs.ApplyLemmas.{makes_where_clash, step_by}
 use Rattle.reuse_change.proofs.Walk.{free_now, front_touches, leads_more, leads_none, not_touched, still}
-use Rattle.reuse_store.proofs.WriteLeaves.{WriteLeaves, write_leaves}
+use Rattle.reuse_store.specs.WriteLeaves.{WriteLeaves}
+use Rattle.reuse_store.proofs.WriteLeaves.{write_leaves}
 
 -- a list of which so many items are gone
 pub at_drop : {A : Type 0} (xs : List A) (i : ℕ) (x : A) (rest : List A) → drop i xs ≡ x ∷ rest

@@ -17,3 +17,4 @@ pub mod Batches
 pub mod BatchReading
 pub mod BatchWriting
 pub mod WatchedWrites
+pub mod SameStores

@@ -1,33 +1,21 @@
 -- What one write leaves: a put or a removal at its path.
-use Rattle.std.proofs.Common.{◌≡◌, ◌⊎◌, ℕ, ◌+◌, ◌<◌, true, List, Option, Some, None, IsSome, Result, Ok, Err, OnOk}
-use Rattle.std.proofs.Common.{OnErr, IsErrOf, refl, sym}
+use Rattle.std.proofs.Common.{◌≡◌, ◌⊎◌, ℕ, List, Option, Some, None, IsSome, Result, Ok, Err, OnOk}
+use Rattle.std.proofs.Common.{OnErr, refl}
 use Rattle.std.specs.FinMap.{remove}
 use Rattle.std.specs.Result.{IfErr}
 use Rattle.reuse_store.specs.Store.{Puts, PutFails, RemoveFails}
-use Rattle.reuse_store.specs.Asked.{IsLater, IsPut, IsRemoval, IsWrite, MaySet}
+use Rattle.reuse_store.specs.Asked.{IsLater, IsPut, IsRemoval, IsWrite}
 use Rattle.reuse_change.specs.Files.{Clashes}
 use Rattle.reuse_change.specs.Parts.{joined}
-use Rattle.reuse_change.specs.Tree.{is_of_tree, Sets}
+use Rattle.reuse_change.specs.Tree.{Sets}
 use Rattle.reuse_store.specs.Apply.{held_in}
 use Rattle.reuse_store.specs.declared.fault.StoreFault.{StoreFault}
-use Rattle.reuse_store.specs.declared.fault.StoreFault.TheVariants.{Device, Clash}
+use Rattle.reuse_store.specs.declared.fault.StoreFault.TheVariants.{Clash}
 use Rattle.reuse_change.specs.declared.parts.Pieces.{Pieces}
 use Rattle.reuse_store.specs.declared.store.Store.{Ghosts}
+use Rattle.reuse_store.specs.WriteLeaves.{WriteLeaves}
 use Rattle.reuse_store.proofs.Durable.{may_set_by_put, may_set_by_removal}
 use Rattle.reuse_store.proofs.ApplyLemmas.{counts_none, put_sets, removal_sets, put_doubt, removal_doubt}
-
--- the path holds this then; where the write fails, this or what it held
-pub record WriteLeaves {S : Type 0} (store : Ghosts S) (path : List ℕ) (held : Option (List ℕ)) (old new : S)
-    (answer : Result (Unit {0}) StoreFault) : Type 0 where
-  pub later : IsLater store old new
-  pub mutations : store.mutations new ≡ store.mutations old + 1
-  pub written : is_of_tree path ≡ true → store.written new ≡ store.written old
-  pub ok : store.honest new → OnOk answer (Sets path held (store.files old) (store.files new))
-  pub err : store.honest new
-      → OnErr answer ((store.files new ≡ store.files old) ⊎ Sets path held (store.files old) (store.files new))
-  pub clash : store.honest new → answer ≡ Err Clash → Clashes (store.files old) path × IsSome held
-  pub device : IsErrOf answer Device → store.failures old < store.failures new
-  pub left : MaySet store path (λ file. file ≡ held) old new
 
 module _ {S : Type 0} (store : Ghosts S) (path : List ℕ) (old new : S) where
   put_leaves : (answer : Result (Unit {0}) StoreFault) (bytes : List ℕ) → IsPut store path bytes old new answer

@@ -3,8 +3,8 @@ pub mod Durable
 pub mod StoreLaws
 pub mod Asked
 pub mod Calls
-pub mod CallParts
 pub mod FileMap
 pub mod FaultyStore
 pub mod Apply
 pub mod Batch
+pub mod WriteLeaves

@@ -9,8 +9,9 @@ ghost use Rattle.reuse_store.specs.Apply.{held_in, IsReadyByRange, IsChangeRolle
 ghost use Rattle.reuse_change.specs.Tree.{is_of_tree, Sets};
 ghost use Rattle.reuse_change.specs.Entry.{makes, opposite, IsSmall, IsReady, LeadsByOneChange, AppliesBy};
 ghost use Rattle.reuse_store.specs.Asked.{OnlyReads, IsLater, FailsAsRead, MaySet};
+ghost use Rattle.reuse_store.specs.WriteLeaves.{WriteLeaves};
 
-use crate::{Cause, Store, StoreFault};
+use crate::{Cause, FileWrite, Store, StoreFault};
 use reuse_change::{Change, ChangeState, Direction, Pieces};
 use reuse_text::LONGEST_FILE;
 use std::alloc::Global;
@@ -135,12 +136,22 @@ fn put_applied<S: Store>(
     ensures mutations { S.mutations store.new ≡ S.mutations store.old + 1 }
     ensures later { IsLater S.Store store.old store.new }
 {
-    let path = change.path();
-    match after {
-        Some(parts) => store.put_parts(alloc, path, parts)?,
-        None => store.remove(alloc, path)?,
-    }
+    write_at(alloc, store, change, after)?;
     Ok(())
+}
+
+// Makes the path of the change hold this, or no file.
+fn write_at<S: Store>(
+    alloc: Global,
+    store: &mut S,
+    change: &Change,
+    file: Option<Pieces>,
+) -> Result<(), StoreFault>
+    ensures { WriteLeaves S.Store (path_of change.now) (held_in file.entry) store.old store.new result }
+{
+    let path = change.path();
+    let wanted = FileWrite { path, file };
+    store.write(alloc, &wanted)
 }
 
 /// Takes the change back, where it is made, by one read and one put or removal. It notes that these

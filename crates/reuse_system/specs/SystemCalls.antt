@@ -1,6 +1,6 @@
 -- The calls of the system with their answers, and what names lead to after them.
 use Rattle.std.specs.Prelude.{◌≡◌, ℕ, zero, suc, Bool, true, false, if◌then◌else◌, List, [], ◌∷◌, ◌++◌, length, take}
-use Rattle.std.specs.Prelude.{Option, None, Some, Result, Ok, Err, ◌==◌}
+use Rattle.std.specs.Prelude.{Option, None, Some, Ok, ◌==◌}
 use Rattle.std.specs.List.{list_any}
 use Rattle.std.specs.Option.{unwrap_or}
 use Rattle.std.specs.Str.{bytes_eq}
@@ -13,14 +13,9 @@ use Rattle.reuse_system.specs.SystemCall.SystemCall.{MakeCall, AppendCall, SyncC
 use Rattle.reuse_system.specs.SystemCall.SystemCall.{LookCall, ReadCall, RootCall, OpenCall, NoFolderCall}
 use Rattle.reuse_system.specs.SystemCall.SystemCall.{MakeFolderCall, RemoveFolderCall}
 use Rattle.reuse_system.specs.SystemLaws.{IsSeen, IsReadOf, IsNoFolder}
-use Rattle.reuse_store.specs.declared.store.Reading.{Reading}
-use Rattle.reuse_store.specs.declared.store.Reading.TheVariants as reading
-use Rattle.reuse_system.specs.declared.fault.FolderFault.{FolderFault}
 use Rattle.reuse_system.specs.declared.place.Identity.{Identity}
 use Rattle.reuse_system.specs.declared.system.record.CallKind.{CallKind}
 use Rattle.reuse_system.specs.declared.system.record.CallKind.TheVariants as kind
-use Rattle.reuse_system.specs.declared.system.record.ReadKind.{ReadKind}
-use Rattle.reuse_system.specs.declared.system.record.ReadKind.TheVariants as read
 
 -- the device and the number of the root; each name that leads to a folder, with the device and the number of that; and
 -- the names that lead to something else that is no regular file
@@ -210,13 +205,6 @@ IsHonest start files effects (call ∷ calls) =
     MayAnswer (folders_after start effects calls) (held_after files effects calls) call
     × IsHonest start files effects calls
 
--- what a reading of this kind answered
-abbrev pub reading_of_kind : ReadKind → List ℕ → Result Reading FolderFault
-reading_of_kind read.Absent bytes = Ok reading.Absent
-reading_of_kind read.Found bytes = Ok (reading.Found bytes)
-reading_of_kind read.TooLong bytes = Ok reading.TooLong
-reading_of_kind (read.Failed fault) bytes = Err fault
-
 -- a call by its kind and the names or the bytes that this kind has
 abbrev pub call_of : CallKind → List ℕ → List ℕ → SystemCall
 call_of (kind.Make folder is_done) name other = MakeCall (place_in folder name) is_done
@@ -226,8 +214,6 @@ call_of (kind.Rename from to is_done) name other = RenameCall (place_in from nam
 call_of (kind.Link from to is_done) name other = LinkCall (place_in from name) (place_in to other) is_done
 call_of (kind.Remove folder is_done) name other = RemoveCall (place_in folder name) is_done
 call_of (kind.Look folder answer) name other = LookCall (place_in folder name) answer
-call_of (kind.Read folder said limit answer) name bytes =
-    ReadCall (place_in folder name) said limit (reading_of_kind answer bytes)
 call_of (kind.Root opened) name other = RootCall opened
 call_of (kind.Open above opened) name other = OpenCall above name opened
 call_of (kind.NoFolder above found) name other = NoFolderCall above name found

@@ -8,6 +8,7 @@ ghost use Rattle.reuse_system.specs.SystemCall.SystemCall.{ReadCall};
 
 use crate::fault::FolderFault;
 use crate::place::{Found, Identity};
+use reuse_record::Record;
 use reuse_store::Reading;
 use std::marker::{Model, PhantomData};
 
@@ -29,8 +30,6 @@ pub enum CallKind {
     Remove(Identity, bool),
     /// A name in this folder was looked at, and this was reported of it.
     Look(Identity, Result<Found, FolderFault>),
-    /// A file in this folder was read, which was said to have so many bytes, up to a limit.
-    Read(Identity, u64, usize, ReadKind),
     /// The root was opened, and it is this folder.
     Root(Identity),
     /// A name in the first folder was opened, and it is the second one.
@@ -43,19 +42,9 @@ pub enum CallKind {
     RemoveFolder(Identity, bool),
 }
 
-/// What a reading answered, but for the bytes.
-#[derive(Clone, Copy)]
-pub enum ReadKind {
-    Absent,
-    Found,
-    TooLong,
-    Failed(FolderFault),
-}
-
-/// The folders and the files at the start, the effects of the calls to come, and the calls since
-/// then with their answers, the newest first. It takes no bytes, and nothing runs.
-#[derive(Drop)]
-pub struct SystemRecord {
+/// What a record of the system's calls reports: the folders and the files at the start, the effects
+/// of the calls to come, and the calls since then with their answers, the newest first.
+pub struct SystemCalls {
     marker: PhantomData<u8>,
     pub ghost folders: { (ℕ × ℕ) × (List (Place × (ℕ × ℕ)) × List Place) } by { coded× (coded× coded_ℕ coded_ℕ) (coded×
         (coded_list (coded× (coded_list coded_ℕ) (coded× coded_ℕ coded_ℕ))) (coded_list (coded_list coded_ℕ))) },
@@ -65,8 +54,25 @@ pub struct SystemRecord {
     pub ghost calls: { List SystemCall },
 }
 
-impl Model for SystemRecord {
+impl Model for SystemCalls {
     ghost also_owns = { λ _. ftrue };
+}
+
+/// A record of the system's calls. It takes no bytes, and nothing runs.
+#[derive(Drop)]
+pub struct SystemRecord {
+    reported: Record<SystemCalls>,
+}
+
+impl Model for SystemRecord {
+    ghost use Rattle.reuse_system.specs.declared.system.record.SystemCalls.{SystemCalls};
+    ghost use Rattle.reuse_system.specs.contracts.system.record.SystemCalls.{the_row};
+
+    ghost Value = { SystemCalls };
+
+    ghost coded = { the_row.coded };
+
+    ghost view = { λ calls. calls.reported };
 }
 
 impl SystemRecord {
@@ -80,14 +86,16 @@ impl SystemRecord {
             × (result.calls ≡ []) }
     {
         SystemRecord {
-            marker: PhantomData,
+            reported: Record::new(),
         }
     }
 
     /// Notes a call by its kind, and the names or the bytes that this kind has.
-    pub fn note(&mut self, _kind: &CallKind, _first: &[u8], _second: &[u8])
-        ensures { self.new ≡ record self.old { calls = call_of _kind.now _first.now _second.now ∷ self.old.calls } }
-    {}
+    pub fn note(&mut self, kind: &CallKind, first: &[u8], second: &[u8])
+        ensures { self.new ≡ record self.old { calls = call_of kind.now first.now second.now ∷ self.old.calls } }
+    {
+        self.reported.note(kind, &(first, second));
+    }
 
     /// Notes that a file of this name was read, and the answer.
     pub fn note_read(
@@ -101,24 +109,6 @@ impl SystemRecord {
         ensures { self.new
             ≡ record self.old { calls = ReadCall (place_in folder name.now) said limit answer.now ∷ self.old.calls } }
     {
-        let name = name.as_bytes();
-        match answer {
-            Ok(Reading::Absent) => {
-                let kind = CallKind::Read(folder, said, limit, ReadKind::Absent);
-                self.note(&kind, name, b"")
-            }
-            Ok(Reading::Found(bytes)) => {
-                let kind = CallKind::Read(folder, said, limit, ReadKind::Found);
-                self.note(&kind, name, bytes.as_slice())
-            }
-            Ok(Reading::TooLong) => {
-                let kind = CallKind::Read(folder, said, limit, ReadKind::TooLong);
-                self.note(&kind, name, b"")
-            }
-            Err(fault) => {
-                let kind = CallKind::Read(folder, said, limit, ReadKind::Failed(*fault));
-                self.note(&kind, name, b"")
-            }
-        }
+        self.reported.note(&(folder, name, said, limit), answer);
     }
 }

@@ -6,5 +6,5 @@ use Rattle.reuse_lock.proofs.calls.absolute_path.Given as goal
 
 abbrev pub ghost-note : goal.ghost-note
 ghost-note g a =
-    let noted = a._parts.now in
-    record a.self.now { calls = PathCall noted.0.now (option_map path_buf_bytes noted.1.now) ∷ a.self.now.calls }
+    let reported = option_map path_buf_bytes a._second.now in
+    record a.self.now { calls = PathCall a._first.now.now reported ∷ a.self.now.calls }
