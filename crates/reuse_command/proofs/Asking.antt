@@ -1,4 +1,4 @@
--- Calls that only read a store: what they report of a fault, by what was reported to them.
+-- Calls that only read a store: which fault they report, by the fault that the store reported.
 use Rattle.std.proofs.Common.{◌≡◌, ◌<◌, List, ℕ, Result, Ok, Err, IfErr, IsErrAnd, refl, sym, subst, arith}
 use Rattle.reuse_store.specs.Asked.{FailsAsRead, OnlyReads}
 use Rattle.reuse_store.specs.declared.fault.StoreFault.{StoreFault}

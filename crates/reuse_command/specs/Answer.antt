@@ -1,4 +1,4 @@
--- What kind of refusal an answer reports, and when each may be reported.
+-- What kind of refusal an answer is, and when each may come.
 use Rattle.std.specs.Prelude.{◌≡◌, ◌≢◌, ℕ, ◌<◌, Bool, false, List, [], ◌∷◌, None, Result, Ok, Err}
 use Rattle.reuse_store.specs.declared.store.Store.{Ghosts}
 use Rattle.reuse_command.specs.declared.reply.Recovered.{Recovered}

@@ -39,7 +39,7 @@ impl PathList {
         }
     }
 
-    // They.
+    // The paths, lent.
     pub fn as_slice(&self) -> &[PathText]
         ensures { result.now ≡ self.now }
     {
@@ -88,7 +88,7 @@ pub fn matches_one(globs: &Globs, path: &PathText) -> bool
     globs.as_slice().iter().any(|glob| leaves_out(glob, path))
 }
 
-// Whether one of the globs matches that of the folder of this text itself.
+// Whether one of the globs matches the path of the folder of this text.
 pub fn matches_folder(globs: &Globs, folder: &str) -> bool
     ensures { result ≡ matches_folder globs.now folder.now }
 {

@@ -58,7 +58,7 @@ impl<'a> DiffInput<'a> {
         }
     }
 
-    /// The turn back.
+    /// The same path with the two sides exchanged.
     pub fn back(self) -> DiffInput<'a>
         ensures path { result.path.now ≡ self.entry.path.now }
         ensures before { option_copied result.before ≡ option_copied self.entry.after }

@@ -6,12 +6,12 @@ use Rattle.reuse_store.specs.Calls.{failures_of, written_of, mutations_of}
 use Rattle.reuse_store.specs.declared.fault.StoreFault.{StoreFault}
 use Rattle.reuse_store.specs.declared.file_write.FileWrite.{FileWrite}
 use Rattle.reuse_change.specs.declared.parts.Pieces.{Pieces}
-use Rattle.reuse_store.specs.declared.record.CallRecord.{CallRecord}
+use Rattle.reuse_store.specs.declared.record.StoreCalls.{StoreCalls}
 use Rattle.reuse_store.specs.declared.store.Store.{Ghosts}
 use Rattle.reuse_folder.specs.Honesty.{files_of, IsHonest, IsCrashState}
 
 -- the members of such a store
-abbrev pub noted : {S : Type 0} → (S → CallRecord) → Ghosts S
+abbrev pub noted : {S : Type 0} → (S → StoreCalls) → Ghosts S
 noted calls_of = record {
   files = λ store. files_of (calls_of store).start (calls_of store).calls;
   crash_states =
@@ -22,7 +22,7 @@ noted calls_of = record {
   honest = λ store. IsHonest (calls_of store).start (calls_of store).calls;
 }
 
-module _ {S : Type 0} (calls_of : S → CallRecord) where
+module _ {S : Type 0} (calls_of : S → StoreCalls) where
   record_of : (path : List ℕ) (file : Option Pieces) (old new : S) (answer : Result (Unit {0}) StoreFault)
       → IsWrite (noted calls_of) path file old new answer
       → IsWrite (noted (λ calls. calls)) path file (calls_of old) (calls_of new) answer

@@ -1,4 +1,4 @@
--- How the committed state of files changes when a step is carried out.
+-- How the committed state of files changes when a step is committed.
 use Rattle.std.proofs.Common.{◌≡◌, ◌⊎◌, inl, inr, ⊎_elim, ℕ, ◌+◌, ◌<◌, List, Some, None, codes, refl, sym, subst, ◌∙◌}
 use Rattle.reuse_change.specs.Path.{journal_folder}
 use Rattle.reuse_change.specs.Files.{Files, AreFiles, tree_of}
@@ -63,7 +63,7 @@ module _ (files after : Files) (direction : PendingDirection) (step : Recorded) 
   start =
       subst (λ tree. LeadsBy (direction_of direction) step.changes tree second.tree) (sym committed.tree) is_step.leads
 
-  -- once the step is carried out, the committed state is the next
+  -- once the step is committed, the committed state is the next
   pub carried : (settled : List ℕ) → IsCarriedOut (direction_of direction) step.changes settled files after
       → IsGoodHead settled (head_of second.journal None) → IsCommittedState after second
   carried settled out head =

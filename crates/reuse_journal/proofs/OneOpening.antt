@@ -90,7 +90,7 @@ one_step folder journal other direction turn step next keeps keeps_other kept ke
           (same_entry (get folder (entry_path (number_of next))) (entry_in step) (entry_in next) here kept_next);
     }
 
--- none is where another journal reports none
+-- no step is pending where another journal has none
 pub none_pending : (folder : Files) (journal other : Journal) (pending : Pending) → KeepsJournal folder journal None
     → KeepsJournal folder other (Some pending) → ⊥
 none_pending folder journal other pending keeps keeps_other =

@@ -37,7 +37,7 @@ module _ (earlier : Earlier) (held : State) (left : Files) where
       (λ (to : (direction : PendingDirection) × (step : Recorded) × IsStep direction step earlier.state held
       × IsPending direction step earlier.state left).
       let under = to.3 in kept_moved
-      (undo_folder_of left) earlier.state.journal held.journal _ to.0 to.1 under.journal under.kept (to.2).mutations)
+      (undo_folder_of left) earlier.state.journal held.journal _ to.0 to.1 under.journal under.kept (to.2).transition)
       rest)
       safe.opens)
       (λ (beside : (earlier.forgetting ≡ true) × IsSafeBeside held left). beside.1.entries)

@@ -1,4 +1,4 @@
--- What carrying a step out leaves, and rolling it back. The heads are given by their texts.
+-- What committing a step leaves, and rolling it back. The heads are given by their texts.
 use Rattle.std.specs.Prelude.{◌≡◌, ◌⊎◌, ℕ, List, Some}
 use Rattle.reuse_change.specs.Files.{Files, tree_of}
 use Rattle.reuse_change.specs.declared.change.Change.{Change}

@@ -114,9 +114,9 @@ SurvivesBetweenStates store earlier held next result new =
 abbrev pub HaveTree : {S : Type 0} → Ghosts S → S → Files → Type 0
 HaveTree store new tree = Leaves store new (λ left. tree_of left ≡ tree)
 
--- A step is pending in the files, and recovering them leads to the committed state, in which a path that can't be set
--- back is as it is found. Each tree that a loss of power may leave is that of the state with some of the step's changes
--- made, whatever its journal reports.
+-- A step is pending in the files, and recovering them leads to the committed state, in which a path that can't be
+-- rolled back is as it is found. Each tree that a loss of power may leave is that of the state with some of the step's
+-- changes made, whatever its journal reports.
 pub record AwaitsRecovery {S : Type 0} (store : Ghosts S) (direction : PendingDirection) (step : Recorded)
     (held : State) (new : S)
     : Type 0 where
@@ -152,7 +152,7 @@ MayHaveHead store head done new =
     ((store.files new ≡ done) ⊎ Sets head_path (Some head) done (store.files new))
     × Leaves store new (λ left. (left ≡ done) ⊎ Sets head_path (Some head) done left)
 
--- where carrying a step out stops, from files of which nothing but the journal was in doubt: at the pending head, among
+-- where committing a step stops, from files of which nothing but the journal was in doubt: at the pending head, among
 -- the changes, or at the last head
 abbrev pub StopsWithDoubt : {S : Type 0} → Ghosts S → Direction → List Change → (pending settled : List ℕ) → S → S
     → Type 0

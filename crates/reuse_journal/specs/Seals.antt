@@ -1,4 +1,4 @@
--- What the seals of a step report of its files.
+-- What the seals of a step say of its files.
 use Rattle.std.specs.Prelude.{◌≡◌, true}
 use Rattle.std.specs.Option.{option_map}
 use Rattle.std.specs.FinMap.{get}

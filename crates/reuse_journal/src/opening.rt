@@ -73,8 +73,8 @@ pub fn open_journal<S: Store>(alloc: Global, store: &mut S) -> Result<History, R
         → HeadSays (map.get (undo_folder_of (S.files store.old)) head_path) head
         → S.written store.new ≤ S.written store.old + head_room (length (listed head)) }
     ensures mutations { S.honest store.new → MutationsToOpen S.Store store.old store.new }
-    // Nothing is moved before a refusal, nor where nothing is pending; and of the journal's folder
-    // nothing but the head changes.
+    // Nothing is put or removed before a refusal, nor where nothing is pending; and of the journal's
+    // folder nothing but the head changes.
     ensures early { IfErr result (λ refusal. IsEarly refusal → OnlyReads S.Store store.old store.new) }
     ensures late { (cause : Cause) → result ≡ Err (Refusal.Failed (failures.Interrupted cause)) → cause ≢ causes.Moved
         → S.mutations store.old < S.mutations store.new }

@@ -36,7 +36,7 @@ pub enum Check {
     RollingBack,
 }
 
-/// Tests each change; refused as `Moved` at the first that isn't as the aim needs it.
+/// Tests each change; refused as `Moved` at the first that doesn't pass.
 pub fn test_each<S: Store>(
     alloc: Global,
     store: &mut S,
@@ -60,7 +60,7 @@ pub fn test_each<S: Store>(
     Ok(())
 }
 
-// Whether the change is as the aim needs it.
+// Whether the change passes the check.
 fn passes<S: Store>(
     alloc: Global,
     store: &mut S,

@@ -76,8 +76,8 @@ pub fn roll_back<S: Store>(
         → All (CanBeRolledBack direction (tree_of (S.files store.old))) changes.now }
     ensures folder { S.honest store.new → IsEntry changes.now
         → IsSameBut head_path (undo_folder_of (S.files store.old)) (undo_folder_of (S.files store.new)) }
-    // It is refused before it has moved anything, and stops after that; one that reports a file
-    // that changed since it was tested may stop before.
+    // It is refused before it has put or removed anything, and stops after that; one that reports a
+    // file that changed since it was tested may stop before.
     ensures early { IfErr result (λ refusal. IsEarly refusal → OnlyReads S.Store store.old store.new) }
     ensures late { (cause : Cause) → result ≡ Err (refusals.Failed (failures.Interrupted cause)) → cause ≢ Cause.Moved
         → S.mutations store.old < S.mutations store.new }

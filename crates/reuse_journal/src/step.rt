@@ -1,4 +1,4 @@
-//! Carries a step out: its changes are made between two puts of the head.
+//! Commits a step: its changes are made between two puts of the head.
 ghost use Rattle.std.specs.Prelude.{◌≡◌, ◌≢◌, ◌⊎◌, ◌<◌, ◌≤◌, ◌+◌, OnOk, OnErr, IsErrOf, length};
 ghost use Rattle.std.specs.List.{All};
 ghost use Rattle.reuse_change.specs.Files.{Clashes, tree_of};

@@ -55,7 +55,7 @@ field_found {A} f key ms p e =
     subst (λ (q : A × Members). (d : Data) × (f d ≡ Some q.0) × (ms ≡ member key d q.1))
     (same_Some (value.0, first.0.1) p value.2) (first.0.0, value.1, first_member_found key ms first.0 first.1)
 
--- where that reports the member's value
+-- the same where the reader's answer determines the value
 pub field_is : {A : Type 0} (f : Data → Option A) (value : A → Data) → ((d : Data) (x : A) → f d ≡ Some x → d ≡ value x)
     → (key : List ℕ) (ms : Members) (p : A × Members)
     → field_in f key ms ≡ Some p → ms ≡ member key (value p.0) p.1

@@ -195,7 +195,7 @@ fn is_second_format(value: &Value) -> Result<bool, DecodeFault>
     }
 }
 
-/// Whether the format, which the next member has to report under this key, is the second.
+/// Whether the format of the next member, which has to have this key, is the second.
 pub fn next_format(fields: &mut Fields<'_>, key: &str) -> Result<bool, DecodeFault>
     ensures { GivesBy (λ second. (second, members_view fields.new)) result
         (field_in format_in key.now (members_view fields.old)) }

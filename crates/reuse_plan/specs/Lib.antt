@@ -6,7 +6,7 @@ pub mod Annotate
 pub mod Annotated
 pub mod AnnotationPlan
 pub mod Annotations
-pub mod Asked
+pub mod FileTask
 pub mod Chosen
 pub mod Conversion
 pub mod Counted

@@ -1,6 +1,6 @@
 //! What is asked of the files that a command goes through.
 ghost use Rattle.std.specs.Prelude.{◌≡◌};
-ghost use Rattle.reuse_plan.specs.Asked.{scope_of};
+ghost use Rattle.reuse_plan.specs.FileTask.{scope_of};
 
 use reuse_amend::Amendments;
 use reuse_command::command::Scope;

@@ -1,7 +1,7 @@
 //! Plans a command: finds what it would do at each path, and makes no change. One walk serves runs
 //! and previews.
 ghost use Rattle.std.specs.Prelude.{map, OnOk};
-ghost use Rattle.reuse_plan.specs.Asked.{at_by, at_places_by, scope_of};
+ghost use Rattle.reuse_plan.specs.FileTask.{at_by, at_places_by, scope_of};
 ghost use Rattle.reuse_command.specs.Command.{HoldsEntry};
 ghost use Rattle.reuse_plan.specs.Outcome.{path_edits_of, amendments_by};
 ghost use Rattle.reuse_plan.specs.PathPlans.{AnswersPlan, AnswersPlans, EndsWalk};

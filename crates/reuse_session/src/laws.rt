@@ -1,4 +1,6 @@
-//! Laws of the definitions that the contracts of a session cite.
+//! Laws of the definitions that the contracts of a session cite: each function has no body, and its
+//! contract is the law. They say in other words what an outcome, an opening and the model are, so
+//! that a reader need not trust the definitions. Nobody calls them.
 ghost use Rattle.std.specs.Prelude.{◌≡◌, ◌≢◌, ◌↔◌, ◌⊎◌, [], List, map, ℕ, nat_eq, true, false, Ok, None, ◌≤◌, ◌++◌};
 ghost use Rattle.std.specs.Prelude.{length, Bool, Option, Some, Err, Result};
 ghost use Rattle.std.specs.Ordering.{nat_cmp};

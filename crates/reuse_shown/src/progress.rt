@@ -19,8 +19,7 @@ const LOOKED_AT: usize = 2;
 
 /// How many files were read and written so far, and how many there are, if the call lists them.
 /// Else how often a file was read or written, since one may be read twice. One line on standard
-/// error reports it, which is written over by the next, and cleared before anything else is
-/// printed.
+/// error says so. The next one takes its place, and it is cleared before anything else is printed.
 #[derive(Drop)]
 pub struct Progress<R: Clock + Eprint + Drop> {
     rt: R,

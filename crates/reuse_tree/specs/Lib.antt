@@ -11,7 +11,6 @@ pub use Rattle.reuse_store.specs.Durable
 pub use Rattle.reuse_store.specs.StoreLaws
 pub use Rattle.reuse_store.specs.Asked
 pub use Rattle.reuse_store.specs.Calls
-pub use Rattle.reuse_store.specs.CallParts
 pub use Rattle.reuse_store.specs.FileMap
 pub use Rattle.reuse_store.specs.FaultyStore
 pub use Rattle.reuse_change.specs.Entry

@@ -1,4 +1,5 @@
-//! What the contracts of the program say of lines that follow one another.
+//! What the contracts of the program say of lines that follow one another: the function has no
+//! body, and its contract is the law. Nobody calls it.
 ghost use Rattle.std.specs.Prelude.{List};
 ghost use Rattle.reuse_session.specs.session.Stops.{RunState, FilesAt};
 ghost use Rattle.reuse_undo.specs.run.LinesInTurn.{CarriedLine, HoldsSame, AreInTurn, RunAsModel};

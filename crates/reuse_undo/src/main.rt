@@ -1,4 +1,7 @@
 //! `reuse-undo`: adds licensing information to the files of a tree, and takes it back.
+//!
+//! It reads the words of the command line, runs what they ask for (`run`), prints what there is to
+//! say (`print`), and ends with the status of that. Every script of `tests/` runs it.
 #![tactic(auto)]
 
 ghost use Rattle.std.specs.Prelude.{◌≡◌, if◌then◌else◌, string_bytes, true};

@@ -1,4 +1,6 @@
-//! Previews: what a call would do, alone or with the changes of the same plan. They only read.
+//! Previews: what a call would do, alone or with the changes of the same plan. They only read, and
+//! what is remembered stays. `Session::answer` and callers of the library use them. Tested by
+//! `tests/sessions` and `tests/dry_run.sh`.
 ghost use Rattle.std.specs.Prelude.{◌≡◌, ◌↔◌, ◌++◌, ◌∷◌, [], List, true, false, length, None, Some, IfOk, IfErr, OnOk};
 ghost use Rattle.reuse_command.specs.Answer.{DidNotFail, IsReadRefusal};
 ghost use Rattle.reuse_plan.specs.Counted.{IsCounted};

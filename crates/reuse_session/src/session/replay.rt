@@ -1,4 +1,6 @@
-//! A session goes one step back, or on again.
+//! A session goes one step back, or on again: an undo and a redo are the same walk over the changes
+//! of a step, and no file is written unless each change can be made. `Session::answer` and callers
+//! of the library use it. Tested by `tests/sessions`.
 ghost use Rattle.std.specs.Prelude.{◌≡◌, ◌↔◌, ◌⊎◌, ◌++◌, ◌∷◌, [], List, true, false, IfErr};
 ghost use Rattle.reuse_change.specs.declared.direction.Direction.TheVariants as go;
 ghost use Rattle.reuse_command.specs.Answer.{DidNotFail, IsOpenRefusal};

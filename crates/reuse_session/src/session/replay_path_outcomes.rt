@@ -1,4 +1,6 @@
-//! What an undo or a redo would do, path by path.
+//! What an undo or a redo would do, path by path: each path of the step changes or is refused as
+//! moved, as the call itself tests it. It only reads; previews alone call it. Tested by
+//! `tests/sessions`.
 ghost use Rattle.std.specs.Prelude.{◌≡◌, IfOk, IfErr, true};
 ghost use Rattle.reuse_change.specs.Change.{path_of, IsProper};
 ghost use Rattle.reuse_change.specs.Entry.{IsEntry, IsSmall};

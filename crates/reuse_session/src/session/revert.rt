@@ -1,4 +1,6 @@
-//! A session takes a step back that need not be the last.
+//! A session takes a step back that need not be the last. That is a run of a command of its own, so
+//! that it is a new step, which can be taken back too. `Session::answer` and callers of the library
+//! use it. Tested by `tests/sessions` and `tests/show_and_revert.sh`.
 ghost use Rattle.std.specs.Prelude.{◌≡◌, ◌↔◌, ◌⊎◌, length, not, IfErr, IfOk, true, false};
 ghost use Rattle.reuse_command.specs.Answer.{IsRunAnswer};
 ghost use Rattle.reuse_change.specs.Listing.{ArePaths, is_among};

@@ -1,4 +1,5 @@
-//! A session shows what a step changed.
+//! A session shows what a step changed, as its entry says. It only reads. `Session::answer` and
+//! callers of the library use it. Tested by `tests/sessions` and `tests/show_and_revert.sh`.
 ghost use Rattle.std.specs.Prelude.{◌≡◌, ◌↔◌, ◌||◌, true, false, IfOk};
 
 use crate::session::Session;

@@ -1,4 +1,6 @@
-//! Notes: what a fault is about, what can be done about it, and what a call has done.
+//! Notes: what a fault is about, what can be done about it, and what a call has done. They go to
+//! standard error, and no status depends on them. `report` alone calls it. Tested by
+//! `tests/notes.sh`.
 use crate::run::access_refusal::AccessRefusal;
 use crate::run::damage::MissingHead;
 use crate::run::diagnostics::{Diagnostics, RequestKind, unrecognised_among};

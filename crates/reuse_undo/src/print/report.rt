@@ -1,4 +1,6 @@
-//! What is printed on standard error of a run.
+//! What is printed on standard error of a run: why the words are no line, the fault or the refusal,
+//! a step that was rolled back, and the notes. The root of the program calls it. Tested by
+//! `refusals.sh` and `notes.sh` in `tests/`.
 use crate::print::notes::{note_access_refusal, note_call, note_rolled_back, note_words};
 use crate::run::run_result::RunResult;
 use reuse_arguments::line::LineFault;
@@ -50,7 +52,7 @@ pub fn report_outcome(errors: &impl Eprint, run_result: &RunResult, notes: bool)
         Ok(Ok(_)) => {}
         Ok(Err(fault)) => report_fault(errors, fault),
         Err(access_refusal) => {
-            let _ = eprintln!(errors; "reuse-undo: {denial}");
+            let _ = eprintln!(errors; "reuse-undo: {access_refusal}");
         }
     }
     if let Some((step, files)) = run_result.rolled_back {

@@ -1,4 +1,5 @@
-//! What the program exits with.
+//! What the program exits with, of each way in which a run can end. The root of the program calls
+//! it. Its contracts say every case; `tests/refusals.sh` shows them.
 ghost use Rattle.std.specs.Prelude.{◌≡◌};
 ghost use Rattle.reuse_undo.specs.print.Statuses.{call_status_of, ending_of, exit_status_of, line_status_of};
 

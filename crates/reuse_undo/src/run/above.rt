@@ -1,4 +1,5 @@
-//! Whether a folder above the root is the root of a tree too.
+//! Whether a folder above the root is the root of a tree too. It is looked for by names alone, and
+//! only for a note. `diagnostics` calls it. Tested by `tests/notes.sh`.
 use reuse_change::layout::JOURNAL;
 use std::alloc::{AllocError, Global};
 use std::fs;

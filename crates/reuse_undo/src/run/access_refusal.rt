@@ -1,4 +1,5 @@
-//! Why the program itself refuses a call, before it is begun: nothing is changed then.
+//! Why the program itself refuses a call, before it is begun: nothing is changed then. `answering`
+//! and `locked` say so, and `print` reports it. Tested by `tests/owners.sh`.
 ghost use Rattle.std.specs.Prelude.{Some};
 ghost use Rattle.reuse_undo.specs.run.RefusalTexts.{access_refusal_text};
 

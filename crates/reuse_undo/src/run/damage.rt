@@ -1,4 +1,5 @@
-//! What is wrong with the files of a journal, for notes.
+//! What is wrong with the files of a journal, for notes. It only reads, and no call depends on it.
+//! `diagnostics` calls it, and `print` has the words. Tested by `tests/notes.sh`.
 ghost use Rattle.reuse_store.specs.Asked.{OnlyReads};
 
 use reuse_change::PathText;

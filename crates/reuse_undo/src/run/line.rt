@@ -1,4 +1,7 @@
-//! Carries out on a store what a line asks for.
+//! Carries out on a store what a line asks for: opens a session, makes the one request, draws the
+//! diff where one is wanted, and prints the answer. The files and the lines are those of the model,
+//! on any store (`run_request`). `on_folder` calls it. Tested by `tests/worked_lines.sh` and
+//! `tests/dry_run.sh`.
 ghost use Rattle.std.specs.Prelude.{◌≡◌, None, IfOk, IfErr, IfSome, IsSomeAnd};
 ghost use Rattle.reuse_store.specs.Asked.{OnlyReads};
 ghost use Rattle.reuse_change.specs.Files.{Files, tree_of};

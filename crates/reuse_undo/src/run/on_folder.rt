@@ -1,4 +1,5 @@
-//! Carries out on a folder what a line asks for.
+//! Carries out on a folder what a line asks for, as on any store, and shows the progress.
+//! `answering` alone calls it. Tested by `tests/folder.sh`.
 ghost use Rattle.reuse_undo.specs.run.RunResult.{CarriesOut};
 
 use crate::run::line::run_request;

@@ -1,4 +1,5 @@
-//! What comes of what was asked for.
+//! What comes of what was asked for: how it ended, what was rolled back, and what notes report.
+//! `locked` makes it, and `print` reports it.
 use crate::run::access_refusal::AccessRefusal;
 use crate::run::answering::CallEnding;
 use crate::run::diagnostics::Diagnostics;

@@ -1,4 +1,6 @@
-//! The texts of licences in a folder.
+//! The texts of licences in a folder. A text that can't be read is none, and none is longer than
+//! one may be. `locked` calls it for a download. Tested by `tests/large_files.sh` and
+//! `tests/worked_lines.sh`.
 ghost use Rattle.std.specs.Prelude.{◌≡◌, IfOk, IfSome, map, string_bytes, take};
 ghost use Rattle.std.specs.Option.{option_map};
 ghost use Rattle.reuse_undo.specs.run.Texts.{IsTextOf, licence_named, licences_among, text_file};

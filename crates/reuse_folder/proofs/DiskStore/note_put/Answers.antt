@@ -5,7 +5,7 @@ use Rattle.reuse_store.specs.Calls.{took_effect}
 use Rattle.reuse_change.specs.Files.{AreFiles, Clashes}
 use Rattle.reuse_change.specs.Parts.{joined}
 use Rattle.reuse_store.specs.declared.fault.StoreFault.TheVariants.{Clash}
-use Rattle.reuse_store.specs.declared.record.CallRecord.{CallRecord}
+use Rattle.reuse_store.specs.declared.record.StoreCalls.{StoreCalls}
 use Rattle.reuse_folder.specs.Honesty.{files_of, IsHonest, IsCrashState}
 use Rattle.reuse_folder.proofs.HonestFiles.{after_put}
 use Rattle.reuse_folder.proofs.PutKept.{put_kept}
@@ -14,7 +14,7 @@ use Rattle.reuse_folder.proofs.DiskStore.note_put.Goals as goal
 pub invariant_of-self : goal.invariant_of-self
 invariant_of-self g c =
     let was = c.args.self.now.calls in record {
-      are_files = subst (λ (noted : CallRecord). IsHonest noted.start noted.calls
+      are_files = subst (λ (noted : StoreCalls). IsHonest noted.start noted.calls
           → AreFiles (files_of noted.start noted.calls)) (sym c.note_put_parts.ensures)
           (λ honest. after_put c.files_stay_good.ensures.put (files_of was.start was.calls) c.args.path.now
           (joined c.args.parts) c.map_err-answer.result (took_effect was.effects was.calls)
@@ -27,7 +27,7 @@ returns-clause-puts g c =
     let path = c.args.path.now in
     let files = files_of was.start was.calls in
     record {
-      kept = λ honest. subst (λ (noted : CallRecord). MatchResult c.map_err-answer.result
+      kept = λ honest. subst (λ (noted : StoreCalls). MatchResult c.map_err-answer.result
           (λ _. ¬ (Clashes files path) → IsHonest noted.start noted.calls)
           (λ fault. fault ≡ Clash → Clashes files path → IsHonest noted.start noted.calls))
           (sym c.note_put_parts.ensures)
@@ -35,7 +35,7 @@ returns-clause-puts g c =
           (took_effect was.effects was.calls) honest c.text.ensures.path);
       ok = grind (arith, common_steps);
       err = grind (arith, common_steps);
-      may = λ left is. subst (λ (noted : CallRecord).
+      may = λ left is. subst (λ (noted : StoreCalls).
           IsCrashState noted.start noted.initial_crash_states noted.calls left) c.note_put_parts.ensures is;
       device = grind (arith, common_steps);
       written = grind (arith, common_steps);

@@ -1,6 +1,6 @@
 use Rattle.std.proofs.Common.{subst, arith}
 use Rattle.std.proofs.lemmas.Grind.{common_steps}
-use Rattle.reuse_store.specs.declared.record.CallRecord.{CallRecord}
+use Rattle.reuse_store.specs.declared.record.StoreCalls.{StoreCalls}
 use Rattle.reuse_folder.specs.Honesty.{IsCrashState}
 use Rattle.reuse_folder.proofs.DiskStore.note_removal.Goals as goal
 
@@ -9,7 +9,7 @@ returns-clause-removes g c = record {
   kept = grind (arith, common_steps);
   ok = grind (arith, common_steps);
   err = grind (arith, common_steps);
-  may = λ left is. subst (λ (noted : CallRecord). IsCrashState noted.start noted.initial_crash_states noted.calls left)
+  may = λ left is. subst (λ (noted : StoreCalls). IsCrashState noted.start noted.initial_crash_states noted.calls left)
       c.note_remove.ensures is;
   device = grind (arith, common_steps);
   written = grind (arith, common_steps);

@@ -1,7 +1,7 @@
 use Rattle.std.proofs.Common.{◌≡◌, ◌≢◌, MatchResult, sym, subst}
 use Rattle.reuse_change.specs.Listing.{listed_paths}
 use Rattle.reuse_store.specs.declared.fault.StoreFault.TheVariants.{Clash}
-use Rattle.reuse_store.specs.declared.record.CallRecord.{CallRecord}
+use Rattle.reuse_store.specs.declared.record.StoreCalls.{StoreCalls}
 use Rattle.reuse_folder.specs.Honesty.{files_of, IsHonest}
 use Rattle.reuse_folder.proofs.PrunedFolders.{listing_kept, listing_paths}
 use Rattle.reuse_folder.proofs.DiskStoreStore.list.Goals as goal
@@ -10,7 +10,7 @@ pub returns-clause-kept : goal.returns-clause-kept
 returns-clause-kept g c honest =
     let was = c.args.self.now.calls in
     let prunes = g.P.Pruning.prunes c.args.pruning.now in
-    subst (λ (noted : CallRecord). MatchResult c.map_err-answer.result
+    subst (λ (noted : StoreCalls). MatchResult c.map_err-answer.result
     (λ paths. paths.items ≡ listed_paths (files_of was.start was.calls) c.args.folders.now prunes
     → IsHonest noted.start noted.calls)
     (λ fault. fault ≢ Clash → IsHonest noted.start noted.calls)) (sym c.note_listing.ensures)
@@ -21,4 +21,4 @@ returns-clause-paths g c honest =
     let was = c.args.self.now.calls in
     listing_paths was.start was.calls c.args.folders.now (g.P.Pruning.prunes c.args.pruning.now)
     (λ paths. paths.items) c.map_err-answer.result
-    (subst (λ (noted : CallRecord). IsHonest noted.start noted.calls) c.note_listing.ensures honest)
+    (subst (λ (noted : StoreCalls). IsHonest noted.start noted.calls) c.note_listing.ensures honest)

@@ -124,7 +124,7 @@ returns-in-None g c =
       later = later_reads store old new reads;
     }
 
--- what is known once a pending step was settled, whichever way that went
+-- what is known once the pending step is rolled back, or isn't
 module _ (g : Over) (c : After-recover_pending g) (honest : g.S.Store.honest c.recover_pending.new.store) where
   -- reading the journal left the files as they were
   same_files : g.S.Store.files c.read_journal.new.store ≡ g.S.Store.files c.args.store.now

@@ -58,7 +58,7 @@ reported_early : (started : Bool) (cause : Cause) → IsEarly (reported_of start
 reported_early true cause early = absurd early
 reported_early false cause early = refl
 
--- what is reported is no file that has changed, but that of a stop
+-- no cause is reported as a path that moved
 never_moved : (started : Bool) (cause : Cause) (path : List ℕ) {answer : Result (Unit {0}) Refusal}
     → answer ≡ Err (reported_of started cause) → answer ≡ Err (Moved path) → ⊥
 never_moved true cause path is e = cc
@@ -78,7 +78,7 @@ reported_late false causes.Memory stop is e other = absurd (cc)
 past : {old mid new : ℕ} → old ≤ mid → mid < new → old < new
 past a b = omega arith
 
--- nothing was moved up to the first barrier
+-- nothing was put or removed up to the first barrier
 read_so_far : (g : Over) (c : After-sync g) → OnlyReads g.S.Store c.args.store.now c.sync.new.self
 read_so_far g c = reads_more g.S.Store c.args.store.now c.test_each.new.store c.sync.new.self c.test_each.ensures.reads
     c.sync.ensures.reads

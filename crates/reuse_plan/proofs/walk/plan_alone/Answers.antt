@@ -1,6 +1,6 @@
 use Rattle.std.proofs.Common.{subst, sym}
 use Rattle.reuse_command.specs.Reading.{tree_of, IsOfPlan}
-use Rattle.reuse_plan.specs.Asked.{at_by}
+use Rattle.reuse_plan.specs.FileTask.{at_by}
 use Rattle.reuse_plan.specs.PathPlans.{AnswersPlan}
 use Rattle.reuse_plan.specs.Shown.{ShowsPair}
 use Rattle.reuse_plan.specs.declared.path_plan.Policy.TheVariants.{Stop}

@@ -1,6 +1,6 @@
 use Rattle.std.proofs.Common.{sym, subst}
 use Rattle.reuse_change.specs.Files.{tree_of}
-use Rattle.reuse_plan.specs.Asked.{at_by}
+use Rattle.reuse_plan.specs.FileTask.{at_by}
 use Rattle.reuse_plan.specs.PathPlans.{AnswersPlan}
 use Rattle.reuse_plan.specs.Shown.{ShowsOne, ShowsPair}
 use Rattle.reuse_plan.specs.declared.path_plan.Policy.TheVariants.{Stop}

@@ -1,7 +1,7 @@
 use Rattle.std.proofs.Common.{sym, subst}
 use Rattle.reuse_change.specs.Files.{tree_of}
 use Rattle.reuse_plan.specs.AmendmentPlan.{amended_by}
-use Rattle.reuse_plan.specs.Asked.{at_by}
+use Rattle.reuse_plan.specs.FileTask.{at_by}
 use Rattle.reuse_plan.specs.PathPlans.{IsPlanOf}
 use Rattle.reuse_plan.specs.declared.path_plan.Policy.TheVariants.{Stop}
 use Rattle.reuse_plan.proofs.walk.plan_path.Goals as goal

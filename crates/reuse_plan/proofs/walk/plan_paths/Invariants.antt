@@ -1,7 +1,7 @@
 use Rattle.std.proofs.Common.{drop, map}
 use Rattle.reuse_plan.specs.Shown.{ShowsEach}
 use Rattle.reuse_command.specs.Reading.{OnlyReads, tree_of}
-use Rattle.reuse_plan.specs.Asked.{at_by}
+use Rattle.reuse_plan.specs.FileTask.{at_by}
 use Rattle.reuse_plan.proofs.PathPlanning.{WalkedSoFar}
 use Rattle.reuse_plan.proofs.walk.plan_paths.Given as goal
 

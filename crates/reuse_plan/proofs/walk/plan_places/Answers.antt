@@ -1,7 +1,7 @@
 use Rattle.std.proofs.Common.{◌&&◌, not, Bool, List, cond, map, ap, sym, subst, ◌∙◌}
 use Rattle.reuse_plan.specs.Shown.{ShowsEach}
 use Rattle.reuse_change.specs.Files.{Files, tree_of}
-use Rattle.reuse_plan.specs.Asked.{at_by, scope_of}
+use Rattle.reuse_plan.specs.FileTask.{at_by, scope_of}
 use Rattle.reuse_command.specs.Command.{has_root}
 use Rattle.reuse_plan.specs.PathEdits.{PathEdit, refused_alone}
 use Rattle.reuse_plan.specs.PathPlans.{AnswersPlans}

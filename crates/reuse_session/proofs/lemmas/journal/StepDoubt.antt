@@ -215,7 +215,7 @@ module _ (earlier : Earlier) (held second : State) (step : Recorded) (was left :
         journal = record { done = step ∷ other.journal.done; undone = []; used = other.journal.used + 1 };
       }) = record {
         leads = subst (λ t. LeadsBy (direction_of Do) step.changes t second.tree) (sym tree) is_new.leads;
-        mutations = (is_new.transition.0 ∙ ap (λ n. n + 1) (sym used), refl);
+        transition = (is_new.transition.0 ∙ ap (λ n. n + 1) (sym used), refl);
       } in
       let folder = (same_but_in_folder was left (entry_path (held.journal.used + 1))
       (entry_in_folder (held.journal.used + 1)) sets.elsewhere).0 in

@@ -1,4 +1,5 @@
-//! The diff of what a call would change.
+//! The diff of what a call would change: of each path that it would change, the file as it is and
+//! as the call would leave it. It only reads. `line` alone calls it. Tested by `tests/dry_run.sh`.
 ghost use Rattle.std.specs.Prelude.{◌≡◌, ◌+◌, ◌≤◌, ℕ, List, [], Some, IfErr, IfOk, OnOk, length, unwrap_or};
 ghost use Rattle.std.specs.FinMap.{get};
 ghost use Rattle.std.specs.Option.{option_copied};

@@ -1,4 +1,6 @@
-//! What is printed of a response.
+//! What is printed of a response, in the form that the line asks for. Nothing is written before the
+//! text is whole. `line` alone calls it. Tested by `dry_run.sh` and `show_and_revert.sh` in
+//! `tests/`.
 ghost use Rattle.std.specs.Prelude.{◌≡◌, Err, IfOk, IfErr, IsOkAnd, OnOk};
 ghost use Rattle.reuse_diff.specs.DiffText.{AreRecords};
 ghost use Rattle.reuse_print.specs.Outputs.{AddsSome};
