@@ -52,7 +52,10 @@ if [ -x "$proved" ]; then
         "$proved" "${given[@]}"
     done | as_calls
 else
-    command -v rt > /dev/null || { echo "The Rattle kit isn't there: no command rt." >&2; exit 1; }
+    if ! command -v rt > /dev/null; then
+        echo "The Rattle kit isn't there: no command rt. README.md says what to do without it." >&2
+        exit 1
+    fi
     echo "This build is NOT proved yet: it is compiled without proof, to show what the program" \
       "does. ./install.sh proves and builds it."
     echo "compiling, which takes a minute or two .." >&2

@@ -87,7 +87,15 @@ while [ ! -e "$above" ]; do above=$(dirname "$above"); done
 [ -d "$above" ] && [ -w "$above" ] || { echo "$above can't be written" >&2; exit 1; }
 [ ! "$program" ] || { install_files; exit; }
 
-command -v rt > /dev/null || { echo "The Rattle kit isn't there: no command rt." >&2; exit 1; }
+if ! command -v rt > /dev/null; then
+    cat >&2 << 'WITHOUT'
+The Rattle kit isn't there: no command rt. It proves and builds the program from these sources.
+Without the kit, take a release: a Debian package or a tarball of the proved program. README.md
+says how that is installed. A program that was built elsewhere, FILE, is installed by
+    ./install.sh --program FILE
+WITHOUT
+    exit 1
+fi
 logs=$(mktemp -d)
 declare -A running=() lanes=() proved=() begun=()
 # (each check has a process group of its own, so that all of it ends with this script)

@@ -1,6 +1,6 @@
-/* The least that a program can do that puts a header in front of each file of a tree and leaves whole files whenever
-   it is stopped: it reads each file once, writes header and bytes to a new file beside it, and renames that. Without a
-   journal, a digest, or a look at what the bytes are.
+/* The least that a program can do that puts a header in front of each file of a tree and leaves
+   whole files whenever it is stopped: it reads each file once, writes header and bytes to a new
+   file beside it, and renames that. Without a journal, a digest, or a look at what the bytes are.
    usage: floor TREE HEADER */
 #define _GNU_SOURCE
 #include <fcntl.h>

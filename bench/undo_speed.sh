@@ -9,11 +9,15 @@
 # least of nine rounds on the first tree and of five on the others, each with all that is compared:
 # seconds, those of the processor, the ratio to `cp -r` and to the floor with the hashing (without,
 # for a journal of version 1.0, which has no seals), and the peak memory.
-# usage: bench/undo_speed.sh PROGRAM [FILES]      (20,000 files by default in the first two trees)
+# usage: bench/undo_speed.sh PROGRAM [FILES [OTHER]]
+#   FILES  how many files the first two trees have: 20,000 by default
+#   OTHER  another program, such as that of a version before. It makes the calls on the three trees,
+#          too: each round has those of PROGRAM and then those of OTHER.
 set -euo pipefail
 . "$(dirname "$0")/../tests/common.sh"
 . "$(dirname "$0")/python_tree.sh"
 files=${2:-20000}
+other=${3:+$(realpath "$3")}
 annotate=(--no-sync annotate -c "Jane Doe" -l MIT -y 2024 -r .)
 # The tags below are data: REUSE-IgnoreStart
 header=$'# SPDX-FileCopyrightText: 2024 Jane Doe\n#\n# SPDX-License-Identifier: MIT\n\n'
@@ -71,28 +75,36 @@ report() {
   done
 }
 
-# Copies a tree, annotates the copy, and takes it back and forth.
+# calls_on TREE PROGRAM [ENDING]: copies a tree, annotates the copy, and takes it back and forth.
+# What is noted has names with this ending.
+calls_on() {
+  local program=$2
+  rm -rf "$room/tree"
+  cp -r "$1" "$room/tree"
+  sleep 0.1
+  measure "annotate${3:-}" "$program" --root "$room/tree" "${annotate[@]}"
+  sleep 0.1
+  measure "undo${3:-}" "$program" --root "$room/tree" --no-sync undo
+  diff -r -x .reuse "$1" "$room/tree" || { echo "undo doesn't give the tree back" >&2; exit 1; }
+  measure "redo${3:-}" "$program" --root "$room/tree" --no-sync redo
+  measure "log${3:-}" "$program" --root "$room/tree" log
+  as_format_1 "$room/tree"
+  measure "undo without seals${3:-}" "$program" --root "$room/tree" --no-sync undo
+}
+
+# Works on a tree once, with all that is compared.
 work_on() {
   hashing "$1"
   rm -rf "$room/tree"
   measure "cp -r" cp -r "$1" "$room/tree"
   measure floor "$room/floor" "$room/tree" "$header"
-  rm -rf "$room/tree"
-  cp -r "$1" "$room/tree"
-  sleep 0.1
-  measure annotate "$program" --root "$room/tree" "${annotate[@]}"
-  sleep 0.1
-  measure undo "$program" --root "$room/tree" --no-sync undo
-  diff -r -x .reuse "$1" "$room/tree" || { echo "undo doesn't give the tree back" >&2; exit 1; }
-  measure redo "$program" --root "$room/tree" --no-sync redo
-  measure log "$program" --root "$room/tree" log
-  as_format_1 "$room/tree"
-  measure "undo without seals" "$program" --root "$room/tree" --no-sync undo
+  calls_on "$1" "$program"
+  [[ -z $other ]] || calls_on "$1" "$other" ', other'
 }
 
 # Works on a tree so many times, and prints the times.
 times_on() {
-  local hash floor k
+  local hash floor least ending k
   best=()
   echo "$2, $(du -sm --apparent-size "$1" | cut -f1) MB (load $(cut -d' ' -f1 /proc/loadavg)):"
   for ((k = 0; k < $3; k++)); do work_on "$1"; done
@@ -100,9 +112,12 @@ times_on() {
   floor=${best[floor]%% *}
   report 0 "cp -r" floor
   echo "  hashing each file twice: $hash s"
-  report "$(awk -v floor="$floor" -v hash="$hash" 'BEGIN { print floor + hash }')" annotate undo redo
-  report "$floor" "undo without seals"
-  report 0 log
+  least=$(awk -v floor="$floor" -v hash="$hash" 'BEGIN { print floor + hash }')
+  for ending in '' ${other:+', other'}; do
+    report "$least" "annotate$ending" "undo$ending" "redo$ending"
+    report "$floor" "undo without seals$ending"
+    report 0 "log$ending"
+  done
 }
 
 # Lists one entry so many times, each with a copy of it.

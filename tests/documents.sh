@@ -1,8 +1,8 @@
 #!/usr/bin/env bash
 # Looks at the documents: the lists that scripts make of the sources can be made; what the page on
-# the headline names is there; each link leads to a file, and to a heading of it; README has 120
-# lines at most, and the tutorial 80. No line outside of tables and code has over 100 columns, and
-# no cell over 25 words.
+# the headline names is there, and so are the files and modules that documents name; each link leads
+# to a file, and to a heading of it; README has 120 lines at most, and the tutorial 80. No line
+# outside of tables and code has over 100 columns, and no cell over 25 words.
 # usage: tests/documents.sh PROGRAM      (which isn't run)
 set -euo pipefail
 . "$(dirname "$0")/common.sh"
@@ -39,6 +39,41 @@ done < <(grep -oE '\]\([^) ]+\)' "${documents[@]}" | grep -v '](https\?:' |
   sed -E 's/:\]\(/\t/; s/\)$//')
 ((links >= 30)) || fail "only $links links"
 
+# The files that documents name: each of the recipes, and elsewhere those of sources, tests and
+# measurements, by their names or with folders
+git ls-files --cached --others --exclude-standard 2> /dev/null > "$room/files" ||
+  find . -type f -not -path '*/out/*' -not -path './.git/*' -printf '%P\n' > "$room/files"
+sed -nE '/^## Where a change goes/,/^## Checking/p' CONTRIBUTING.md |
+  grep -oE '`[A-Za-z0-9_.-]+/[A-Za-z0-9_./-]+`' | tr -d '`' | sort -u > "$room/recipes"
+(($(wc -l < "$room/recipes") >= 80)) || fail 'CONTRIBUTING.md names few files'
+while IFS= read -r file; do
+  [[ -e $file || -e crates/$file ]] || fail "CONTRIBUTING.md: there is no $file"
+done < "$room/recipes"
+grep -ohE '`[A-Za-z0-9_./-]+\.(antt|rt)`|`(tests|bench|docs)/[A-Za-z0-9_./-]+[a-z]`' \
+  "${documents[@]}" | tr -d '`' | sort -u > "$room/named"
+awk '{ print; while (sub(/^[^\/]*\//, "")) print }' "$room/files" > "$room/known"
+{ grep -vxFf "$room/known" "$room/named" || :; } > "$room/missing"
+while IFS= read -r file; do
+  [[ -e $file ]] || fail "a document names $file, which isn't there"
+done < "$room/missing"
+# The modules of a crate, at the heads of a list
+awk '
+  /^#/ { crate = "" }
+  /^### The modules of / { crate = $NF }
+  crate && /^- `/ {
+    sub(/`:( .*)?$/, "`")
+    while (match($0, /`[a-z_:\/]+`/)) {
+      name = substr($0, RSTART + 1, RLENGTH - 2)
+      gsub(/::/, "/", name)
+      print crate "/src/" name ".rt"
+      $0 = substr($0, RSTART + RLENGTH)
+    }
+  }' docs/ARCHITECTURE.md > "$room/modules"
+(($(wc -l < "$room/modules") >= 60)) || fail 'docs/ARCHITECTURE.md names few modules'
+while IFS= read -r file; do
+  [[ -e crates/$file ]] || fail "docs/ARCHITECTURE.md: there is no crates/$file"
+done < "$room/modules"
+
 (($(wc -l < README.md) <= 120)) || fail "README.md has over 120 lines"
 (($(wc -l < docs/TUTORIAL.md) <= 80)) || fail "docs/TUTORIAL.md has over 80 lines"
 for document in "${documents[@]}"; do
@@ -55,4 +90,6 @@ for document in "${documents[@]}"; do
     length($0) > 100 { tell("line") }' "$document"
 done > "$room/long"
 [[ ! -s $room/long ]] || fail "$(cat "$room/long")"
-echo "$links links lead somewhere, two lists are made, and ${#documents[@]} documents are short"
+recipes=$(wc -l < "$room/recipes")
+echo "$links links lead somewhere, $recipes files of recipes are there, two lists are made, and" \
+  "${#documents[@]} documents are short"

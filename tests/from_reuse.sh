@@ -58,8 +58,8 @@ lacks() { [[ ! -e $1/$2 ]] || fail "$what: $1/$2 is there"; }
 options() {
   row '`-c`, `--copyright TEXT`; `-l`, `--license EXPR`; `-y`, `--year YEAR`' a.py 'x\n'
   both annotate -c 'Jane Doe' -l 'MIT OR ISC' -y 2019 -y 2024 a.py
-  both_have \
-    a.py '# SPDX-FileCopyrightText: 2019 - 2024 Jane Doe\n#\n# SPDX-License-Identifier: MIT OR ISC\n\nx\n'
+  local years='# SPDX-FileCopyrightText: 2019 - 2024 Jane Doe\n'
+  both_have a.py "$years"'#\n# SPDX-License-Identifier: MIT OR ISC\n\nx\n'
 
   row '`--year 2019-2024`' a.py 'x\n'
   tool 0 '' annotate -c 'Jane Doe' --year 2019-2024 a.py
@@ -95,7 +95,8 @@ options() {
   has "$ours" b.rst.license 'SPDX-License-Identifier: MIT\n'
 
   local template='Part of Demo.\n\n{% for line in copyright_lines %}\n{{ line }}\n{% endfor %}\n'
-  template+='{% for expression in spdx_expressions %}\nSPDX-License-Identifier: {{ expression }}\n{% endfor %}\n'
+  template+='{% for expression in spdx_expressions %}\n'
+  template+='SPDX-License-Identifier: {{ expression }}\n{% endfor %}\n'
   row '`--template NAME`' a.py '# Part of Demo.\n# SPDX-License-Identifier: MIT\n\nx\n' \
     .reuse/templates/demo.jinja2 "$template"
   tool 0 '' annotate -c 'Jane Doe' -y 2024 --template demo a.py
@@ -165,7 +166,7 @@ habits() {
   has "$theirs" a.py "$tag\n\nx\n"
   has "$ours" a.py "$tag\n\n\n\nx\n"
 
-  row 'a mark (BOM) at the start' a.py '\0357\0273\0277x\n'
+  row 'a byte order mark at the start' a.py '\0357\0273\0277x\n'
   both annotate -l MIT a.py
   has "$theirs" a.py "$tag\n\n\0357\0273\0277x\n"
   has "$ours" a.py "\0357\0273\0277$tag\n\nx\n"
@@ -242,7 +243,8 @@ changes() {
   has "$ours" a.py '# SPDX-FileCopyrightText: 2024 - 2026 Jane Doe\n\nx\n'
   has "$ours" b.py "$tag\n\nx\n"
 
-  row 'a contributor, holder or licence goes' a.py "$jane\n# SPDX-FileContributor: Joe Bloggs\n#\n$tag\n\nx\n"
+  row 'a contributor, holder or licence goes' \
+    a.py "$jane\n# SPDX-FileContributor: Joe Bloggs\n#\n$tag\n\nx\n"
   tool 2 'unrecognized arguments' annotate -l MIT --remove-contributor=Joe a.py
   program 0 'changed a.py' amend --remove-contributor 'Joe Bloggs' a.py
   has "$ours" a.py "$jane\n#\n$tag\n\nx\n"
@@ -276,7 +278,10 @@ other_words() {
 }
 
 # The first cells of a document's tables, but for their heads
-cells() { sed -nE '/^\|/{s/^\| ([^|]*) \|.*/\1/p}' "$1" | grep -vxE -- '-+|the reuse tool|habit|task|.*---.*'; }
+cells() {
+  sed -nE '/^\|/{s/^\| ([^|]*) \|.*/\1/p}' "$1" |
+    grep -vxE -- '-+|the reuse tool|habit|task|.*---.*'
+}
 
 options
 habits

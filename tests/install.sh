@@ -1,8 +1,8 @@
 #!/usr/bin/env bash
 # Tries install.sh with an `rt` that proves nothing and returns at once: twenty runs after each
 # other, in which crates are proved side by side; what the installed program says about its proof;
-# a proof that fails; a DESTDIR; and that --uninstall leaves all as it was before. Ends with status
-# 1 at the first fault.
+# a proof that fails; a DESTDIR; and that --uninstall leaves all as it was before. Without the kit
+# it says what to do. Ends with status 1 at the first fault.
 # usage: tests/install.sh
 set -euo pipefail
 top=$(realpath "$(dirname "$0")/..")
@@ -20,7 +20,8 @@ fail() {
 
 # The line of a program that is compiled, in install.sh and in the program
 nothing=$(sed -nE "s/^.* nothing='(.*)' .*/\1/p" "$top/install.sh")
-grep -qxF "$nothing\";" "$top/crates/reuse_arguments/src/arguments.rt" || fail "no line of '$nothing'"
+grep -qxF "$nothing\";" "$top/crates/reuse_arguments/src/arguments.rt" ||
+  fail "no line of '$nothing'"
 
 # An rt that leaves what a proof leaves, unless `refused` names the crate
 mkdir "$room/bin" "$copy"
@@ -137,6 +138,24 @@ folders() {
   echo 'what is uninstalled leaves every folder as it was'
 }
 
+# Where there is no kit, install.sh says what to do, and leaves nothing; --program goes on.
+without_kit() {
+  local tools=$room/tools it
+  mkdir "$tools"
+  for it in bash env dirname basename realpath mkdir install cat sort rm cut sed; do
+    ln -s "$(type -P "$it")" "$tools/$it"
+  done
+  ! PATH=$tools "$copy/install.sh" "$room/none" > "$room/log" 2>&1 || fail 'a program without a kit'
+  for it in 'no command rt' 'take a release' '--program FILE'; do
+    grep -qF -- "$it" "$room/log" || fail "without a kit: $(cat "$room/log")"
+  done
+  [[ ! -e $room/none ]] || fail 'without a kit a folder is left'
+  PATH=$tools "$copy/install.sh" --program "$room/bin/program" "$room/none" > "$room/log" 2>&1 ||
+    fail "--program without a kit: $(cat "$room/log")"
+  echo 'without the kit it says what to do'
+}
+
+without_kit
 many_runs
 proof
 folders

@@ -12,7 +12,8 @@ tree=$room/tree
 jane=(-c "Jane Doe" -y 2024)
 notes=0
 # The one note that is told without -v and a terminal, too
-always='^reuse-undo: note: step [0-9]+, which a stopped run had begun, was set back \([0-9]+ files?\)$'
+always='^reuse-undo: note: step [0-9]+, which a stopped run had begun, was set back'
+always+=' \([0-9]+ files?\)$'
 
 # Words, and the call with this root, as a text for bash, which `script` then runs, since another
 # shell may not read `$'..'`
@@ -102,14 +103,14 @@ changes() {
 }
 
 refusals() {
-  local long way_out
+  local long way_out out
   long=$(printf %0250d 0)
   files "$long" 'x\n'
   notes annotate --force-dot-license -l MIT "$long" \
     : 'the file that would be made has a name of more than 255 bytes, .*--style .*'
   files b.xyz 'x\n' c.xyz 'x\n' a.py 'x\n'
-  notes annotate -l MIT b.xyz \
-    : 'no comment style is known .*--style .*\.reuse/styles\.toml.*--fallback-dot-license.*--skip-unrecognised'
+  out='no comment style is known .*--style .*\.reuse/styles\.toml.*--fallback-dot-license'
+  notes annotate -l MIT b.xyz : "$out.*--skip-unrecognised"
   notes download --texts "$room/texts" Foo : "the text was sought in $room/texts/Foo\.txt"
   "$program" --root "$tree" annotate -l MIT a.py > /dev/null
   echo y >> "$tree/a.py"
@@ -119,10 +120,10 @@ refusals() {
   notes show 7 : 'reuse-undo log tells the numbers of the steps'
   notes revert 1 : '1 file changed; reuse-undo undo takes that back'
   "$program" --root "$tree" revert 1 > /dev/null
-  notes revert 1 \
-    : "what the step wrote doesn't stand in this file as it did: .*--skip-moved; .*reuse-undo forget .*"
-  notes revert --skip-moved 1 \
-    : "the step couldn't be taken out of any file, and stays done; reuse-undo forget takes it out of the history"
+  out="what the step wrote doesn't stand in this file as it did: .*--skip-moved;"
+  notes revert 1 : "$out .*reuse-undo forget .*"
+  out="the step couldn't be taken out of any file, and stays done;"
+  notes revert --skip-moved 1 : "$out reuse-undo forget takes it out of the history"
   notes annotate -n -l MIT b.xyz c.xyz a.py : 'no comment style is known .*' \
     "2 files have names that aren't recognised; --dry-run names them"
   notes annotate -l MIT b.xyz c.xyz : 'no comment style is known .*' \
@@ -153,11 +154,11 @@ refusals() {
   "$program" --root "$tree" annotate -l MIT -r . > /dev/null
   rm "$tree/a.py"
   way_out='or reuse-undo revert --skip-moved takes the step out of the other files'
-  notes undo : \
-    "this file is gone: put it back and call again; $way_out, and reuse-undo forget out of the history alone"
+  out="this file is gone: put it back and call again"
+  notes undo : "$out; $way_out, and reuse-undo forget out of the history alone"
   notes undo -n : 'this file is gone: .*'
   way_out='or reuse-undo forget takes the step out of the history, and leaves all files'
-  notes revert 1 : "this file is gone: put it back and call again, or leave it out with --skip-moved; $way_out"
+  notes revert 1 : "$out, or leave it out with --skip-moved; $way_out"
   notes revert -n 1 : 'this file is gone: .*'
   mkdir "$tree/a.py"
   notes undo : 'this file was changed since: .*'
@@ -180,7 +181,8 @@ once() {
       --skip-unrecognised -r . > /dev/null 2> "$room/error"
     printf -v "$kind" %s "$(grep -cE '(b\.xyz|c\.xyz|a\.py)"' "$room/trace")"
   done
-  grep -q '^reuse-undo: note: 2 files passed over' "$room/error" || fail 'no note of files passed over'
+  grep -q '^reuse-undo: note: 2 files passed over' "$room/error" ||
+    fail 'no note of files passed over'
   ((quiet > 0 && verbose == quiet)) || fail "with notes $verbose calls name the files, not $quiet"
 }
 
@@ -198,10 +200,13 @@ choices() {
   notes annotate -l MIT -r --exclude node_module --exclude '**/*.lgo' --exclude '**/b.log' \
     --exclude src/old/ --exclude a.py src : "$changed" "$(idle node_module)" \
     "$(idle '\*\*/\*\.lgo')" "$(idle 'a\.py')"
-  # What isn't covered isn't left out, nor what lies beneath no PATH; and a PATH that is a file isn't
-  notes annotate -l MIT -r --exclude LICENSE --exclude node_modules --exclude 'src/a*' src/old src/a.py \
+  # What isn't covered isn't left out, nor what lies beneath no PATH; and a PATH that is a file
+  # isn't
+  notes annotate -l MIT -r --exclude LICENSE --exclude node_modules --exclude 'src/a*' \
+    src/old src/a.py \
     : '2 files changed; .*' "$(idle LICENSE)" "$(idle node_modules)" "$(idle 'src/a\*')"
-  notes annotate -n -l MIT -r --exclude node_modules --exclude none --exclude '**.log' . : "$(idle none)"
+  notes annotate -n -l MIT -r --exclude node_modules --exclude none --exclude '**.log' . \
+    : "$(idle none)"
   notes annotate -n --json -l MIT -r --exclude none src/old : "$(idle none)"
   printf '%s\n' src/a.py src/gone.py LICENSE node_modules/m/i.js > "$list"
   notes annotate -l MIT -r --files-from "$list" src : "$changed" "$(unmet 3)"
@@ -236,8 +241,8 @@ whole_journal() {
 # What a loss of power without syncs, an editor, a later version or a hand may leave of a journal,
 # and that the way out is one
 journal() {
-  local undo=$tree/.reuse/undo out=': put it back from a backup; or delete the folder \.reuse/undo, which forgets'
-  out+=' the history and changes no other file'
+  local undo=$tree/.reuse/undo out=': put it back from a backup; or delete the folder'
+  out+=' \.reuse/undo, which forgets the history and changes no other file'
   files a.py 'x\n' b.py 'x\n'
   "$program" --root "$tree" annotate -l MIT a.py > /dev/null
   "$program" --root "$tree" annotate -l MIT b.py > /dev/null
@@ -270,8 +275,8 @@ journal() {
   rm "$undo"
   whole_journal
   rm "$undo/head.json"
-  notes log \
-    : 'the history was found empty, though \.reuse/undo has the files of 2 steps: the head of the journal is gone; .*'
+  local empty='the history was found empty, though \.reuse/undo'
+  notes log : "$empty"' has the files of 2 steps: the head of the journal is gone; .*'
   notes annotate -c Jo -y 2024 a.py : 'the history was found empty, though .*' '1 file changed; .*'
   rm "$undo/000002.json"
   notes log : 'the history was found empty, though \.reuse/undo/000001\.json is there: .*'
@@ -401,7 +406,8 @@ held() {
 }
 
 progress() {
-  local listed='[0-9]+ files read of [0-9]+ listed, [0-9]+ written' calls='[0-9]+ reads, [0-9]+ writes'
+  local listed='[0-9]+ files read of [0-9]+ listed, [0-9]+ written'
+  local calls='[0-9]+ reads, [0-9]+ writes'
   files
   for ((i = 0; i < 2000; i++)); do
     echo x > "$tree/$i.py"
@@ -416,5 +422,7 @@ progress() {
     fail 'progress without a terminal'
 }
 
-for group in words changes refusals once choices dep5 journal faults above names progress; do $group; done
+for group in words changes refusals once choices dep5 journal faults above names progress; do
+  $group
+done
 echo "$notes notes are as stated, with -v and at a terminal, and names show no control byte there"
