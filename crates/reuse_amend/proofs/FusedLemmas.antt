@@ -103,7 +103,7 @@ op_word p piece op = by (starts_with nat_eq p.0 (codes "(")) (starts_with nat_eq
     by false false false false h len is op =
         (len, ap word_token (sym (take-length p.0) ∙ ap (λ (n : ℕ). take n p.0) (sym len)) ∙ is)
 
-pub abbrev chosen : Bool → Bool → Bool → Bool → List ℕ → Token
+abbrev pub chosen : Bool → Bool → Bool → Bool → List ℕ → Token
 chosen opens closes none plus word =
     cond opens Open (cond closes Close (cond none Stray (cond plus (Identifier true) (word_token word))))
 
@@ -128,7 +128,7 @@ ops-append [] ys = omega arith
 ops-append (x ∷ xs) ys = let e = ops-append xs ys in omega (arith, e)
 
 -- one identifier more than operators
-pub abbrev Balanced : List Word → Type 0
+abbrev pub Balanced : List Word → Type 0
 Balanced ps = names ps ≡ ops ps + 1
 
 token_names : List Token → ℕ
