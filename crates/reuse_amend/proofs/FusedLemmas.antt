@@ -109,11 +109,11 @@ chosen opens closes none plus word =
 
 -- ---- numbers of identifiers and of operators
 
-pub names : List Word → ℕ
+unfoldable pub names : List Word → ℕ
 names [] = 0
 names (p ∷ ps) = cond (is_name p.1) 1 0 + names ps
 
-pub ops : List Word → ℕ
+unfoldable pub ops : List Word → ℕ
 ops [] = 0
 ops (p ∷ ps) = cond (is_operator p.1) 1 0 + ops ps
 
