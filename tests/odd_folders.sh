@@ -28,6 +28,16 @@ tells() {
   printf %s "$text" | cmp -s - "$room/out" || fail "$*: it tells $(cat "$room/out")"
 }
 
+# From now on the calls are made as nobody, if the caller is root.
+as_nobody() {
+  ((EUID == 0)) || return 0
+  as=(setpriv --reuid=65534 --regid=65534 --clear-groups)
+  [[ -e $room/program ]] || cp "$program" "$room/program"
+  program=$room/program
+  chown -R 65534:65534 "$tree"
+  chmod 755 "$room" "$program"
+}
+
 empty() {
   anew
   tells 0 $'nothing changed\n' "${annotate[@]}"
@@ -124,13 +134,7 @@ read_only() {
   mkdir "$tree/closed" "$tree/.reuse"
   echo x > "$tree/closed/a.py"
   echo x > "$tree/b.py"
-  if ((EUID == 0)); then
-    as=(setpriv --reuid=65534 --regid=65534 --clear-groups)
-    cp "$program" "$room/program"
-    program=$room/program
-    chown -R 65534:65534 "$tree"
-    chmod 755 "$room"
-  fi
+  as_nobody
   before=$(state_of "$tree")
   chmod 555 "$tree" "$tree/.reuse"
   tells 1 $'reuse-undo: store fault\n' annotate -l MIT -r .
@@ -204,29 +208,68 @@ mounted() {
     cmp -s - "$room/out" || fail "below a mount: $(cat "$room/out")"
 }
 
-# A run is killed at each of its renamings. What it leaves below a mount goes with the next write
-# there, and the user's file of that kind stays.
+# A run is killed at its renaming K, in a mount. Then a call rolls it back. Says whether a new file
+# was left below the mount, and fails unless that file alone went; or unless nothing went, if a
+# command is given that is made of the file before.
+killed_below_mount() {
+  local tree=$1 program=$2 k=$3 call=$4 command=$5 calls=rename,renameat,renameat2,link,linkat
+  local left stood was
+  shift 5
+  mount -t tmpfs none "$tree/mounted" && cd "$tree/mounted" || return
+  echo x > a.py
+  echo mine | tee .reuse-undo-new .reuse-undo-new.0 > .reuse-undo-new.18446744073709551615
+  (($# == 0)) || chown -R 65534:65534 "$tree"
+  "$@" strace -f -qq -o /dev/null -e trace=$calls -e inject=$calls:signal=KILL:when="$k" \
+    "$program" --root "$tree" annotate -l MIT -r . > /dev/null 2>&1
+  (($? == 137)) || return
+  left=.reuse-undo-new.$(stat -c %i "$tree/.reuse/undo")
+  was=$(< a.py)
+  [[ ! -e $left ]] || echo left
+  [[ -z $command ]] || { "$@" bash -c "$command" bash "$left" && left=nothing; }
+  stood=$(stat -c '%n %i %s %y %z' .r* a.py | grep -v "^$left ")
+  # shellcheck disable=SC2086
+  "$@" "$program" --root "$tree" $call > /dev/null 2>&1 || return
+  [[ $was == x ]] || stood=$(grep -v '^a.py ' <<< "$stood"; stat -c '%n %i %s %y %z' a.py)
+  [[ $(< a.py) == x && $(stat -c '%n %i %s %y %z' .r* a.py) == "$stood" ]] || { ls -la; return 1; }
+  [[ -n $command ]] ||
+    { "$@" "$program" --root "$tree" annotate -l MIT -r . && "$@" "$program" undo --root "$tree"; }
+}
+
+# A run is killed at each of its renamings, as root and as nobody. What it leaves below a mount goes
+# with the rollback, which writes nothing else there if the file has its old bytes still. Files of
+# the user's and of another journal stay, and so do a link, a folder and a pipe of the very name, and
+# what can't be removed.
 mounted_and_killed() {
-  local script='mount -t tmpfs none "$1/mounted" && echo x > "$1/mounted/a.py" &&
-    echo mine > "$1/mounted/.reuse-undo-new" || exit
-    calls=rename,renameat,renameat2,link,linkat
-    strace -f -qq -o /dev/null -e trace=$calls -e inject=$calls:signal=KILL:when=$3 \
-      "$2" --root "$1" annotate -l MIT -r . > /dev/null 2>&1 && exit 1
-    "$2" --root "$1" log > /dev/null 2>&1 && cat "$1/mounted/a.py" &&
-    "$2" --root "$1" annotate -l MIT -r . && "$2" undo --root "$1" &&
-    cat "$1/mounted/a.py" "$1/mounted/.reuse-undo-new" && ls -A "$1/mounted"' k
-  for k in 1 2 3 4 5 6; do
-    anew
-    mkdir "$tree/mounted"
-    if ! unshare -m mount -t tmpfs none "$tree/mounted" 2> "$room/error"; then
-      echo 'mounted_and_killed: not tried, since no mount can be made'
-      return
-    fi
-    { unshare -m bash -c "$script" bash "$tree" "$program" "$k"; } > "$room/out" 2> "$room/error" ||
-      fail "killed below a mount at $k: $(cat "$room/out" "$room/error")"
-    printf '%s\n' x 'changed mounted/a.py' 'undone mounted/a.py' x mine .reuse-undo-new a.py |
-      cmp -s - "$room/out" || fail "killed below a mount at $k: $(cat "$room/out")"
+  local k call command lefts=0
+  anew
+  mkdir "$tree/mounted"
+  if ! unshare -m mount -t tmpfs none "$tree/mounted" 2> "$room/error"; then
+    echo 'mounted_and_killed: not tried, since no mount can be made'
+    return
+  fi
+  for call in log recover 'recover --skip-moved' 'log --no-sync'; do
+    for k in 1 2 3 4 5 6; do kill_below_mount "$k" "$call" ''; done
   done
+  for command in 'ln -sf a.py' 'rm "$1"; mkdir' 'rm "$1"; mkfifo'; do
+    kill_below_mount 5 log "$command \"\$1\""
+  done
+  as_nobody
+  for k in 1 2 3 4 5 6; do kill_below_mount "$k" log ''; done
+  kill_below_mount 5 log 'chmod 555 .'
+  as=()
+  ((lefts == 9)) || fail "killed below a mount: a file was left $lefts times"
+}
+
+# The same in a mount of its own: counts in `lefts` whether a file was left.
+kill_below_mount() {
+  anew
+  mkdir "$tree/mounted"
+  unshare -m bash -c "$(declare -f killed_below_mount); killed_below_mount \"\$@\"" bash \
+    "$tree" "$program" "$@" "${as[@]}" > "$room/out" 2> "$room/error" ||
+    fail "killed below a mount at $*: $(cat "$room/out" "$room/error")"
+  ! grep -qx left "$room/out" || lefts=$((lefts + 1))
+  [[ -n $3 ]] || printf '%s\n' 'changed mounted/a.py' 'undone mounted/a.py' |
+    cmp -s - <(grep -vx left "$room/out") || fail "killed below a mount at $*: $(cat "$room/out")"
 }
 
 # Where the system doesn't show open folders, they are sought by their paths, and a note tells. Nor

@@ -11,13 +11,13 @@ use Rattle.reuse_system.specs.SystemLaws.{IsAlikeBut, IsRenamed, MayBeRenamed, I
 use Rattle.reuse_system.specs.declared.place.FileStatus.{FileStatus}
 use Rattle.reuse_system.specs.declared.place.Found.{Found}
 
-reported_here : (place : Place) (found : Found)
+pub reported_here : (place : Place) (found : Found)
     → reported_of (Some (record { place = place; reported = found })) place ≡ Some found
 reported_here place found = ap (λ b. cond b (Some found) None) ((bytes_eq-Decides place place).1 refl)
 
 -- ---- lists of changes
 
-weaker : (P Q : NameChange → Type 0) → ((change : NameChange) → P change → Q change) → (changes : List NameChange)
+pub weaker : (P Q : NameChange → Type 0) → ((change : NameChange) → P change → Q change) → (changes : List NameChange)
     → AreEach P changes → AreEach Q changes
 weaker P Q from [] all = tt
 weaker P Q from (change ∷ changes) all = (from change all.0, weaker P Q from changes all.1)
@@ -30,7 +30,7 @@ back_of : (P : NameChange → Type 0) (xs ys : List NameChange) → AreEach P (x
 back_of P [] ys all = all
 back_of P (x ∷ xs) ys all = back_of P xs ys all.1
 
-both : (P : NameChange → Type 0) (xs ys : List NameChange) → AreEach P xs → AreEach P ys → AreEach P (xs ++ ys)
+pub both : (P : NameChange → Type 0) (xs ys : List NameChange) → AreEach P xs → AreEach P ys → AreEach P (xs ++ ys)
 both P [] ys front back = back
 both P (x ∷ xs) ys front back = (front.0, both P xs ys front.1 back)
 

@@ -6,3 +6,4 @@ pub mod NextNames
 pub mod OpenFoldersLemmas
 pub mod WrittenLemmas
 pub mod EditLemmas
+pub mod LeftLemmas

@@ -1,2 +1,3 @@
+pub mod LeftFiles
 pub mod OpenFolders
 pub mod Written

@@ -10,6 +10,7 @@
 mod empty_folders;
 mod listing;
 mod made_folder;
+mod mounted_folders;
 mod new_file;
 mod open_folders;
 mod start_folder;
@@ -17,6 +18,7 @@ mod syncs;
 
 pub use empty_folders::remove_folders;
 pub use listing::{Listing, list_below};
+pub use mounted_folders::MountedFolders;
 pub use new_file::{Content, NewFile, Target, Wanted, name_temp_file, remove_seen};
 pub use open_folders::OpenFolders;
 pub use syncs::Unsynced;

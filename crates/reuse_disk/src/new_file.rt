@@ -436,7 +436,7 @@ impl NewFile {
             (name_in target.entry.folder.now target.entry.name.now) content.entry.found
             (S.changes system.old) (S.changes system.new) (S.holds system.old) (S.holds system.new) }
     {
-        let name = beside_name(alloc, &self.folder)?;
+        let name = beside_name(alloc, self.folder.identity())?;
         let temp_file = make(system, target.folder, name.as_str(), content.mode())?;
         self.forget_granted();
         let written = self.put_or_discard(system, &temp_file, target, content, unsynced);

@@ -1,5 +1,5 @@
 //! A folder of the file system: its regular files by their paths.
-ghost use Rattle.std.specs.Prelude.{◌≡◌, All, false, IfOk, IsTrue, None};
+ghost use Rattle.std.specs.Prelude.{◌≡◌, All, false, IfOk, IsTrue, None, true};
 ghost use Rattle.std.specs.List.Sorted.{IsSorted};
 ghost use Rattle.std.specs.Ordering.{nat_cmp};
 ghost use Rattle.std.specs.Cmp.Lexicographic.{slice_cmp};
@@ -16,9 +16,10 @@ mod writing;
 use crate::journal_owner::{JournalOwners, journal_owners};
 use crate::ownership::OwnershipPolicy;
 use crate::remembered::Remembered;
+use crate::rolled_back::RolledBack;
 pub use batch::Stop;
 use reuse_change::{Change, PathText, Pruning};
-use reuse_disk::{Listing, NewFile, OpenFolders, Unsynced};
+use reuse_disk::{Listing, MountedFolders, NewFile, OpenFolders, Unsynced};
 use reuse_system::fault::FolderFault;
 use reuse_system::ignored::is_ignored;
 use reuse_system::place::{FileStatus, Found, Place, folder_and_name};
@@ -43,6 +44,8 @@ pub struct RootFolder<R: Files<File = File> + AllocGlobal + Clone + Drop> {
     reads: Vec<ReadPath>,
     /// Short files that were read, so that they need no second reading.
     remembered: Remembered,
+    /// The folders below mounts in which paths that were read lie.
+    mounted: MountedFolders,
     /// The place of new files, where its folder was looked at since the last listing or fault.
     new_file: Option<NewFile>,
     /// The folder that the last listing looked at last.
@@ -56,6 +59,7 @@ pub struct RootFolder<R: Files<File = File> + AllocGlobal + Clone + Drop> {
 
 impl<R: Files<File = File> + AllocGlobal + Clone + Drop> RootFolder<R> {
     ghost use Rattle.reuse_folder.specs.FolderReads.{IsPlaceAt, LiesIn};
+    ghost use Rattle.reuse_disk.specs.LeftFiles.{ClearsLeft};
     ghost use Rattle.reuse_disk.specs.OpenFolders.{current_of};
     ghost use Rattle.reuse_system.specs.FolderPlaces.{IsNoFile};
     /// The folder at this path, in which what is written is made durable or not.
@@ -68,12 +72,14 @@ impl<R: Files<File = File> + AllocGlobal + Clone + Drop> RootFolder<R> {
         let unsynced = Unsynced::new(rt.alloc(), syncs);
         let reads = Vec::new(rt.alloc());
         let remembered = Remembered::nothing(rt.alloc());
+        let mounted = MountedFolders::none(rt.alloc());
         let passed_over = Vec::new(rt.alloc());
         RootFolder {
             system: HostSystem::new(rt),
             open_folders,
             reads,
             remembered,
+            mounted,
             new_file: None,
             listed,
             passed_over,
@@ -277,9 +283,46 @@ impl<R: Files<File = File> + AllocGlobal + Clone + Drop> RootFolder<R> {
         }
     }
 
+    /// Removes the new files that a stopped run has left below mounts, in the folders in which
+    /// paths that were read lie, unless the journal was written.
+    fn clear_left(&mut self, alloc: Global, rolled_back: RolledBack)
+        ensures clears { ClearsLeft (⟦<HostSystem<R> as System>⟧.honest self.new.system)
+            (⟦<HostSystem<R> as System>⟧.folders self.new.system)
+            (⟦<HostSystem<R> as System>⟧.changes self.old.system) (⟦<HostSystem<R> as System>⟧.changes self.new.system)
+            (⟦<HostSystem<R> as System>⟧.holds self.old.system) (⟦<HostSystem<R> as System>⟧.holds self.new.system) }
+        ensures over { rolled_back.is_over ≡ true
+            → ⟦<HostSystem<R> as System>⟧.changes self.new.system
+            ≡ ⟦<HostSystem<R> as System>⟧.changes self.old.system }
+    {
+        if rolled_back.is_over() {
+            return;
+        }
+        self.mounted.clear(
+            &mut self.system,
+            alloc,
+            &mut self.open_folders,
+            &mut self.unsynced,
+        );
+    }
+
     /// Makes durable what the files of the journal hold now, and what the paths of these changes
-    /// hold, whoever wrote them, and all that was put and removed here.
-    pub fn sync(&mut self, alloc: Global, changes: &[Change]) -> Result<(), FolderFault> {
+    /// hold, whoever wrote them, and all that was put and removed here. In a rollback, what a
+    /// stopped run has left below mounts goes first.
+    pub fn sync(
+        &mut self,
+        alloc: Global,
+        changes: &[Change],
+        rolled_back: RolledBack,
+    ) -> Result<(), FolderFault>
+        ensures clears { ClearsLeft (⟦<HostSystem<R> as System>⟧.honest self.new.system)
+            (⟦<HostSystem<R> as System>⟧.folders self.new.system)
+            (⟦<HostSystem<R> as System>⟧.changes self.old.system) (⟦<HostSystem<R> as System>⟧.changes self.new.system)
+            (⟦<HostSystem<R> as System>⟧.holds self.old.system) (⟦<HostSystem<R> as System>⟧.holds self.new.system) }
+        ensures over { rolled_back.is_over ≡ true
+            → ⟦<HostSystem<R> as System>⟧.changes self.new.system
+            ≡ ⟦<HostSystem<R> as System>⟧.changes self.old.system }
+    {
+        self.clear_left(alloc, rolled_back);
         self.unsynced
             .sync(&mut self.system, alloc, &mut self.open_folders, changes)
     }

@@ -7,17 +7,17 @@
 //! `folder.sh`, `races.sh`, `syncs.sh`, `owners.sh` and `fail_system_calls.sh` in `tests/`.
 #![tactic(auto)]
 
-ghost use Rattle.std.specs.Prelude.{◌≡◌, ◌≢◌, ◌<◌, ℕ, [], ◌∷◌, List, IfErr, IfOk, MatchResult, is_ok, length};
+ghost use Rattle.std.specs.Prelude.{◌≡◌, ◌≢◌, ◌<◌, [], IfErr, IfOk, MatchResult, is_ok, length, true};
 ghost use Rattle.std.specs.FinMap as map;
 ghost use Rattle.reuse_store.specs.Store.{reading_of};
 ghost use Rattle.reuse_folder.specs.FolderReads.{IsReadWith};
 ghost use Rattle.reuse_folder.specs.FolderWrites.{IsGone, IsPutIn, IsRemovedIn, IsStoredAt};
 ghost use Rattle.reuse_folder.specs.RolledBack.{foreign_of};
 ghost use Rattle.reuse_folder.specs.Seen.{LoseNoEdits, LosesNoEditAfter};
+ghost use Rattle.reuse_disk.specs.LeftFiles.{ClearsLeft};
 ghost use Rattle.reuse_disk.specs.Written.{is_kept};
-ghost use Rattle.std.specs.Result.{result_map_both};
-ghost use Rattle.reuse_store.specs.Calls.Call.{ListCall};
 ghost use Rattle.reuse_store.specs.Asked.{FailsAsRead, OnlyReads, IsLater, IsPut, IsRemoval, IsWrite, AreWrites};
+ghost use Rattle.reuse_store.specs.Asked.{IsBarrier};
 ghost use Rattle.reuse_change.specs.Parts.{joined};
 ghost use Rattle.reuse_store.specs.Calls.{Start};
 ghost use Rattle.reuse_change.specs.Files.{AreFiles};
@@ -27,6 +27,7 @@ ghost use Rattle.reuse_folder.specs.Honesty.{files_of, IsHonest};
 mod failure;
 mod folder;
 mod journal_owner;
+mod noted_listing;
 mod ownership;
 mod remembered;
 mod rolled_back;
@@ -34,6 +35,7 @@ mod rolled_back;
 pub use failure::Failure;
 use failure::LastFailure;
 use folder::{RootFolder, Stop};
+use noted_listing::note_listing;
 pub use ownership::OwnerReport;
 use ownership::OwnershipPolicy;
 use reuse_change::{Change, PathText, Pieces, Pruning};
@@ -273,24 +275,6 @@ impl<R: Files<File = File> + AllocGlobal + Clone + Drop> DiskStore<R> {
     }
 }
 
-/// Notes a listing and its answer. Which folders it was to pass over is a ghost value: no record
-/// holds a function, so it is the list of those that the pruning names, picked where the pruning is
-/// at hand.
-fn note_listing<P: Pruning>(
-    calls: &mut CallRecord,
-    folders: &[PathText],
-    _pruning: &P,
-    answer: &Result<Vec<PathText>, StoreFault>,
-)
-    ghost pruned: { List (List ℕ) }
-    ensures { calls.new ≡ record calls.old {
-      calls = ListCall folders.now pruned
-          (result_map_both (λ paths. paths.items) (λ fault. fault) answer.now) ∷ calls.old.calls;
-    } }
-{
-    calls.note_list(folders, answer);
-}
-
 impl<R: Files<File = File> + AllocGlobal + Clone + Drop> Store for DiskStore<R> {
     ghost use Rattle.reuse_store.specs.Calls.{failures_of, written_of, mutations_of};
     ghost use Rattle.reuse_folder.specs.Honesty.{files_of, files_are_a_crash_state, IsHonest, IsCrashState};
@@ -407,8 +391,23 @@ impl<R: Files<File = File> + AllocGlobal + Clone + Drop> Store for DiskStore<R> 
         self.note_writes(alloc, writes, answer)
     }
 
-    fn sync(&mut self, alloc: Global, changes: &[Change]) -> Result<(), StoreFault> {
-        let answer = self.folder.sync(alloc, changes);
+    fn sync(&mut self, alloc: Global, changes: &[Change]) -> Result<(), StoreFault>
+        ensures barrier { IsBarrier ⟦<DiskStore<R> as Store>⟧ changes.now self.old self.new result }
+        ensures fails { FailsAsRead ⟦<DiskStore<R> as Store>⟧ self.old self.new result }
+        ensures reads { OnlyReads ⟦<DiskStore<R> as Store>⟧ self.old self.new }
+        // On the disk nothing differs but new files that a stopped run of this journal has left
+        // below mounts, and no name changes but theirs. Once the journal was written, none does.
+        ensures clears { ClearsLeft (⟦<HostSystem<R> as System>⟧.honest self.new.folder.system)
+            (⟦<HostSystem<R> as System>⟧.folders self.new.folder.system)
+            (⟦<HostSystem<R> as System>⟧.changes self.old.folder.system)
+            (⟦<HostSystem<R> as System>⟧.changes self.new.folder.system)
+            (⟦<HostSystem<R> as System>⟧.holds self.old.folder.system)
+            (⟦<HostSystem<R> as System>⟧.holds self.new.folder.system) }
+        ensures over { self.old.rolled_back.is_over ≡ true
+            → ⟦<HostSystem<R> as System>⟧.changes self.new.folder.system
+            ≡ ⟦<HostSystem<R> as System>⟧.changes self.old.folder.system }
+    {
+        let answer = self.folder.sync(alloc, changes, self.rolled_back);
         self.failure
             .note(alloc, StoreRequest::Sync, self.folder.synced(), &answer);
         let answer = answer.map_err(StoreFault::from);

@@ -73,6 +73,13 @@ impl RolledBack {
         }
     }
 
+    /// Whether the journal was written.
+    pub fn is_over(&self) -> bool
+        ensures { result ≡ self.now.is_over }
+    {
+        self.is_over
+    }
+
     /// How many files were rolled back, if the step was pending and isn't any more.
     pub fn files(&self) -> Option<usize>
         ensures { result ≡ rolled_back_by self.now }

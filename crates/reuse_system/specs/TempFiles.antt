@@ -1,5 +1,5 @@
 -- Places of temporary files that are written or read, and of names in open folders.
-use Rattle.std.specs.Prelude.{◌≡◌, ◌⊎◌, ◌++◌, ℕ, List, decimal, string_bytes, IsTrue}
+use Rattle.std.specs.Prelude.{◌≡◌, ◌⊎◌, ◌++◌, ◌==◌, ℕ, Bool, not, List, decimal, string_bytes, IsTrue}
 use Rattle.reuse_change.specs.Layout.{new_beside_numbered}
 use Rattle.reuse_system.specs.FileStates.{FileKey, Place, place_in}
 use Rattle.reuse_system.specs.FileStates.FileKey.{Made}
@@ -33,6 +33,10 @@ IsNewIn folder place = (name : List ℕ) × IsTrue (is_new_name name) × (place 
 -- of new files, so it is no name of anybody else's.
 abbrev pub beside_name : Identity → List ℕ
 beside_name new_files = new_beside_numbered ++ decimal new_files.number
+
+-- the folders lie on different devices
+abbrev pub is_elsewhere : Identity → Identity → Bool
+is_elsewhere one other = not (one.device == other.device)
 
 -- where a new file is written: in the folder of new files, or else beside the one that it is to be
 abbrev pub IsNewPlace : Identity → Identity → Place → Type 0

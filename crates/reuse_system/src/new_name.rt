@@ -6,6 +6,7 @@ ghost use Rattle.reuse_system.specs.Ignored.{is_new_name};
 use crate::fault::FolderFault;
 use crate::handle::OpenFolder;
 use crate::ignored::is_new_name;
+use crate::place::Identity;
 use reuse_change::layout::{NEW, NEW_BESIDE};
 use std::alloc::{AllocError, Global};
 use std::fs::{self, File};
@@ -48,10 +49,10 @@ impl NewName {
 
 /// The name of a file that is written beside the one that it is to be, if this is the folder of new
 /// files: no run with another journal takes it, and nobody else would.
-pub fn beside_name(alloc: Global, new_files: &OpenFolder) -> Result<String, AllocError>
-    ensures { IfOk result (λ name. string_bytes name ≡ beside_name new_files.now.identity) }
+pub fn beside_name(alloc: Global, new_files: Identity) -> Result<String, AllocError>
+    ensures { IfOk result (λ name. string_bytes name ≡ beside_name new_files) }
 {
-    let number = new_files.identity().number();
+    let number = new_files.number();
     Ok(format!(in alloc; "{NEW_BESIDE}.{number}")?)
 }
 

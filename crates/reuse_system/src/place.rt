@@ -1,5 +1,6 @@
 //! What stands at a path below a root. No link is followed.
 ghost use Rattle.std.specs.Prelude.{◌≡◌, ℕ, List, IsTrue, length, nat_lt};
+ghost use Rattle.reuse_system.specs.TempFiles.{is_elsewhere};
 ghost use Rattle.reuse_system.specs.Owners.{rights_of_mode};
 ghost use Rattle.reuse_system.specs.Names.{IsNameOf, IsSplit};
 
@@ -38,6 +39,13 @@ impl Identity {
         ensures { result ≡ self.number }
     {
         self.number
+    }
+
+    /// Whether the other one lies on another device.
+    pub fn is_elsewhere(self, other: Identity) -> bool
+        ensures { result ≡ is_elsewhere self other }
+    {
+        self.device != other.device
     }
 
     /// Whether the file or folder of this identity is found at this path.

@@ -84,6 +84,7 @@ impl<R: Files<File = File> + AllocGlobal + Clone + Drop> RootFolder<R> {
             (⟦<HostSystem<R> as System>⟧.holds self.new.system) path.now limit) }
     {
         let reading = self.read(alloc, path, limit)?;
+        self.mounted.note(alloc, &self.open_folders);
         match (&reading, foreign) {
             (Reading::Absent, Foreign::TooLong) if !is_ignored(path.text()) => {
                 self.foreign_or(alloc, path, reading)

@@ -1,8 +1,24 @@
 use Rattle.std.proofs.Common.{◌≡◌, ◌∙◌, ap, inr}
-use Rattle.reuse_system.specs.TempFiles.{name_in, place_of, IsNewPlace}
+use Rattle.reuse_system.specs.TempFiles.{beside_name, name_in, place_of, IsNewPlace}
 use Rattle.reuse_system.specs.FileStates.{Place, place_in}
 use Rattle.reuse_disk.proofs.EditLemmas.{guarded_only, guarded_then, guarded_weaker, only_weaker}
 use Rattle.reuse_disk.proofs.new_file.NewFile.write_beside.Goals as goal
+
+pub returns-in_err-temp_file-clause-guarded : goal.returns-in_err-temp_file-clause-guarded
+returns-in_err-temp_file-clause-guarded g c =
+    let s = g.S.System in
+    let folder = c.args.self.now.folder.identity in
+    let to = c.args.target.folder.now.identity in
+    let target = name_in c.args.target.folder.now c.args.target.name.now in
+    let place = name_in c.args.target.folder.now c.as_str.result.now in
+    let is : (other : Place) → other ≡ place → IsNewPlace folder to other =
+    λ other e. inr
+    (e ∙ ap (place_in to) (c.as_str.ensures.value ∙ c.in_ok-name.ensures ∙ ap beside_name c.identity.ensures)) in
+    let a = c.args.system.now in
+    let b = c.make.new.system in
+    guarded_only (IsNewPlace folder to) target c.args.content.found (s.changes a) (s.changes b) (s.holds a) (s.holds b)
+    (only_weaker (λ other. other ≡ place) (IsNewPlace folder to) is (s.changes a) (s.changes b) c.make.ensures.changes)
+    (λ no. c.make.ensures.others target (λ e. no (is target e)))
 
 pub returns-clause-guarded : goal.returns-clause-guarded
 returns-clause-guarded g c =
@@ -13,7 +29,8 @@ returns-clause-guarded g c =
     let seen = c.args.content.found in
     let place = name_in c.args.target.folder.now c.as_str.result.now in
     let is : (other : Place) → other ≡ place → IsNewPlace folder to other =
-    λ other e. inr (e ∙ ap (place_in to) (c.as_str.ensures.value ∙ c.in_ok-name.ensures)) in
+    λ other e. inr
+    (e ∙ ap (place_in to) (c.as_str.ensures.value ∙ c.in_ok-name.ensures ∙ ap beside_name c.identity.ensures)) in
     let a = c.args.system.now in
     let b = c.make.new.system in
     let d = c.put_or_discard-written.new.system in

@@ -1,0 +1,32 @@
+use Rattle.std.proofs.Common.{◌≡◌, ◌∙◌, sym, ap, subst, Some}
+use Rattle.std.specs.Prelude.{codes}
+use Rattle.reuse_system.specs.Folders.{folder_at}
+use Rattle.reuse_disk.specs.LeftFiles.{ClearsLeft, IsJournalIf}
+use Rattle.reuse_disk.specs.OpenFolders.{AreOpenedIf}
+use Rattle.reuse_disk.proofs.LeftLemmas.{clears_later, clears_then}
+use Rattle.reuse_disk.proofs.mounted_folders.MountedFolders.clear_each.Goals as goal
+
+pub loop-path-preserved : goal.loop-path-preserved
+loop-path-preserved g c =
+    let s = g.S.System in
+    let first = c.args.system.now in
+    let before = c.loop-path.system in
+    let after = c.clear_folder.new.system in
+    let known : AreOpenedIf (s.honest first) (s.folders first) c.args.open_folders.now
+    → IsJournalIf (s.honest before) (s.folders before) c.identity-journal.result =
+    λ opened honest. ap (λ folders. folder_at folders (codes ".reuse/undo"))
+    (c.loop-path.invariant.1 ∙ sym c.enter_seen.ensures.still)
+    ∙ c.in_ok-enter_seen.ensures.entered opened (c.loop-path.invariant.2 honest) ∙ c.in_ok-current.ensures
+    ∙ ap (λ one. Some one) (sym c.identity-journal.ensures) in (
+      (λ opened. clears_then (s.honest after) (s.folders after) (s.changes first) (s.changes before) (s.changes after)
+          (s.holds first) (s.holds before) (s.holds after)
+          (clears_later (s.honest before) (s.honest after) (s.folders after) (s.changes first) (s.changes before)
+          (s.holds first) (s.holds before) c.clear_folder.ensures.earlier
+          (subst (λ folders. ClearsLeft (s.honest before) folders (s.changes first) (s.changes before) (s.holds first)
+          (s.holds before)) (sym c.clear_folder.ensures.still) (c.loop-path.invariant.0 opened)))
+          (c.clear_folder.ensures.cleared (c.loop-path.invariant.3 opened) (known opened))),
+      c.clear_folder.ensures.still ∙ c.loop-path.invariant.1,
+      (λ honest. c.loop-path.invariant.2 (c.clear_folder.ensures.earlier honest)),
+      (λ opened. c.clear_folder.ensures.opened (c.loop-path.invariant.3 opened)),
+      c.clear_folder.ensures.syncs ∙ c.loop-path.invariant.4,
+    )
