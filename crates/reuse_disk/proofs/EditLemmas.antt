@@ -1,15 +1,15 @@
 -- No edit is lost where a name changes only if what was seen stands there directly before.
-use Rattle.std.proofs.Common.{◌≡◌, ◌≢◌, ◌⊎◌, inl, inr, ℕ, Bool, true, List, [], ◌∷◌, ◌++◌, Option, None, Some, Result}
-use Rattle.std.proofs.Common.{Ok, Err, MatchResult, refl, sym, ◌∙◌, ap, cond, append_assoc}
-use Rattle.std.specs.Str.{bytes_eq}
-use Rattle.std.specs.declared.io.Error.{Error}
+use Rattle.std.proofs.Common.{◌≡◌, ◌≢◌, inl, inr, List, [], ◌∷◌, ◌++◌, Option, None, Some, Result, Ok, Err, MatchResult}
+use Rattle.std.proofs.Common.{refl, sym, ◌∙◌, ap, subst, cond, append_assoc}
 use Rattle.std.proofs.lemmas.Slice.Eq.{bytes_eq-Decides}
-use Rattle.reuse_system.specs.FileStates.{Place, FileState}
+use Rattle.reuse_system.specs.FileStates.{Place, FileState, StateFile}
 use Rattle.reuse_system.specs.NameChanges.{Look, NameChange, AreEach, reported_of, change_at, change_of_free}
 use Rattle.reuse_system.specs.NameChanges.{IsExpected, IsChangeOf, IsGuarded, OnlyChanges}
-use Rattle.reuse_system.specs.SystemLaws.{IsAlikeBut, IsRenamed, MayBeRenamed, IsLinked, MayBeLinked}
+use Rattle.reuse_system.specs.SystemLaws.{IsAlikeBut, IsLeft, IsOneFile, IsRenamed, IsSeen, MayBeRenamed, IsLinked}
+use Rattle.reuse_system.specs.SystemLaws.{MayBeLinked}
 use Rattle.reuse_system.specs.declared.place.FileStatus.{FileStatus}
 use Rattle.reuse_system.specs.declared.place.Found.{Found}
+use Rattle.reuse_system.specs.declared.place.Found.TheVariants as found
 
 pub reported_here : (place : Place) (found : Found)
     → reported_of (Some (record { place = place; reported = found })) place ≡ Some found
@@ -205,3 +205,31 @@ pub renamed_after_link : {E : Type 0} (from to : Place) (a b c : FileState) (ans
     → MatchResult answer (λ _. IsRenamed from to a c) (λ _. MayBeRenamed from to a c)
 renamed_after_link from to a b c (Ok done) linked renamed = renamed_after from to a b c linked renamed
 renamed_after_link from to a b c (Err error) linked renamed = may_rename_after from to a b c linked renamed
+
+-- ---- whether a file has left its old name
+
+pub left_gone : (from to : Place) (a b : FileState) → from ≢ to → ¬ (IsOneFile (a from) (a to))
+    → IsLeft from to a b → b from ≡ None
+left_gone from to a b apart other (inl gone) = gone
+left_gone from to a b apart other (inr (same, inl e)) = absurd (apart e)
+left_gone from to a b apart other (inr (same, inr one)) = absurd (other one)
+
+not_none : (one : Option StateFile) → ¬ (IsOneFile one None)
+not_none None same = same
+not_none (Some held) same = same
+
+-- where nothing stood
+pub apart_from_none : (one other : Option StateFile) → other ≡ None → ¬ (IsOneFile one other)
+apart_from_none one other none same = not_none one (subst (IsOneFile one) none same)
+
+-- what was reported of a name at which nothing was expected
+pub free_of_look : (reported : Found) (held : Option StateFile) (seen : Option FileStatus) → seen ≡ None
+    → IsExpected seen (Some reported) → IsSeen held (Ok reported) → held ≡ None
+free_of_look reported held None none expected seen = free reported expected seen
+  where
+    free : (reported : Found) → Some reported ≡ Some found.Nothing → IsSeen held (Ok reported) → held ≡ None
+    free found.Nothing same seen = seen
+    free (found.File status) same seen = absurd (cc)
+    free (found.Folder identity) same seen = seen
+    free found.Other same seen = seen
+free_of_look reported held (Some status) none expected seen = absurd (cc)

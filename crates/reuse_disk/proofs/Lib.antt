@@ -3,7 +3,9 @@ pub mod LastNames
 pub mod Listed
 pub mod MadeFolders
 pub mod NextNames
+pub mod PlaceLemmas
 pub mod OpenFoldersLemmas
 pub mod WrittenLemmas
 pub mod EditLemmas
 pub mod LeftLemmas
+pub mod NoteLemmas

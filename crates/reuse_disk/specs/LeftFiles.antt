@@ -1,5 +1,6 @@
 -- New files that a stopped run has left beside those that they were to be.
-use Rattle.std.specs.Prelude.{◌≡◌, ◌++◌, ℕ, List, codes, IsTrue, None, Some}
+use Rattle.std.specs.Prelude.{◌≡◌, ◌++◌, ℕ, List, IsTrue, None, Some}
+use Rattle.reuse_change.specs.Layout.{journal_folder}
 use Rattle.reuse_system.specs.TempFiles.{beside_name, is_elsewhere}
 use Rattle.reuse_system.specs.FileStates.{FileState, Place, place_in}
 use Rattle.reuse_system.specs.Folders.{Folders, folder_at}
@@ -11,7 +12,7 @@ use Rattle.reuse_system.specs.declared.place.Identity.{Identity}
 
 -- this is the journal's folder, if the system is honest
 abbrev pub IsJournalIf : Type 0 → Folders → Identity → Type 0
-IsJournalIf IsHonest folders journal = IsHonest → folder_at folders (codes ".reuse/undo") ≡ Some journal
+IsJournalIf IsHonest folders journal = IsHonest → folder_at folders journal_folder ≡ Some journal
 
 -- the name that this journal's new files have in a folder below the root that lies on another device than the journal's
 pub record IsLeft (IsHonest : Type 0) (folders : Folders) (place : Place) : Type 0 where

@@ -1,3 +1,4 @@
 pub mod LeftFiles
+pub mod Noted
 pub mod OpenFolders
 pub mod Written

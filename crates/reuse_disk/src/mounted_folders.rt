@@ -7,8 +7,8 @@ ghost use Rattle.reuse_disk.specs.OpenFolders.{AreOpenedIf};
 
 use crate::open_folders::OpenFolders;
 use crate::syncs::Unsynced;
+use reuse_change::layout::JOURNAL;
 use reuse_system::fault::FolderFault;
-use reuse_system::ignored::JOURNAL;
 use reuse_system::new_name::beside_name;
 use reuse_system::place::{Found, Identity};
 use reuse_system::system::System;

@@ -1,24 +1,24 @@
 //! Writing a file as a whole or not at all: a new one is written to a temporary file, and its data
 //! is synced before it is given its name.
-ghost use Rattle.std.specs.Prelude.{◌≡◌, ℕ, Bool, List, MatchResult, None, Some, false, is_ok, IfOk};
+ghost use Rattle.std.specs.Prelude.{◌≡◌, ◌⊎◌, [], None, MatchResult, false, is_ok, IfOk, IsErr, codes};
 ghost use Rattle.reuse_change.specs.Parts.{joined};
-ghost use Rattle.reuse_system.specs.NameChanges.{IsExpected, IsGuarded, OnlyChanges};
-ghost use Rattle.reuse_system.specs.SystemLaws.{IsAlikeBut, IsAlikeButFile, IsAlikeUnless, IsFilled, IsRemoved};
-ghost use Rattle.reuse_system.specs.SystemLaws.{IsRenamed, MayBeRenamed};
-ghost use Rattle.reuse_system.specs.TempFiles.{name_in, place_of, key_of, IsNewIn, IsNewPlace};
-ghost use Rattle.reuse_system.specs.FileStates.{file};
-ghost use Rattle.reuse_disk.specs.Written.{StandsAlone, IsWritten, is_kept, is_named};
+ghost use Rattle.reuse_system.specs.NameChanges.{IsGuarded, OnlyChanges};
+ghost use Rattle.reuse_system.specs.SystemLaws.{IsAlikeBut, IsAlikeButFile, IsAlikeUnless, IsFilled};
+ghost use Rattle.reuse_system.specs.TempFiles.{name_in, place_of, key_of, beside_name, new_name, IsNewIn, IsNewNameIn};
+ghost use Rattle.reuse_system.specs.TempFiles.{IsNewPlace};
+ghost use Rattle.reuse_disk.specs.Written.{StandsAlone, IsWritten, IsPlaced, LeavesNone, is_kept, is_named};
 
+use crate::naming::{Target, name_temp_file};
 use crate::syncs::Unsynced;
 use reuse_change::Pieces;
 use reuse_change::layout::NEW;
 use reuse_system::fault::{FolderFault, IoReason};
 use reuse_system::handle::OpenFolder;
-use reuse_system::ignored::is_in_journal;
+use reuse_system::ignored::{is_beside_name, is_new_name};
 use reuse_system::new_name::{NewName, beside_name};
 use reuse_system::owner::{Owner, Process};
 use reuse_system::parts_writer::write_parts;
-use reuse_system::place::{FileStatus, Found, folder_and_name};
+use reuse_system::place::{FileStatus, Found};
 use reuse_system::system::{System, TempFile};
 use std::alloc::Global;
 use std::io::{self, ErrorKind};
@@ -51,17 +51,6 @@ impl Content<'_> {
     }
 }
 
-/// A name that a file is to get in an open folder, and its path below the root.
-#[derive(Clone, Copy)]
-pub struct Target<'a> {
-    /// The folder.
-    pub folder: &'a OpenFolder,
-    /// The name in it.
-    pub name: &'a str,
-    /// The path below the root.
-    pub path: &'a str,
-}
-
 /// The folder in which each file is written before it is given its name.
 #[derive(Drop)]
 pub struct NewFile {
@@ -85,7 +74,7 @@ fn make<S: System>(
     mode: Option<u32>,
 ) -> io::Result<TempFile>
     ensures made { IfOk result (λ temp_file. (place_of temp_file ≡ name_in folder.now name.now)
-        × StandsAlone (place_of temp_file) (key_of temp_file) (S.holds system.new)) }
+        × StandsAlone (place_of temp_file) (key_of temp_file) [] false (S.holds system.new)) }
     ensures others { IsAlikeBut (name_in folder.now name.now) (S.holds system.old) (S.holds system.new) }
     ensures still { S.folders system.new ≡ S.folders system.old }
     ensures earlier { S.honest system.new → S.honest system.old }
@@ -99,131 +88,6 @@ fn make<S: System>(
         }
         made => made,
     }
-}
-
-/// Fails if what stands at a name isn't what was seen there.
-fn check_found(found: Found, seen: Option<FileStatus>) -> Result<(), FolderFault>
-    ensures { IfOk result (λ _. IsExpected seen (Some found)) }
-{
-    let is_same = match (found, seen) {
-        (Found::File(status), Some(seen)) => status.is_same(&seen),
-        (Found::Nothing, None) => true,
-        _ => false,
-    };
-    if is_same {
-        Ok(())
-    } else {
-        Err(FolderFault::Device(IoReason::Changing))
-    }
-}
-
-/// Whether this reports that the file system has no links, or that this one may not be made.
-fn is_without_links(error: &io::Error) -> bool {
-    matches!(
-        error.kind(),
-        ErrorKind::PermissionDenied | ErrorKind::Unsupported | ErrorKind::TooManyLinks
-    )
-}
-
-/// Gives the temporary file the name of the target, if that stands directly before as it was seen.
-fn replace<S: System>(
-    system: &mut S,
-    temp_file: &TempFile,
-    target: Target<'_>,
-    seen: Option<FileStatus>,
-) -> Result<(), FolderFault>
-    ensures renamed { MatchResult result
-        (λ _. IsRenamed (place_of temp_file.now) (name_in target.entry.folder.now target.entry.name.now)
-        (S.holds system.old) (S.holds system.new))
-        (λ _. MayBeRenamed (place_of temp_file.now) (name_in target.entry.folder.now target.entry.name.now)
-        (S.holds system.old) (S.holds system.new)) }
-    ensures guarded { IsGuarded (λ place. place ≡ place_of temp_file.now)
-        (name_in target.entry.folder.now target.entry.name.now) seen
-        (S.changes system.old) (S.changes system.new) (S.holds system.old) (S.holds system.new) }
-    ensures still { S.folders system.new ≡ S.folders system.old }
-    ensures earlier { S.honest system.new → S.honest system.old }
-{
-    let found = system.look(target.folder, target.name)?;
-    check_found(found, seen)?;
-    Ok(system.rename(temp_file, target.folder, target.name)?)
-}
-
-/// Gives the temporary file the name of the target, which nothing has: by a link, which takes no
-/// name that is there. If there are no links, the name is looked at.
-fn take_name<S: System>(
-    system: &mut S,
-    temp_file: &TempFile,
-    target: Target<'_>,
-) -> Result<(), FolderFault>
-    ensures renamed { MatchResult result
-        (λ _. IsRenamed (place_of temp_file.now) (name_in target.entry.folder.now target.entry.name.now)
-        (S.holds system.old) (S.holds system.new))
-        (λ _. MayBeRenamed (place_of temp_file.now) (name_in target.entry.folder.now target.entry.name.now)
-        (S.holds system.old) (S.holds system.new)) }
-    ensures guarded { IsGuarded (λ place. place ≡ place_of temp_file.now)
-        (name_in target.entry.folder.now target.entry.name.now) None
-        (S.changes system.old) (S.changes system.new) (S.holds system.old) (S.holds system.new) }
-    ensures still { S.folders system.new ≡ S.folders system.old }
-    ensures earlier { S.honest system.new → S.honest system.old }
-{
-    match system.link(temp_file, target.folder, target.name) {
-        Ok(()) => {
-            system.discard(temp_file);
-            Ok(())
-        }
-        Err(error) if error.kind() == ErrorKind::AlreadyExists => {
-            Err(FolderFault::Device(IoReason::Changing))
-        }
-        Err(error) if is_without_links(&error) => replace(system, temp_file, target, None),
-        Err(error) => Err(error.into()),
-    }
-}
-
-/// Gives the temporary file the name of the target, if what was seen there still stands there: a
-/// file, or nothing. Nobody else makes files of the journal, so those need no link.
-fn give_name<S: System>(
-    system: &mut S,
-    temp_file: &TempFile,
-    target: Target<'_>,
-    seen: Option<FileStatus>,
-) -> Result<(), FolderFault>
-    ensures renamed { MatchResult result
-        (λ _. IsRenamed (place_of temp_file.now) (name_in target.entry.folder.now target.entry.name.now)
-        (S.holds system.old) (S.holds system.new))
-        (λ _. MayBeRenamed (place_of temp_file.now) (name_in target.entry.folder.now target.entry.name.now)
-        (S.holds system.old) (S.holds system.new)) }
-    ensures guarded { IsGuarded (λ place. place ≡ place_of temp_file.now)
-        (name_in target.entry.folder.now target.entry.name.now) seen
-        (S.changes system.old) (S.changes system.new) (S.holds system.old) (S.holds system.new) }
-    ensures still { S.folders system.new ≡ S.folders system.old }
-    ensures earlier { S.honest system.new → S.honest system.old }
-{
-    if seen.is_some() || is_in_journal(target.path) {
-        replace(system, temp_file, target, seen)
-    } else {
-        take_name(system, temp_file, target)
-    }
-}
-
-/// Removes the file of the target, if it stands directly before as it was seen.
-pub fn remove_seen<S: System>(
-    system: &mut S,
-    target: Target<'_>,
-    seen: FileStatus,
-) -> Result<(), FolderFault>
-    ensures removed { MatchResult result
-        (λ _. IsRemoved (name_in target.entry.folder.now target.entry.name.now) (S.holds system.old)
-        (S.holds system.new))
-        (λ _. IsAlikeBut (name_in target.entry.folder.now target.entry.name.now) (S.holds system.old)
-        (S.holds system.new)) }
-    ensures guarded { IsGuarded (λ _. ⊥) (name_in target.entry.folder.now target.entry.name.now) (Some seen)
-        (S.changes system.old) (S.changes system.new) (S.holds system.old) (S.holds system.new) }
-    ensures still { S.folders system.new ≡ S.folders system.old }
-    ensures earlier { S.honest system.new → S.honest system.old }
-{
-    let found = system.look(target.folder, target.name)?;
-    check_found(found, Some(seen))?;
-    Ok(system.remove(target.folder, target.name)?)
 }
 
 impl NewFile {
@@ -315,6 +179,7 @@ impl NewFile {
     ) -> io::Result<()>
         ensures folder { self.new.folder ≡ self.old.folder }
         ensures syncs { unsynced.new.syncs ≡ unsynced.old.syncs }
+        ensures folders { unsynced.new.folders ≡ unsynced.old.folders }
         ensures filled { MatchResult result
             (λ _. IsFilled (key_of temp_file.now) (joined content.entry.parts) (is_kept unsynced.old.syncs)
             (S.holds system.old) (S.holds system.new))
@@ -328,7 +193,7 @@ impl NewFile {
     }
 
     /// Writes the content to a temporary file, makes its data durable, and gives it the
-    /// name of the target.
+    /// name of the target, if that lies on the same device: says whether it does.
     fn put_in_place<S: System>(
         &mut self,
         system: &mut S,
@@ -336,22 +201,23 @@ impl NewFile {
         target: Target<'_>,
         content: Content<'_>,
         unsynced: &mut Unsynced,
-    ) -> Result<(), FolderFault>
+    ) -> Result<bool, FolderFault>
         ensures folder { self.new.folder ≡ self.old.folder }
         ensures syncs { unsynced.new.syncs ≡ unsynced.old.syncs }
-        ensures written { StandsAlone (place_of temp_file.now) (key_of temp_file.now) (S.holds system.old)
-            → IsWritten (λ place. place ≡ place_of temp_file.now)
+        ensures folders { unsynced.new.folders ≡ unsynced.old.folders }
+        ensures placed { StandsAlone (place_of temp_file.now) (key_of temp_file.now) [] false (S.holds system.old)
+            → IsPlaced (S.honest system.new) (place_of temp_file.now)
             (name_in target.entry.folder.now target.entry.name.now) (joined content.entry.parts)
-            (is_kept unsynced.old.syncs) (S.holds system.old) (S.holds system.new) (is_ok result) }
+            (is_kept unsynced.old.syncs) (S.holds system.old) (S.holds system.new) (is_named result) (is_named result) }
         ensures still { S.folders system.new ≡ S.folders system.old }
         ensures earlier { S.honest system.new → S.honest system.old }
-        ensures guarded { StandsAlone (place_of temp_file.now) (key_of temp_file.now) (S.holds system.old)
+        ensures guarded { StandsAlone (place_of temp_file.now) (key_of temp_file.now) [] false (S.holds system.old)
             → IsGuarded (λ place. place ≡ place_of temp_file.now)
             (name_in target.entry.folder.now target.entry.name.now) content.entry.found
             (S.changes system.old) (S.changes system.new) (S.holds system.old) (S.holds system.new) }
     {
         self.complete(system, temp_file, target.path, content, unsynced)?;
-        give_name(system, temp_file, target, content.found)
+        name_temp_file(system, temp_file, target, content.found)
     }
 
     /// Does so, or removes the temporary file.
@@ -362,27 +228,30 @@ impl NewFile {
         target: Target<'_>,
         content: Content<'_>,
         unsynced: &mut Unsynced,
-    ) -> Result<(), FolderFault>
+    ) -> Result<bool, FolderFault>
         ensures folder { self.new.folder ≡ self.old.folder }
         ensures syncs { unsynced.new.syncs ≡ unsynced.old.syncs }
-        ensures written { StandsAlone (place_of temp_file.now) (key_of temp_file.now) (S.holds system.old)
-            → IsWritten (λ place. place ≡ place_of temp_file.now)
+        ensures folders { unsynced.new.folders ≡ unsynced.old.folders }
+        ensures placed { StandsAlone (place_of temp_file.now) (key_of temp_file.now) [] false (S.holds system.old)
+            → IsPlaced (S.honest system.new) (place_of temp_file.now)
             (name_in target.entry.folder.now target.entry.name.now) (joined content.entry.parts)
-            (is_kept unsynced.old.syncs) (S.holds system.old) (S.holds system.new) (is_ok result) }
+            (is_kept unsynced.old.syncs) (S.holds system.old) (S.holds system.new) (is_named result) (is_ok result) }
         ensures still { S.folders system.new ≡ S.folders system.old }
         ensures earlier { S.honest system.new → S.honest system.old }
-        ensures guarded { StandsAlone (place_of temp_file.now) (key_of temp_file.now) (S.holds system.old)
+        ensures guarded { StandsAlone (place_of temp_file.now) (key_of temp_file.now) [] false (S.holds system.old)
             → IsGuarded (λ place. place ≡ place_of temp_file.now)
             (name_in target.entry.folder.now target.entry.name.now) content.entry.found
             (S.changes system.old) (S.changes system.new) (S.holds system.old) (S.holds system.new) }
     {
-        let written = self.put_in_place(system, temp_file, target, content, unsynced);
-        if written.is_err() {
-            // What is left of the new file is of no use, and a fault of its removal reports no
-            // more.
-            system.discard(temp_file);
+        let named = self.put_in_place(system, temp_file, target, content, unsynced);
+        if let Ok(true) = named {
+            return named;
         }
-        written
+        let removed = system.discard(temp_file);
+        if named.is_ok() {
+            removed?;
+        }
+        named
     }
 
     /// What was granted, and to whom, is known of the one folder alone.
@@ -393,19 +262,36 @@ impl NewFile {
         self.made = None;
     }
 
-    /// Writes the content in the folder of new files and gives it the name of the target.
+    /// Fails if a file of the target could be taken for one that is written to a temporary file
+    /// here or beside it.
+    pub fn check(&self, target: Target<'_>) -> Result<(), FolderFault>
+        ensures apart { IfOk result (λ _. ¬ (IsNewPlace self.now.folder.identity target.entry.folder.now.identity
+            (name_in target.entry.folder.now target.entry.name.now))) }
+        ensures refused { IsErr result
+            → IsNewNameIn self.now.folder.identity target.entry.folder.now.identity target.entry.name.now }
+    {
+        let is_here = target.folder.identity() == self.folder.identity();
+        if is_beside_name(target.name) || (is_here && is_new_name(target.name)) {
+            return Err(FolderFault::Device(IoReason::Foreign));
+        }
+        Ok(())
+    }
+
+    /// Writes the content in the folder of new files and gives it the name of the target, if that
+    /// lies on the same device: says whether it does.
     fn write_here<S: System>(
         &mut self,
         system: &mut S,
         target: Target<'_>,
         content: Content<'_>,
         unsynced: &mut Unsynced,
-    ) -> Result<(), FolderFault>
+    ) -> Result<bool, FolderFault>
         ensures folder { self.new.folder ≡ self.old.folder }
         ensures syncs { unsynced.new.syncs ≡ unsynced.old.syncs }
-        ensures written { IsWritten (IsNewPlace self.old.folder.identity target.entry.folder.now.identity)
+        ensures folders { unsynced.new.folders ≡ unsynced.old.folders }
+        ensures placed { IsPlaced (S.honest system.new) (name_in self.old.folder (codes "new"))
             (name_in target.entry.folder.now target.entry.name.now) (joined content.entry.parts)
-            (is_kept unsynced.old.syncs) (S.holds system.old) (S.holds system.new) (is_ok result) }
+            (is_kept unsynced.old.syncs) (S.holds system.old) (S.holds system.new) (is_named result) (is_ok result) }
         ensures still { S.folders system.new ≡ S.folders system.old }
         ensures earlier { S.honest system.new → S.honest system.old }
         ensures guarded { IsGuarded (IsNewPlace self.old.folder.identity target.entry.folder.now.identity)
@@ -417,7 +303,7 @@ impl NewFile {
     }
 
     /// Writes the content beside the file that it is to be, and gives it the name of that.
-    fn write_beside<S: System>(
+    pub fn write_beside<S: System>(
         &mut self,
         system: &mut S,
         alloc: Global,
@@ -427,9 +313,11 @@ impl NewFile {
     ) -> Result<(), FolderFault>
         ensures folder { self.new.folder ≡ self.old.folder }
         ensures syncs { unsynced.new.syncs ≡ unsynced.old.syncs }
-        ensures written { IsWritten (IsNewPlace self.old.folder.identity target.entry.folder.now.identity)
+        ensures folders { unsynced.new.folders ≡ unsynced.old.folders }
+        ensures placed { IsPlaced (S.honest system.new)
+            (name_in target.entry.folder.now (beside_name self.old.folder.identity))
             (name_in target.entry.folder.now target.entry.name.now) (joined content.entry.parts)
-            (is_kept unsynced.old.syncs) (S.holds system.old) (S.holds system.new) (is_ok result) }
+            (is_kept unsynced.old.syncs) (S.holds system.old) (S.holds system.new) (is_ok result) (is_ok result) }
         ensures still { S.folders system.new ≡ S.folders system.old }
         ensures earlier { S.honest system.new → S.honest system.old }
         ensures guarded { IsGuarded (IsNewPlace self.old.folder.identity target.entry.folder.now.identity)
@@ -439,14 +327,17 @@ impl NewFile {
         let name = beside_name(alloc, self.folder.identity())?;
         let temp_file = make(system, target.folder, name.as_str(), content.mode())?;
         self.forget_granted();
-        let written = self.put_or_discard(system, &temp_file, target, content, unsynced);
+        let named = self.put_or_discard(system, &temp_file, target, content, unsynced);
         self.forget_granted();
-        written
+        if named? {
+            return Ok(());
+        }
+        let error: io::Error = ErrorKind::CrossesDevices.into();
+        Err(error.into())
     }
 
     /// Writes the content and gives the file the name of the target. Where that leads to another
     /// device, as below a mount, the new file is written beside the one that it is to be.
-    #[tactic(auto, using(crate::proofs::WrittenLemmas::written_again))]
     pub fn write<S: System>(
         &mut self,
         system: &mut S,
@@ -457,22 +348,28 @@ impl NewFile {
     ) -> Result<(), FolderFault>
         ensures folder { self.new.folder ≡ self.old.folder }
         ensures syncs { unsynced.new.syncs ≡ unsynced.old.syncs }
+        ensures folders { unsynced.new.folders ≡ unsynced.old.folders }
         ensures written { IsWritten (IsNewPlace self.old.folder.identity target.entry.folder.now.identity)
             (name_in target.entry.folder.now target.entry.name.now) (joined content.entry.parts)
             (is_kept unsynced.old.syncs) (S.holds system.old) (S.holds system.new) (is_ok result) }
+        // The target is no place of new files, or nothing is done.
+        ensures apart { ((is_ok result ≡ false) × (S.holds system.new ≡ S.holds system.old))
+            ⊎ ¬ (IsNewPlace self.old.folder.identity target.entry.folder.now.identity
+            (name_in target.entry.folder.now target.entry.name.now)) }
+        ensures none_left { S.honest system.new
+            → IfOk result (λ _. LeavesNone (IsNewPlace self.old.folder.identity target.entry.folder.now.identity)
+            (S.holds system.old) (S.holds system.new)) }
         ensures still { S.folders system.new ≡ S.folders system.old }
         ensures earlier { S.honest system.new → S.honest system.old }
         ensures guarded { IsGuarded (IsNewPlace self.old.folder.identity target.entry.folder.now.identity)
             (name_in target.entry.folder.now target.entry.name.now) content.entry.found
             (S.changes system.old) (S.changes system.new) (S.holds system.old) (S.holds system.new) }
     {
-        match self.write_here(system, target, content, unsynced) {
-            Err(FolderFault::Device(IoReason::System(error)))
-                if error.kind() == ErrorKind::CrossesDevices => {
-                self.write_beside(system, alloc, target, content, unsynced)
-            }
-            written => written,
+        self.check(target)?;
+        if self.write_here(system, target, content, unsynced)? {
+            return Ok(());
         }
+        self.write_beside(system, alloc, target, content, unsynced)
     }
 
     /// Writes the content to the temporary file of this number.
@@ -484,9 +381,11 @@ impl NewFile {
         content: Content<'_>,
     ) -> Result<TempFile, FolderFault>
         ensures folder { self.new.folder ≡ self.old.folder }
-        ensures filled { IfOk result (λ temp_file. IsNewIn self.old.folder.identity (place_of temp_file)
-            × (S.holds system.new (place_of temp_file) ≡ file (key_of temp_file) (joined content.entry.parts) false)) }
-        ensures others { IsAlikeUnless (IsNewIn self.old.folder.identity) (S.holds system.old) (S.holds system.new) }
+        ensures filled { IfOk result (λ temp_file. (place_of temp_file ≡ name_in self.old.folder (new_name number))
+            × StandsAlone (place_of temp_file) (key_of temp_file) (joined content.entry.parts) false
+            (S.holds system.new)) }
+        ensures others { IsAlikeBut (name_in self.old.folder (new_name number)) (S.holds system.old)
+            (S.holds system.new) }
         ensures still { S.folders system.new ≡ S.folders system.old }
         ensures earlier { S.honest system.new → S.honest system.old }
         ensures changes { OnlyChanges (IsNewIn self.old.folder.identity) (S.changes system.old) (S.changes system.new) }
@@ -494,15 +393,38 @@ impl NewFile {
         let name = NewName::of_number(alloc, number)?;
         let temp_file = make(system, &self.folder, name.as_str(), content.mode())?;
         if let Err(error) = self.fill(system, &temp_file, content) {
-            system.discard(&temp_file);
+            let _ = system.discard(&temp_file);
             return Err(error.into());
         }
         Ok(temp_file)
     }
 
+    /// Fails if a file of this number stands here, though it couldn't be written.
+    pub fn check_free<S: System>(
+        &self,
+        system: &mut S,
+        alloc: Global,
+        number: usize,
+    ) -> Result<(), FolderFault>
+        ensures kept { S.holds system.new ≡ S.holds system.old }
+        ensures free { S.honest system.new
+            → IfOk result (λ _. S.holds system.new (name_in self.now.folder (new_name number)) ≡ None) }
+        ensures still { S.folders system.new ≡ S.folders system.old }
+        ensures earlier { S.honest system.new → S.honest system.old }
+        ensures changes { S.changes system.new ≡ S.changes system.old }
+    {
+        let name = NewName::of_number(alloc, number)?;
+        match system.look(&self.folder, name.as_str())? {
+            Found::File(_) => Err(FolderFault::Device(IoReason::Changing)),
+            _ => Ok(()),
+        }
+    }
+
     /// Removes what a stopped run has left of new files here, which have these names.
     pub fn clear<S: System>(&self, system: &mut S, names: &[NewName]) -> Result<(), FolderFault>
         ensures others { IsAlikeUnless (IsNewIn self.now.folder.identity) (S.holds system.old) (S.holds system.new) }
+        ensures none_left { IfOk result
+            (λ _. LeavesNone (IsNewIn self.now.folder.identity) (S.holds system.old) (S.holds system.new)) }
         ensures still { S.folders system.new ≡ S.folders system.old }
         ensures earlier { S.honest system.new → S.honest system.old }
         ensures changes { OnlyChanges (IsNewIn self.now.folder.identity) (S.changes system.old) (S.changes system.new) }
@@ -511,34 +433,5 @@ impl NewFile {
             system.remove(&self.folder, name.as_str())?;
         }
         Ok(())
-    }
-}
-
-/// Gives the new file the name of the target, if that stands as it was seen directly before and it
-/// lies on the same device: says whether it does.
-pub fn name_temp_file<S: System>(
-    system: &mut S,
-    temp_file: &TempFile,
-    target: Target<'_>,
-    seen: Option<FileStatus>,
-) -> Result<bool, FolderFault>
-    ensures named { (bytes : List ℕ) → (is_durable : Bool)
-        → S.holds system.old (place_of temp_file.now) ≡ file (key_of temp_file.now) bytes is_durable
-        → IsWritten (λ place. place ≡ place_of temp_file.now)
-        (name_in target.entry.folder.now target.entry.name.now) bytes is_durable
-        (S.holds system.old) (S.holds system.new) (is_named result) }
-    ensures guarded { IsGuarded (λ place. place ≡ place_of temp_file.now)
-        (name_in target.entry.folder.now target.entry.name.now) seen
-        (S.changes system.old) (S.changes system.new) (S.holds system.old) (S.holds system.new) }
-    ensures still { S.folders system.new ≡ S.folders system.old }
-    ensures earlier { S.honest system.new → S.honest system.old }
-{
-    match give_name(system, temp_file, target, seen) {
-        Err(FolderFault::Device(IoReason::System(error)))
-            if error.kind() == ErrorKind::CrossesDevices => { Ok(false) }
-        named => {
-            named?;
-            Ok(true)
-        }
     }
 }

@@ -1,9 +1,10 @@
 //! The folders that are open: the root, and those along the path that was worked in last. Calls
 //! come in the order of their paths, so most find their folder open. A folder is opened through the
 //! handle of the one above it.
-ghost use Rattle.std.specs.Prelude.{◌≡◌, ◌≢◌, ◌∷◌, [], IfOk, IfSome, MatchOption, None, Some, string_bytes};
+ghost use Rattle.std.specs.Prelude.{◌≡◌, ◌≢◌, ◌⊎◌, ◌∷◌, [], IfOk, IfSome, MatchOption, None, Some, string_bytes};
 ghost use Rattle.reuse_system.specs.FolderPlaces.{IsNoFile};
 ghost use Rattle.reuse_system.specs.Folders.{Folders, folder_along, folder_at, IsGrown};
+ghost use Rattle.reuse_system.specs.declared.syncs.Syncs.TheVariants.{Kept};
 ghost use Rattle.reuse_disk.specs.OpenFolders.{IsNext, IsRest};
 
 use crate::empty_folders::path_in;
@@ -46,6 +47,7 @@ pub struct OpenFolders {
 }
 
 impl OpenFolders {
+    ghost use Rattle.reuse_disk.specs.Noted.{IsNoted, StayNoted};
     ghost use Rattle.reuse_disk.specs.OpenFolders.{current_of, AreOpened, AreOpenedIf, HasNoSlash, IsEntered, IsOnWay};
     ghost use Rattle.reuse_disk.specs.OpenFolders.{IsOpenedFrom, IsRootOpened, path_of};
 
@@ -338,6 +340,7 @@ impl OpenFolders {
             → AreOpenedIf (⟦<HostSystem<R> as System>⟧.honest system.new)
             (⟦<HostSystem<R> as System>⟧.folders system.new) self.new }
         ensures syncs { unsynced.new.syncs ≡ unsynced.old.syncs }
+        ensures noted { StayNoted unsynced.old unsynced.new }
     {
         let mut rest = self.go_back(system, alloc, folder)?;
         while let Some((name, below)) = next_name(rest) {
@@ -368,7 +371,12 @@ impl OpenFolders {
             → ⟦<HostSystem<R> as System>⟧.honest system.old }
         ensures opened { ⟦<HostSystem<R> as System>⟧.honest system.new
             → IsOpenedFrom (⟦<HostSystem<R> as System>⟧.folders system.new) (current_of self.now) name.now result }
+        // A folder that gets a name is noted.
+        ensures made { unsynced.old.syncs ≡ Kept
+            → (⟦<HostSystem<R> as System>⟧.folders system.new ≡ ⟦<HostSystem<R> as System>⟧.folders system.old)
+            ⊎ IsNoted unsynced.new (path_of self.now) }
         ensures syncs { unsynced.new.syncs ≡ unsynced.old.syncs }
+        ensures noted { StayNoted unsynced.old unsynced.new }
     {
         let above = self.current()?;
         match system.open_below(alloc, above, name)? {

@@ -2,11 +2,12 @@
 //! synced before the file is given its name. Which folders got or lost a name is noted, and a
 //! barrier syncs each of them once. The system reports a fault of a sync once, and may then drop
 //! what it could not write: so a store whose sync has failed believes no later one.
-ghost use Rattle.std.specs.Prelude.{◌≡◌, IfErr, IfSome, IsOk, MatchResult, None, OnOk, Some};
+ghost use Rattle.std.specs.Prelude.{◌≡◌, IfErr, IfOk, IfSome, IsOk, MatchResult, None, OnOk, Some};
 ghost use Rattle.std.specs.BTreeSet.{IsEmpty};
 ghost use Rattle.std.specs.Option.{unwrap_or};
 ghost use Rattle.reuse_system.specs.SystemLaws.{IsAlikeButFile};
 ghost use Rattle.reuse_system.specs.TempFiles.{key_of};
+ghost use Rattle.reuse_disk.specs.Noted.{IsNoted, StayNoted};
 ghost use Rattle.reuse_disk.specs.OpenFolders.{AreOpenedIf};
 ghost use Rattle.reuse_disk.specs.Written.{IsSyncedIf, is_kept};
 ghost use Rattle.reuse_system.specs.declared.fault.FolderFault.TheVariants.{Device};
@@ -63,6 +64,8 @@ impl Unsynced {
 
     /// This folder, which is empty for the root, is to get or lose a name.
     pub fn note(&mut self, alloc: Global, folder: &str) -> Result<(), AllocError>
+        ensures noted { self.old.syncs ≡ Syncs.Kept → IfOk result (λ _. IsNoted self.new folder.now) }
+        ensures kept { StayNoted self.old self.new }
         ensures syncs { self.new.syncs ≡ self.old.syncs }
         ensures failed { self.new.failed ≡ self.old.failed }
     {
@@ -75,6 +78,7 @@ impl Unsynced {
     /// A sync failed for this. The first one stays known.
     fn fail(&mut self, obstacle: IoReason)
         ensures syncs { self.new.syncs ≡ self.old.syncs }
+        ensures folders { self.new.folders ≡ self.old.folders }
         ensures failed { self.new.failed ≡ Some (unwrap_or self.old.failed obstacle) }
     {
         if self.failed.is_none() {
@@ -90,6 +94,7 @@ impl Unsynced {
         path: &str,
     ) -> io::Result<()>
         ensures syncs { self.new.syncs ≡ self.old.syncs }
+        ensures folders { self.new.folders ≡ self.old.folders }
         ensures ok { OnOk result (self.new.failed ≡ self.old.failed) }
         ensures failed { IfErr result (λ error. self.new.failed ≡ Some (unwrap_or self.old.failed (System error))) }
         ensures synced { MatchResult result
@@ -115,6 +120,7 @@ impl Unsynced {
     /// For an allocation failure the path is left out.
     fn set_last(&mut self, path: &str)
         ensures syncs { self.new.syncs ≡ self.old.syncs }
+        ensures folders { self.new.folders ≡ self.old.folders }
         ensures failed { self.new.failed ≡ self.old.failed }
     {
         self.last.clear();

@@ -1,12 +1,11 @@
 -- A path that is put or removed in a folder.
 use Rattle.std.proofs.Common.{◌≡◌, ◌≢◌, ◌⊎◌, ◌<◌, inl, inr, ℕ, zero, suc, Bool, true, false, List, [], ◌∷◌, ◌++◌}
-use Rattle.std.proofs.Common.{length, get_or, refl, sym, ◌∙◌, ap, ap₂, ◌==◌, arith, true≢false, Result, Ok, Err, IsErr}
-use Rattle.std.proofs.Common.{MatchResult}
+use Rattle.std.proofs.Common.{length, get_or, refl, sym, ◌∙◌, ap, ap₂, ◌==◌, arith, true≢false, None, Result, Ok, Err}
+use Rattle.std.proofs.Common.{IsErr, MatchResult}
 use Rattle.std.specs.Bool.{Decides}
 use Rattle.std.proofs.lemmas.Bool.Decides.{Decides-eqb}
-use Rattle.std.specs.declared.io.Error.{Error}
 use Rattle.reuse_system.specs.TempFiles.{IsNewIn, IsNewPlace}
-use Rattle.reuse_folder.specs.FolderWrites.{IsCleared, IsPutAt, IsRemovedAt}
+use Rattle.reuse_folder.specs.FolderWrites.{IsCleared, IsRemovedAt}
 use Rattle.reuse_system.specs.FileStates.{FileState, place_in}
 use Rattle.reuse_system.specs.NameChanges.{NameChange, OnlyChanges}
 use Rattle.reuse_system.specs.Names.{IsNameOf}
@@ -29,35 +28,21 @@ written_after_clearing new_files folder name bytes is a b c is_done alike writte
       others = λ place apart other. written.others place apart other ∙ alike place (λ new. apart (inl new));
     }
 
--- not written, after something differed at places for new files
-pub cleared_alone : (path name : List ℕ) (new_files : Identity) (bytes : List ℕ) (is : Bool) (a b : FileState)
-    → IsNameOf path name → IsAlikeUnless (IsNewIn new_files) a b → IsPutAt path bytes is a b false
-cleared_alone path name new_files bytes is a b named alike =
-    record {
-      new_files = new_files;
-      folder = new_files;
-      name = name;
-      is_named = named;
-      written = record {
-        done = λ bad. absurd (true≢false (sym bad));
-        whole = λ apart. inl (alike (place_in new_files name) (λ new. apart (inl new)));
-        others = λ place apart other. alike place (λ new. apart (inl new));
-      };
-    }
-
 pub cleared_at_error : {E : Type 0} (folder : Identity) (before after : List NameChange) (a b : FileState)
     (answer : Result NewFile E) → IsErr answer → OnlyChanges (IsNewIn folder) before after
-    → IsAlikeUnless (IsNewIn folder) a b → IsCleared before after a b answer
+    → IsAlikeUnless (IsNewIn folder) a b → IsCleared before after None a b answer
 cleared_at_error folder before after a b (Ok new_file) bad changed alike = absurd (true≢false (sym bad))
 cleared_at_error folder before after a b (Err error) bad changed alike = record {
   folder = folder;
+  was = tt;
   others = alike;
+  none_left = tt;
   is_folder = tt;
   changed = changed;
 }
 
 pub nothing_cleared : {E : Type 0} (before after : List NameChange) (held : FileState) (answer : Result NewFile E)
-    → IsErr answer → after ≡ before → IsCleared before after held held answer
+    → IsErr answer → after ≡ before → IsCleared before after None held held answer
 nothing_cleared before after held answer bad same =
     let any : Identity = record {
       device = 0;
@@ -96,29 +81,6 @@ more byte path name named (inr at) = (name, longer byte path name named at)
 pub some_name : (path : List ℕ) → (name : List ℕ) × IsNameOf path name
 some_name [] = ([], record { behind = inl refl; last = λ i short. omega (arith, short) })
 some_name (byte ∷ path) = let one = some_name path in more byte path one.0 one.1 one.1.behind
-
--- nothing was put
-pub nothing_put : (path bytes : List ℕ) (is : Bool) (held : FileState) → IsPutAt path bytes is held held false
-nothing_put path bytes is held =
-    let one = some_name path in
-    let any : Identity = record {
-      device = 0;
-      number = 0;
-    } in cleared_alone path one.0 any bytes is held held one.1 (λ place apart. refl)
-
--- put, after new files were cleared
-pub put_at : (path name : List ℕ) (new_files folder : Identity) (bytes : List ℕ) (is : Bool) (a b c : FileState)
-    (is_done : Bool) → IsNameOf path name → IsAlikeUnless (IsNewIn new_files) a b
-    → IsWritten (IsNewPlace new_files folder) (place_in folder name) bytes is b c is_done
-    → IsPutAt path bytes is a c is_done
-put_at path name new_files folder bytes is a b c is_done named alike written =
-    record {
-      new_files = new_files;
-      folder = folder;
-      name = name;
-      is_named = named;
-      written = written_after_clearing new_files folder name bytes is a b c is_done alike written;
-    }
 
 pub nothing_removed : (path : List ℕ) (held : FileState) → IsRemovedAt path held held
 nothing_removed path held =

@@ -1,9 +1,15 @@
+pub mod BarrierLemmas
+pub mod BatchLemmas
 pub mod FolderLemmas
 pub mod HonestFiles
 pub mod LeftBySyncs
+pub mod NamedLemmas
+pub mod Noted
 pub mod NotedWrites
 pub mod PrunedFolders
 pub mod PutKept
 pub mod PutLemmas
 pub mod ReadLemmas
+pub mod RoundEnds
+pub mod RoundLemmas
 pub mod SeenLemmas

@@ -19,7 +19,7 @@ use Rattle.reuse_folder.specs.declared.folder.batch.NewContent.{NewContent}
 use Rattle.reuse_folder.specs.declared.folder.seen.Expected.{Expected}
 use Rattle.reuse_folder.specs.declared.folder.seen.Expected.TheVariants as expected
 use Rattle.reuse_folder.specs.declared.folder.seen.ReadPath.{ReadPath}
-use Rattle.reuse_disk.proofs.EditLemmas.{guarded_none, guarded_only, guarded_then, guarded_weaker, only_weaker}
+use Rattle.reuse_disk.proofs.EditLemmas.{guarded_only, guarded_then, guarded_weaker, only_weaker}
 use Rattle.reuse_folder.proofs.FolderLemmas.{some_name}
 
 -- ---- reads
@@ -314,12 +314,6 @@ lose_named reads write name folder from seen before after old new named known is
           (named_change reads write name folder from seen named known is_new) guarded.changes guarded.each;
     }
 
-same_seen : (seen other : Option FileStatus) → IsSeenAs (expected_of seen) other → other ≡ seen
-same_seen None None same = refl
-same_seen None (Some status) same = absurd (cc)
-same_seen (Some one) None same = absurd (cc)
-same_seen (Some one) (Some status) same = cc
-
 again_change : (reads : List ReadPath) (write : FileWrite) (new_files folder : Identity) (name : List ℕ)
     (seen : Option FileStatus) → IsNameOf write.path.now name → IsKnown reads write.path.now seen
     → (change : NameChange) → IsChangeOf (IsNewPlace new_files folder) (place_in folder name) seen change
@@ -336,20 +330,18 @@ again_change reads write new_files folder name seen named known change (inr at) 
       is_expected = at.1;
     }))
 
--- the path was put once more, where it was seen so
-pub lose_again : (reads : List ReadPath) (write : FileWrite) (seen : Option FileStatus) (before after : List NameChange)
-    (old new : FileState) → IsKnown reads write.path.now seen
-    → LosesNoEdit write.path.now (expected_of seen) before after old new → LoseNoEdits reads (write ∷ []) before after
-lose_again reads write seen before after old new known loses =
-    let same = same_seen seen loses.seen loses.is_seen in
+-- the file was written beside, where it was seen so
+pub lose_beside : (reads : List ReadPath) (write : FileWrite) (new_files folder : Identity) (name : List ℕ)
+    (seen : Option FileStatus) (before after : List NameChange) (old new : FileState) → IsNameOf write.path.now name
+    → IsKnown reads write.path.now seen → IsGuarded (IsNewPlace new_files folder)
+    (place_in folder name) seen before after old new → LoseNoEdits reads (write ∷ []) before after
+lose_beside reads write new_files folder name seen before after old new named known guarded =
     record {
-      changes = loses.guarded.changes;
-      grown = loses.guarded.grown;
-      each = each_weaker
-          (IsChangeOf (IsNewPlace loses.new_files loses.folder) (place_in loses.folder loses.name) loses.seen)
+      changes = guarded.changes;
+      grown = guarded.grown;
+      each = each_weaker (IsChangeOf (IsNewPlace new_files folder) (place_in folder name) seen)
           (λ change. IsNewFile change.place ⊎ IsChangeOfSome reads (write ∷ []) change)
-          (again_change reads write loses.new_files loses.folder loses.name loses.seen loses.is_named
-          (subst (λ s. IsKnown reads write.path.now s) (sym same) known)) loses.guarded.changes loses.guarded.each;
+          (again_change reads write new_files folder name seen named known) guarded.changes guarded.each;
     }
 
 -- names of new files in a folder are names of new files

@@ -1,3 +1,5 @@
+pub mod Barriers
+pub mod Batches
 pub mod FolderReads
 pub mod FolderWrites
 pub mod Honesty
@@ -5,4 +7,5 @@ pub mod JournalOwners
 pub mod OwnerChanges
 pub mod RolledBack
 pub mod RootFolders
+pub mod Rounds
 pub mod Seen

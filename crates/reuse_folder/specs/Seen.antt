@@ -2,7 +2,6 @@
 use Rattle.std.specs.Prelude.{◌≡◌, ◌≢◌, ◌⊎◌, ℕ, List, [], ◌∷◌, ◌++◌, Option, None, Some}
 use Rattle.reuse_system.specs.TempFiles.{IsNewPlace, place_of}
 use Rattle.reuse_system.specs.FileStates.{FileState, Place, place_in}
-use Rattle.reuse_system.specs.Ignored.{is_new_name}
 use Rattle.reuse_system.specs.NameChanges.{NameChange, AreEach, IsExpected, IsGuarded}
 use Rattle.reuse_system.specs.Names.{IsNameOf}
 use Rattle.reuse_system.specs.declared.place.FileStatus.{FileStatus}

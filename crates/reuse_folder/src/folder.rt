@@ -180,7 +180,8 @@ impl<R: Files<File = File> + AllocGlobal + Clone + Drop> RootFolder<R> {
             ≡ ⟦<HostSystem<R> as System>⟧.folders self.old.system }
         ensures earlier { ⟦<HostSystem<R> as System>⟧.honest self.new.system
             → ⟦<HostSystem<R> as System>⟧.honest self.old.system }
-        ensures syncs { self.new.unsynced.syncs ≡ self.old.unsynced.syncs }
+        ensures unsynced { self.new.unsynced ≡ self.old.unsynced }
+        ensures new_file { self.new.new_file ≡ self.old.new_file }
         ensures remembered { self.new.remembered ≡ self.old.remembered }
         ensures lies { ⟦<HostSystem<R> as System>⟧.honest self.new.system
             → IfOk result

@@ -7,11 +7,14 @@
 //! `folder.sh`, `races.sh`, `syncs.sh`, `owners.sh` and `fail_system_calls.sh` in `tests/`.
 #![tactic(auto)]
 
-ghost use Rattle.std.specs.Prelude.{◌≡◌, ◌≢◌, ◌<◌, [], IfErr, IfOk, MatchResult, is_ok, length, true};
+ghost use Rattle.std.specs.Prelude.{◌≡◌, ◌≢◌, ◌<◌, ◌+◌, [], IfErr, IfOk, MatchResult, is_ok, length, min, true};
 ghost use Rattle.std.specs.FinMap as map;
 ghost use Rattle.reuse_store.specs.Store.{reading_of};
 ghost use Rattle.reuse_folder.specs.FolderReads.{IsReadWith};
-ghost use Rattle.reuse_folder.specs.FolderWrites.{IsGone, IsPutIn, IsRemovedIn, IsStoredAt};
+ghost use Rattle.reuse_folder.specs.Barriers.{HasNoted, HaveNoted};
+ghost use Rattle.reuse_folder.specs.Batches.{disk_of, made_of, IsBatch};
+ghost use Rattle.reuse_folder.specs.FolderWrites.{IsGone, IsPutIn, IsRemovedIn, IsStoredAt, IsTidy};
+ghost use Rattle.reuse_system.specs.declared.place.Identity.{Identity};
 ghost use Rattle.reuse_folder.specs.RolledBack.{foreign_of};
 ghost use Rattle.reuse_folder.specs.Seen.{LoseNoEdits, LosesNoEditAfter};
 ghost use Rattle.reuse_disk.specs.LeftFiles.{ClearsLeft};
@@ -225,6 +228,8 @@ impl<R: Files<File = File> + AllocGlobal + Clone + Drop> DiskStore<R> {
         answer: Result<(), FolderFault>,
     ) -> Result<(), StoreFault>
         ensures write { IsWrite ⟦<DiskStore<R> as Store>⟧ write.now.path.now write.now.file self.old self.new result }
+        ensures mutations { ⟦<DiskStore<R> as Store>⟧.mutations self.new
+            ≡ ⟦<DiskStore<R> as Store>⟧.mutations self.old + 1 }
         ensures folder { self.new.folder ≡ self.old.folder }
         ensures ok { answer ≡ Ok tt → result ≡ Ok tt }
         ensures fails { IfErr answer (λ fault. result ≡ Err (fault_of_store fault)) }
@@ -238,6 +243,8 @@ impl<R: Files<File = File> + AllocGlobal + Clone + Drop> DiskStore<R> {
     // Notes writes that were made.
     fn note_made(&mut self, alloc: Global, writes: &[FileWrite])
         ensures writes { AreWrites ⟦<DiskStore<R> as Store>⟧ writes.now self.old self.new (Ok tt) }
+        ensures mutations { ⟦<DiskStore<R> as Store>⟧.mutations self.new
+            ≡ ⟦<DiskStore<R> as Store>⟧.mutations self.old + length writes.now }
         ensures folder { self.new.folder ≡ self.old.folder }
     {
         for write in writes {
@@ -255,7 +262,10 @@ impl<R: Files<File = File> + AllocGlobal + Clone + Drop> DiskStore<R> {
     ) -> Result<(), StoreFault>
         requires { IfErr answer (λ stop. stop.made < length writes.now) }
         ensures writes { AreWrites ⟦<DiskStore<R> as Store>⟧ writes.now self.old self.new result }
+        ensures mutations { ⟦<DiskStore<R> as Store>⟧.mutations self.new ≡ ⟦<DiskStore<R> as Store>⟧.mutations
+            self.old + min (made_of (length writes.now) answer + 1) (length writes.now) }
         ensures folder { self.new.folder ≡ self.old.folder }
+        ensures done { is_ok result ≡ is_ok answer }
     {
         match answer {
             Ok(()) => {
@@ -340,10 +350,16 @@ impl<R: Files<File = File> + AllocGlobal + Clone + Drop> Store for DiskStore<R> 
             (⟦<HostSystem<R> as System>⟧.holds self.new.folder.system) path.now (joined parts.entry)
             (is_kept self.old.folder.unsynced.syncs)) }
         ensures place { ⟦<HostSystem<R> as System>⟧.honest self.new.folder.system
-            → IsPutIn (⟦<HostSystem<R> as System>⟧.folders self.new.folder.system) path.now (joined parts.entry)
-            (is_kept self.old.folder.unsynced.syncs)
+            → (new_files : Identity) × IsPutIn new_files (⟦<HostSystem<R> as System>⟧.folders self.new.folder.system)
+            path.now (joined parts.entry) (is_kept self.old.folder.unsynced.syncs)
             (⟦<HostSystem<R> as System>⟧.holds self.old.folder.system)
+            (⟦<HostSystem<R> as System>⟧.holds self.new.folder.system) (is_ok result)
+            × IsTidy new_files (⟦<HostSystem<R> as System>⟧.holds self.old.folder.system)
             (⟦<HostSystem<R> as System>⟧.holds self.new.folder.system) (is_ok result) }
+        // The folder above the path is noted for the next barrier, if that got or lost a file.
+        ensures noted { self.old.folder.unsynced.syncs ≡ Syncs.Kept
+            → HasNoted self.new.folder.unsynced path.now (⟦<HostSystem<R> as System>⟧.changes self.old.folder.system)
+            (⟦<HostSystem<R> as System>⟧.changes self.new.folder.system) }
         // The file at the path stays if it isn't what was read there.
         ensures keeps_edits { LosesNoEditAfter self.old.folder.reads.items path.now
             (⟦<HostSystem<R> as System>⟧.changes self.old.folder.system)
@@ -366,6 +382,10 @@ impl<R: Files<File = File> + AllocGlobal + Clone + Drop> Store for DiskStore<R> 
             → IsRemovedIn (⟦<HostSystem<R> as System>⟧.folders self.new.folder.system) path.now
             (⟦<HostSystem<R> as System>⟧.holds self.old.folder.system)
             (⟦<HostSystem<R> as System>⟧.holds self.new.folder.system) }
+        // The folder above the path is noted for the next barrier, if that got or lost a file.
+        ensures noted { self.old.folder.unsynced.syncs ≡ Syncs.Kept
+            → HasNoted self.new.folder.unsynced path.now (⟦<HostSystem<R> as System>⟧.changes self.old.folder.system)
+            (⟦<HostSystem<R> as System>⟧.changes self.new.folder.system) }
         // The file at the path stays if it isn't what was read there.
         ensures keeps_edits { LosesNoEditAfter self.old.folder.reads.items path.now
             (⟦<HostSystem<R> as System>⟧.changes self.old.folder.system)
@@ -379,6 +399,16 @@ impl<R: Files<File = File> + AllocGlobal + Clone + Drop> Store for DiskStore<R> 
 
     fn write_all(&mut self, alloc: Global, writes: &[FileWrite]) -> Result<(), StoreFault>
         ensures writes { AreWrites ⟦<DiskStore<R> as Store>⟧ writes.now self.old self.new result }
+        // On the disk as many of the writes are made as are noted, each as a single one is.
+        ensures made { ⟦<HostSystem<R> as System>⟧.honest self.new.folder.system
+            → (batch : IsBatch (is_kept self.old.folder.unsynced.syncs) writes.now (disk_of ⟦<HostSystem<R> as System>⟧
+            self.old.folder.system) (disk_of ⟦<HostSystem<R> as System>⟧ self.new.folder.system) (is_ok result))
+            × (⟦<DiskStore<R> as Store>⟧.mutations self.new ≡ ⟦<DiskStore<R> as Store>⟧.mutations self.old + min
+            (batch.made + 1) (length writes.now)) }
+        // The folder above each path that got or lost a file is noted for the next barrier.
+        ensures noted { self.old.folder.unsynced.syncs ≡ Syncs.Kept
+            → HaveNoted self.new.folder.unsynced writes.now (⟦<HostSystem<R> as System>⟧.changes self.old.folder.system)
+            (⟦<HostSystem<R> as System>⟧.changes self.new.folder.system) }
         // No path changes at which something else stands than was read there.
         ensures keeps_edits { LoseNoEdits self.old.folder.reads.items writes.now
             (⟦<HostSystem<R> as System>⟧.changes self.old.folder.system)

@@ -1,7 +1,7 @@
 -- That the calls of a record keep the laws of the system.
 use Rattle.std.proofs.Common.{◌≡◌, ◌≢◌, ◌<◌, ◌+◌, inl, inr, ℕ, zero, suc, Bool, true, false, cond, List, [], ◌∷◌, ◌++◌}
-use Rattle.std.proofs.Common.{length, take, ◌==◌, Option, None, Some, Result, Ok, Err, is_ok, IfOk, MatchResult, refl}
-use Rattle.std.proofs.Common.{sym, ◌∙◌, ap, arith, append-nil, true≢false}
+use Rattle.std.proofs.Common.{length, take, Option, None, Some, Result, Ok, Err, is_ok, IfOk, MatchResult, refl, sym}
+use Rattle.std.proofs.Common.{◌∙◌, ap, arith, append-nil, true≢false}
 use Rattle.std.proofs.lemmas.Bool.{false_from_ne_true}
 use Rattle.std.proofs.lemmas.Bool.Decides.{Decides-eqb}
 use Rattle.std.proofs.lemmas.Slice.Eq.{bytes_eq-Decides}
@@ -11,14 +11,15 @@ use Rattle.reuse_system.specs.declared.system.TempFile.{TempFile}
 use Rattle.reuse_system.specs.TempFiles.{place_of, key_of}
 use Rattle.reuse_system.specs.FileStates.{FileKey, StateFile, Place, FileState, file, IsNot}
 use Rattle.reuse_system.specs.FileStates.FileKey.{Found, Made}
-use Rattle.reuse_system.specs.SystemLaws.{IsAlikeBut, IsMade, IsFilled, IsSynced, IsRenamed, IsLinked, MayBeLinked}
-use Rattle.reuse_system.specs.SystemLaws.{MayBeRenamed}
+use Rattle.reuse_system.specs.SystemLaws.{IsAlikeBut, IsMade, IsFilled, IsSynced, IsRenamed, IsOneFile, IsLeft}
+use Rattle.reuse_system.specs.SystemLaws.{IsLinked, MayBeLinked, MayBeRenamed}
 use Rattle.reuse_system.specs.SystemCall.{SystemCall, made_of}
 use Rattle.reuse_system.specs.SystemCall.SystemCall.{MakeCall, AppendCall, SyncCall, RenameCall, LinkCall, RemoveCall}
 use Rattle.reuse_system.specs.SystemCall.SystemCall.{LookCall, ReadCall, RootCall, OpenCall, NoFolderCall}
 use Rattle.reuse_system.specs.SystemCall.SystemCall.{MakeFolderCall, RemoveFolderCall}
-use Rattle.reuse_system.specs.SystemCalls.{held_at_start, set, set_by, is_made, filled_if, filled, renamed, renamed_by}
-use Rattle.reuse_system.specs.SystemCalls.{linked, linked_by, held_by, held_after, effect_at}
+use Rattle.reuse_system.specs.SystemCalls.{held_at_start, set, set_by, is_made, filled_if, filled, is_one_key}
+use Rattle.reuse_system.specs.SystemCalls.{is_one_file, renamed, renamed_by, linked, linked_by, held_by, held_after}
+use Rattle.reuse_system.specs.SystemCalls.{effect_at}
 
 set_here : (held : FileState) (place : Place) (one : Option StateFile) → set held place one place ≡ one
 set_here held place one = ap (λ b. cond b one (held place)) ((bytes_eq-Decides place place).1 refl)
@@ -65,22 +66,77 @@ syncs number held =
       others = one.others;
     }
 
-renamed-others : (stays : Bool) (from to : Place) (held : FileState) (place : Place) → place ≢ from → place ≢ to
-    → renamed stays from to held place ≡ held place
-renamed-others true from to held place = λ apart other. set_other held to (held from) place other
-renamed-others false from to held place =
-    λ apart other. set_other (set held from None) to (held from) place other ∙ set_other held from None place apart
+set_others : (stays : Bool) (from to : Place) (held : FileState) (one : Option StateFile) (place : Place) → place ≢ from
+    → place ≢ to → set (cond stays held (set held from None)) to one place ≡ held place
+set_others true from to held one place = λ apart other. set_other held to one place other
+set_others false from to held one place =
+    λ apart other. set_other (set held from None) to one place other ∙ set_other held from None place apart
 
-renames : (stays : Bool) (from to : Place) (held : FileState) → IsRenamed from to held (renamed stays from to held)
-renames stays from to held = record {
-  there = set_here (cond stays held (set held from None)) to (held from);
-  others = renamed-others stays from to held;
-}
+renames : (from to : Place) (held : FileState) → IsRenamed from to held (renamed from to held)
+renames from to held =
+    let stays = is_one_file (held from) (held to) in
+    record {
+      there = set_here (cond stays held (set held from None)) to (held from);
+      others = set_others stays from to held (held from);
+    }
+
+same_key : (one other : FileKey) → is_one_key one other ≡ true → one ≡ other
+same_key (Found one) (Found other) is = ap (λ n. Found n) ((Decides-eqb one other).0 is)
+same_key (Made one) (Made other) is = ap (λ n. Made n) ((Decides-eqb one other).0 is)
+same_key (Found one) (Made other) is = absurd (true≢false (sym is))
+same_key (Made one) (Found other) is = absurd (true≢false (sym is))
+
+one_file : (one other : Option StateFile) → is_one_file one other ≡ true → IsOneFile one other
+one_file (Some one) (Some other) is = same_key one.key other.key is
+one_file (Some one) None is = absurd (true≢false (sym is))
+one_file None (Some other) is = absurd (true≢false (sym is))
+one_file None None is = absurd (true≢false (sym is))
+
+-- where the names are apart, by whether both led to one file
+left_apart : (from to : Place) (held : FileState) (stays : Bool) → from ≢ to → is_one_file (held from) (held to) ≡ stays
+    → IsLeft from to held (renamed from to held)
+left_apart from to held true apart is =
+    inr (
+      set_other (cond (is_one_file (held from) (held to)) held (set held from None)) to (held from) from apart
+          ∙ ap (λ b. cond b held (set held from None) from) is,
+      inr (one_file (held from) (held to) is),
+    )
+left_apart from to held false apart is =
+    inl (set_other (cond (is_one_file (held from) (held to)) held (set held from None)) to (held from) from apart
+    ∙ ap (λ b. cond b held (set held from None) from) is ∙ set_here held from None)
+
+left_by : (from to : Place) (held : FileState) (is_same : Bool) → bytes_eq from to ≡ is_same
+    → IsLeft from to held (renamed from to held)
+left_by from to held true same =
+    let e = (bytes_eq-Decides from to).0 same in
+    inr (ap (renamed from to held) e ∙ (renames from to held).there, inl e)
+left_by from to held false differ =
+    left_apart from to held (is_one_file (held from) (held to))
+    (λ e. true≢false (sym ((bytes_eq-Decides from to).1 e) ∙ differ)) refl
+
+-- what a renaming that was done leaves at the old name
+pub left_noted : (files : List (Place × (ℕ × (List ℕ × Bool)))) (effects : List ℕ) (calls : List SystemCall)
+    (from to : Place) (answer : Result (Unit {0}) Error)
+    → IfOk answer (λ _. IsLeft from to (held_after files effects calls)
+    (held_after files effects (RenameCall from to (is_ok answer) ∷ calls)))
+left_noted files effects calls from to (Ok done) =
+    left_by from to (held_after files effects calls) (bytes_eq from to) refl
+left_noted files effects calls from to (Err error) = tt
 
 may_rename : (effect : ℕ) (from to : Place) (held : FileState)
     → MayBeRenamed from to held (renamed_by effect from to held)
 may_rename zero from to held = inl (λ place. refl)
-may_rename (suc effect) from to held = inr (renames (effect == 0) from to held)
+may_rename (suc effect) from to held = inr (renames from to held)
+
+-- what a file that was to be renamed leaves
+pub rename_noted : (files : List (Place × (ℕ × (List ℕ × Bool)))) (effects : List ℕ) (calls : List SystemCall)
+    (from to : Place) (answer : Result (Unit {0}) Error)
+    → let new = held_after files effects (RenameCall from to (is_ok answer) ∷ calls) in
+    MatchResult answer (λ _. IsRenamed from to (held_after files effects calls) new)
+    (λ _. MayBeRenamed from to (held_after files effects calls) new)
+rename_noted files effects calls from to (Ok done) = renames from to (held_after files effects calls)
+rename_noted files effects calls from to (Err error) =
+    may_rename (effect_at effects (length calls)) from to (held_after files effects calls)
 
 -- ---- a file that is made is none of those that were made before
 
@@ -123,16 +179,22 @@ filled_if-below most number bytes is None below = tt
 filled_if-below most number bytes is (Some held) below =
     either most (file held.key (held.bytes ++ bytes) is) (Some held) below below (is_made number held.key)
 
-renamed-below : (most : ℕ) (stays : Bool) (from to : Place) (held : FileState) → AreBelow most held
-    → AreBelow most (renamed stays from to held)
-renamed-below most true from to held old = set-below most held to (held from) (old from) old
-renamed-below most false from to held old =
-    set-below most (set held from None) to (held from) (old from) (set-below most held from None tt old)
+cond-below : (most : ℕ) (held other : FileState) → AreBelow most held → AreBelow most other → (b : Bool)
+    → AreBelow most (cond b held other)
+cond-below most held other old new true = old
+cond-below most held other old new false = new
+
+renamed-below : (most : ℕ) (from to : Place) (held : FileState) → AreBelow most held
+    → AreBelow most (renamed from to held)
+renamed-below most from to held old =
+    let stays = is_one_file (held from) (held to) in
+    set-below most (cond stays held (set held from None)) to (held from) (old from)
+    (cond-below most held (set held from None) old (set-below most held from None tt old) stays)
 
 renamed_by-below : (most effect : ℕ) (from to : Place) (held : FileState) → AreBelow most held
     → AreBelow most (renamed_by effect from to held)
 renamed_by-below most zero from to held old = old
-renamed_by-below most (suc effect) from to held old = renamed-below most (effect == 0) from to held old
+renamed_by-below most (suc effect) from to held old = renamed-below most from to held old
 
 linked-below : (most : ℕ) (from to : Place) (held : FileState) → AreBelow most held
     → AreBelow most (linked from to held)
@@ -167,8 +229,7 @@ step-below effect (AppendCall number bytes false) calls held old =
     λ place. filled_if-below (made_of calls) number (take effect bytes) false (held place) (old place)
 step-below effect (SyncCall number is) calls held old =
     λ place. filled_if-below (made_of calls) number [] is (held place) (old place)
-step-below effect (RenameCall from to true) calls held old =
-    renamed-below (made_of calls) (effect == 1) from to held old
+step-below effect (RenameCall from to true) calls held old = renamed-below (made_of calls) from to held old
 step-below effect (RenameCall from to false) calls held old = renamed_by-below (made_of calls) effect from to held old
 step-below effect (LinkCall from to true) calls held old = linked-below (made_of calls) from to held old
 step-below effect (LinkCall from to false) calls held old = linked_by-below (made_of calls) effect from to held old

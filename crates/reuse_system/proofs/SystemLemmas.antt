@@ -1,5 +1,5 @@
 -- What follows from the laws of the system's calls.
-use Rattle.std.proofs.Common.{◌≡◌, Bool, false, List, ◌++◌, ℕ, Result, Ok, Err, MatchResult, sym, ◌∙◌, ap, subst}
+use Rattle.std.proofs.Common.{Bool, false, List, ◌++◌, ℕ, Result, Ok, Err, MatchResult, sym, ◌∙◌, ap, subst}
 use Rattle.std.proofs.Common.{append_assoc}
 use Rattle.std.specs.declared.io.Error.{Error}
 use Rattle.reuse_system.specs.FileStates.{FileKey, FileState, file, IsNot}

@@ -1,5 +1,5 @@
 -- Which names files were given or lost, and what a look directly before reported of each.
-use Rattle.std.specs.Prelude.{◌≡◌, ◌≢◌, ◌⊎◌, Bool, if◌then◌else◌, List, [], ◌∷◌, ◌++◌, Option, None, Some}
+use Rattle.std.specs.Prelude.{◌≡◌, ◌≢◌, ◌⊎◌, if◌then◌else◌, List, [], ◌∷◌, ◌++◌, Option, None, Some}
 use Rattle.std.specs.Str.{bytes_eq}
 use Rattle.reuse_system.specs.FileStates.{Place, FileState}
 use Rattle.reuse_system.specs.declared.place.FileStatus.{FileStatus}

@@ -24,9 +24,8 @@ FolderStart = (ℕ × ℕ) × (List (Place × (ℕ × ℕ)) × List Place)
 
 -- what nobody can know of a system at its start: its folders; each name that leads to a file, with the number of that
 -- file, its bytes, and whether a loss of power surely leaves it these; and of each call that is to come its effect: how
--- much of an appending that fails is written, whether another call that fails takes effect, which is 1 or more,
--- whether the old name stays where a renaming is done, which is 1, and the number of a folder that is made, or 1 more
--- than that where its making fails
+-- much of an appending that fails is written, whether another call that fails takes effect, which is 1 or more, and the
+-- number of a folder that is made, or 1 more than that where its making fails
 pub record SystemStart : Type 0 where
   pub folders : FolderStart
   pub files : List (Place × (ℕ × (List ℕ × Bool)))
@@ -75,12 +74,25 @@ filled_if number bytes is_durable (Some held) =
 abbrev pub filled : ℕ → List ℕ → Bool → FileState → FileState
 filled number bytes is_durable held place = filled_if number bytes is_durable (held place)
 
-abbrev pub renamed : Bool → Place → Place → FileState → FileState
-renamed stays from to held = set (if stays then held else set held from None) to (held from)
+abbrev pub is_one_key : FileKey → FileKey → Bool
+is_one_key (Found one) (Found other) = one == other
+is_one_key (Made one) (Made other) = one == other
+is_one_key (Found one) (Made other) = false
+is_one_key (Made one) (Found other) = false
+
+-- both are the same file
+abbrev pub is_one_file : Option StateFile → Option StateFile → Bool
+is_one_file (Some one) (Some other) = is_one_key one.key other.key
+is_one_file one None = false
+is_one_file None (Some other) = false
+
+-- where both led to the same file, the old name stays
+abbrev pub renamed : Place → Place → FileState → FileState
+renamed from to held = set (if is_one_file (held from) (held to) then held else set held from None) to (held from)
 
 abbrev pub renamed_by : ℕ → Place → Place → FileState → FileState
 renamed_by zero from to held = held
-renamed_by (suc effect) from to held = renamed (effect == 0) from to held
+renamed_by (suc effect) from to held = renamed from to held
 
 abbrev pub set_by : ℕ → FileState → Place → Option StateFile → FileState
 set_by zero held place one = held
@@ -101,7 +113,7 @@ held_by effect made (MakeCall place false) held = set_by effect held place (file
 held_by effect made (AppendCall number bytes true) held = filled number bytes false held
 held_by effect made (AppendCall number bytes false) held = filled number (take effect bytes) false held
 held_by effect made (SyncCall number is_done) held = filled number [] is_done held
-held_by effect made (RenameCall from to true) held = renamed (effect == 1) from to held
+held_by effect made (RenameCall from to true) held = renamed from to held
 held_by effect made (RenameCall from to false) held = renamed_by effect from to held
 held_by effect made (LinkCall from to true) held = linked from to held
 held_by effect made (LinkCall from to false) held = linked_by effect from to held

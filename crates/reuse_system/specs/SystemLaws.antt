@@ -54,6 +54,16 @@ pub record IsRenamed (from to : Place) (old new : FileState) : Type 0 where
   pub there : new to ≡ old from
   pub others : (place : Place) → place ≢ from → place ≢ to → new place ≡ old place
 
+-- both are the same file
+abbrev pub IsOneFile : Option StateFile → Option StateFile → Type 0
+IsOneFile (Some one) (Some other) = one.key ≡ other.key
+IsOneFile one None = ⊥
+IsOneFile None (Some other) = ⊥
+
+-- The old name leads to no file now; or the new one is the same name, or led to the same file: then both are left.
+abbrev pub IsLeft : Place → Place → FileState → FileState → Type 0
+IsLeft from to old new = (new from ≡ None) ⊎ ((new from ≡ old from) × ((from ≡ to) ⊎ IsOneFile (old from) (old to)))
+
 -- no file stands at the place now
 pub record IsRemoved (place : Place) (old new : FileState) : Type 0 where
   pub gone : new place ≡ None

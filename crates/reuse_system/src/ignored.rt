@@ -81,7 +81,7 @@ fn is_number(bytes: &[u8]) -> bool
 }
 
 /// Whether a file of this name may be one that is written beside the one that it is to be.
-fn is_beside_name(name: &str) -> bool
+pub fn is_beside_name(name: &str) -> bool
     ensures { result ≡ is_beside_name name.now }
 {
     let bytes = name.as_bytes();

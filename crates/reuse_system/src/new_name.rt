@@ -1,6 +1,6 @@
 //! Names of new files: in the journal's folder, or beside the files that they are to be.
 ghost use Rattle.std.specs.Prelude.{◌≡◌, IfOk, IsTrue, string_bytes, true};
-ghost use Rattle.reuse_system.specs.TempFiles.{beside_name};
+ghost use Rattle.reuse_system.specs.TempFiles.{beside_name, new_name};
 ghost use Rattle.reuse_system.specs.Ignored.{is_new_name};
 
 use crate::fault::FolderFault;
@@ -30,7 +30,9 @@ impl NewName {
     }
 
     /// That of the file of this number.
-    pub fn of_number(alloc: Global, number: usize) -> Result<NewName, AllocError> {
+    pub fn of_number(alloc: Global, number: usize) -> Result<NewName, AllocError>
+        ensures { IfOk result (λ new. string_bytes new.name ≡ new_name number) }
+    {
         let name = if number == 0 {
             String::from_str(alloc, NEW)?
         } else {

@@ -71,7 +71,7 @@ pub struct OpenedFile {
 /// honest after the call; what is said of `holds` and `folders` holds always.
 pub trait System {
     ghost use Rattle.reuse_system.specs.SystemLaws.{IsAlikeBut, IsAlikeButFile, IsMade, IsAppended, IsSynced};
-    ghost use Rattle.reuse_system.specs.SystemLaws.{IsRenamed, IsRemoved, IsLinked, MayBeLinked, MayBeRenamed};
+    ghost use Rattle.reuse_system.specs.SystemLaws.{IsRenamed, IsLeft, IsRemoved, IsLinked, MayBeLinked, MayBeRenamed};
     ghost use Rattle.reuse_system.specs.SystemLaws.{IsFolderMade, IsFolderRemoved, IsSeen, IsReadOf, IsOpenedBelow};
     ghost use Rattle.reuse_system.specs.TempFiles.{name_in, place_of, opened_at, key_of};
     ghost use Rattle.reuse_system.specs.NameChanges.{change_at, change_of_free};
@@ -129,6 +129,8 @@ pub trait System {
             (λ _. IsRenamed (place_of temp_file.now) (name_in folder.now name.now) (holds self.old) (holds self.new))
             (λ _. MayBeRenamed (place_of temp_file.now) (name_in folder.now name.now) (holds self.old)
             (holds self.new)) }
+        ensures left { IfOk result
+            (λ _. IsLeft (place_of temp_file.now) (name_in folder.now name.now) (holds self.old) (holds self.new)) }
         ensures still { folders self.new ≡ folders self.old }
         ensures earlier { honest self.new → honest self.old }
         ensures changes { changes self.new ≡ change_at (looked self.old)
@@ -145,9 +147,11 @@ pub trait System {
         ensures earlier { honest self.new → honest self.old }
         ensures changes { changes self.new ≡ change_of_free (name_in folder.now name.now) ∷ changes self.old };
 
-    /// Removes what stands where the file was made. A fault of that reports no more.
-    fn discard(&mut self, temp_file: &TempFile)
-        ensures others { IsAlikeBut (place_of temp_file.now) (holds self.old) (holds self.new) }
+    /// Removes what stands where the file was made. Where that fails, it may be done.
+    fn discard(&mut self, temp_file: &TempFile) -> io::Result<()>
+        ensures removed { MatchResult result
+            (λ _. IsRemoved (place_of temp_file.now) (holds self.old) (holds self.new))
+            (λ _. IsAlikeBut (place_of temp_file.now) (holds self.old) (holds self.new)) }
         ensures still { folders self.new ≡ folders self.old }
         ensures earlier { honest self.new → honest self.old }
         ensures changes { changes self.new ≡ change_at (looked self.old) (place_of temp_file.now) ∷ changes self.old };

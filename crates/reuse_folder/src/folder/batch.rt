@@ -1,21 +1,32 @@
 //! Writing several files at once. All are written to temporary files before the data of the first
 //! is synced, so that the system syncs them together; then each is given its name, in order.
-ghost use Rattle.std.specs.Prelude.{◌≡◌, ◌<◌, ◌≤◌, List, [], ◌∷◌, IfErr, IfOk, length};
+ghost use Rattle.std.specs.Prelude.{◌≡◌, ◌<◌, ◌≤◌, ℕ, List, [], ◌∷◌, ◌++◌, false, is_ok, IfErr, IfOk, IsTrue};
+ghost use Rattle.std.specs.Prelude.{MatchResult, length};
 ghost use Rattle.std.specs.List.{All};
-ghost use Rattle.reuse_system.specs.TempFiles.{place_of};
+ghost use Rattle.reuse_system.specs.TempFiles.{place_of, key_of, IsNewIn};
 ghost use Rattle.reuse_system.specs.NameChanges.{OnlyChanges};
+ghost use Rattle.reuse_system.specs.SystemLaws.{IsAlikeBut, IsAlikeButFile, IsAlikeUnless};
+ghost use Rattle.reuse_system.specs.declared.place.Identity.{Identity};
+ghost use Rattle.reuse_system.specs.declared.syncs.Syncs.TheVariants.{Kept};
+ghost use Rattle.reuse_change.specs.Parts.{joined};
+ghost use Rattle.reuse_disk.specs.Noted.{StayNoted};
+ghost use Rattle.reuse_disk.specs.Written.{is_kept, IsSyncedIf};
+ghost use Rattle.reuse_folder.specs.Barriers.{AreNotedAbove, HasNoted, HaveNoted, IsNotedAbove};
+ghost use Rattle.reuse_folder.specs.Batches.{disk_of, made_of, BeginsWithFile, IsBatch};
+ghost use Rattle.reuse_folder.specs.Rounds.{new_place, AreApart, AreTempFile, AreBegun, AreNamed, HavePlaces, IsAdded};
+ghost use Rattle.reuse_folder.specs.Rounds.{IsNamed, IsNumbered, IsRound, IsRoundOf, StandsTempFile};
 ghost use Rattle.reuse_folder.specs.Seen.{AreKnown, IsKnownTempFile, IsNewFile, IsSeenBefore, LoseNoEdits};
 ghost use Rattle.reuse_folder.specs.declared.folder.seen.ReadPath.{ReadPath};
 
 use super::RootFolder;
 use super::seen::{Expected, ReadPath, expected_at};
 use reuse_change::{PathText, Pieces};
-use reuse_disk::{Content, Target, name_temp_file};
+use reuse_disk::{Content, NewFile, Target, name_temp_file};
 use reuse_store::FileWrite;
 use reuse_system::fault::FolderFault;
 use reuse_system::place::{FileStatus, folder_and_name};
 use reuse_system::system::{HostSystem, System, TempFile};
-use std::alloc::{AllocError, Global};
+use std::alloc::Global;
 use std::fs::File;
 use std::mem;
 use std::rt::Files;
@@ -81,15 +92,25 @@ struct NewContent {
     seen: Option<FileStatus>,
 }
 
+/// New temporary files that are written, in the order of their writes, and the folder of new files.
+#[derive(Drop)]
+struct Round {
+    new_file: NewFile,
+    temp_files: Vec<NewContent>,
+}
+
 /// Removes new files that get no name.
 fn remove_all<S: System>(system: &mut S, temp_files: &[NewContent])
+    ensures others { (new_files : Identity) → All (λ one. IsNewIn new_files (place_of one.temp_file)) temp_files.now
+        → IsAlikeUnless (IsNewIn new_files) (S.holds system.old) (S.holds system.new) }
     ensures still { S.folders system.new ≡ S.folders system.old }
     ensures earlier { S.honest system.new → S.honest system.old }
     ensures changes { All (λ one. IsNewFile (place_of one.temp_file)) temp_files.now
         → OnlyChanges IsNewFile (S.changes system.old) (S.changes system.new) }
 {
     for one in temp_files {
-        system.discard(&one.temp_file);
+        // A fault of that reports no more.
+        let _ = system.discard(&one.temp_file);
     }
 }
 
@@ -99,6 +120,16 @@ impl<R: Files<File = File> + AllocGlobal + Clone + Drop> RootFolder<R> {
     /// first is synced: so the system syncs them together.
     pub fn write_all(&mut self, alloc: Global, writes: &[FileWrite]) -> Result<(), Stop>
         ensures stop { IfErr result (λ stop. stop.made < length writes.now) }
+        // The disk is as single writes make it, one after the other. If all were made, no new file
+        // is left.
+        ensures made { ⟦<HostSystem<R> as System>⟧.honest self.new.system
+            → (batch : IsBatch (is_kept self.old.unsynced.syncs) writes.now (disk_of ⟦<HostSystem<R> as System>⟧
+            self.old.system) (disk_of ⟦<HostSystem<R> as System>⟧ self.new.system) (is_ok result))
+            × (batch.made ≡ made_of (length writes.now) result) }
+        // The folder above each path that got or lost a file is noted for the next barrier.
+        ensures noted { self.old.unsynced.syncs ≡ Kept
+            → HaveNoted self.new.unsynced writes.now (⟦<HostSystem<R> as System>⟧.changes self.old.system)
+            (⟦<HostSystem<R> as System>⟧.changes self.new.system) }
         // No path changes at which something else stands than was read there.
         ensures keeps_edits { LoseNoEdits self.old.reads.items writes.now
             (⟦<HostSystem<R> as System>⟧.changes self.old.system)
@@ -129,96 +160,177 @@ impl<R: Files<File = File> + AllocGlobal + Clone + Drop> RootFolder<R> {
         requires { 0 < length writes.now }
         ensures some { IfOk result (λ count. (0 < count) × (count ≤ length writes.now)) }
         ensures stop { IfErr result (λ stop. stop.made < length writes.now) }
+        ensures made { ⟦<HostSystem<R> as System>⟧.honest self.new.system
+            → IsRound (is_kept self.old.unsynced.syncs) writes.now self.old.new_file self.new.new_file
+            (disk_of ⟦<HostSystem<R> as System>⟧ self.old.system)
+            (disk_of ⟦<HostSystem<R> as System>⟧ self.new.system) result }
+        ensures syncs { self.new.unsynced.syncs ≡ self.old.unsynced.syncs }
+        ensures stay_noted { StayNoted self.old.unsynced self.new.unsynced }
+        ensures noted { self.old.unsynced.syncs ≡ Kept
+            → HaveNoted self.new.unsynced writes.now (⟦<HostSystem<R> as System>⟧.changes self.old.system)
+            (⟦<HostSystem<R> as System>⟧.changes self.new.system) }
+        ensures earlier { ⟦<HostSystem<R> as System>⟧.honest self.new.system
+            → ⟦<HostSystem<R> as System>⟧.honest self.old.system }
         ensures keeps_edits { LoseNoEdits seen.old.reads.items writes.now
             (⟦<HostSystem<R> as System>⟧.changes self.old.system)
             (⟦<HostSystem<R> as System>⟧.changes self.new.system) }
         ensures reads { seen.new.reads ≡ seen.old.reads }
     {
-        if let Some(FileWrite { path, file: None }) = writes.first() {
-            let expected = seen.next_at(path);
-            self.remove_expected(alloc, path, expected)
+        let write = &writes[0];
+        if write.file.is_none() {
+            let expected = seen.next_at(write.path);
+            self.remove_expected(alloc, write.path, expected)
                 .map_err(Stop::at_first)?;
             return Ok(1);
         }
         match self.write_temp_file(alloc, writes, seen) {
-            Ok(temp_files) => {
-                self.name_all(alloc, writes, &temp_files)?;
-                Ok(temp_files.len().clamp(1, writes.len()))
+            Ok(
+                Round {
+                    mut new_file,
+                    temp_files,
+                },
+            ) => {
+                let named = self.name_all(alloc, writes, &mut new_file, &temp_files);
+                self.new_file = Some(new_file);
+                named?;
+                Ok(temp_files.len())
             }
             Err(fault) => Err(Stop::at_first(fault)),
         }
     }
 
-    /// Writes the new files up to the first removal to temporary files, or up to one that fails, if
-    /// it isn't the first.
+    /// Writes the new files up to the first removal to temporary files, or up to one that can't be
+    /// written now, if it isn't the first.
     fn write_temp_file(
         &mut self,
         alloc: Global,
         writes: &[FileWrite],
         seen: &mut Seen,
-    ) -> Result<Vec<NewContent>, FolderFault>
+    ) -> Result<Round, FolderFault>
+        requires { BeginsWithFile writes.now }
+        ensures round { IsRoundOf (⟦<HostSystem<R> as System>⟧.honest self.new.system) writes.now self.old.new_file
+            (⟦<HostSystem<R> as System>⟧.holds self.old.system)
+            (⟦<HostSystem<R> as System>⟧.holds self.new.system) result }
+        ensures syncs { self.new.unsynced.syncs ≡ self.old.unsynced.syncs }
+        ensures stay_noted { StayNoted self.old.unsynced self.new.unsynced }
+        ensures above { self.old.unsynced.syncs ≡ Kept
+            → IfOk result (λ round. AreNotedAbove self.new.unsynced writes.now (length round.temp_files.items)) }
+        ensures earlier { ⟦<HostSystem<R> as System>⟧.honest self.new.system
+            → ⟦<HostSystem<R> as System>⟧.honest self.old.system }
         ensures changes { OnlyChanges IsNewFile (⟦<HostSystem<R> as System>⟧.changes self.old.system)
             (⟦<HostSystem<R> as System>⟧.changes self.new.system) }
-        ensures known { IfOk result (λ temp_files. AreKnown seen.old.reads.items writes.now temp_files.items) }
+        ensures known { IfOk result (λ round. AreKnown seen.old.reads.items writes.now round.temp_files.items) }
         ensures reads { seen.new.reads ≡ seen.old.reads }
     {
-        let mut temp_files = Vec::new(alloc);
-        for write in writes {
-            let Some(parts) = write.file else {
-                break;
-            };
-            match self.write_one_temp_file(alloc, write, parts, temp_files.len(), seen) {
-                Ok(temp_file) => temp_files.push(temp_file).map_err(AllocError::from)?,
-                Err(fault) if temp_files.is_empty() => return Err(fault),
-                Err(_) => break,
+        self.ownership.check_guard()?;
+        let mut round = Round {
+            new_file: self.take_new_file(alloc)?,
+            temp_files: Vec::new(alloc),
+        };
+        match self.fill_round(alloc, writes, &mut round, seen) {
+            Ok(()) => Ok(round),
+            Err(fault) => {
+                remove_all(&mut self.system, &round.temp_files);
+                self.new_file = Some(round.new_file);
+                Err(fault)
             }
         }
-        Ok(temp_files)
     }
 
-    fn write_one_temp_file(
+    /// Writes these new files aside, in a round that has none yet.
+    fn fill_round(
+        &mut self,
+        alloc: Global,
+        writes: &[FileWrite],
+        round: &mut Round,
+        seen: &mut Seen,
+    ) -> Result<(), FolderFault>
+        requires { round.old.temp_files.items ≡ [] }
+        ensures folder { round.new.new_file.folder ≡ round.old.new_file.folder }
+        ensures begun { AreBegun (⟦<HostSystem<R> as System>⟧.honest self.new.system × IsTrue (is_ok result))
+            round.old.new_file.folder.identity writes.now round.new.temp_files.items
+            (⟦<HostSystem<R> as System>⟧.holds self.old.system) (⟦<HostSystem<R> as System>⟧.holds self.new.system) }
+        ensures some { BeginsWithFile writes.now → IfOk result (λ _. 0 < length round.new.temp_files.items) }
+        ensures syncs { self.new.unsynced.syncs ≡ self.old.unsynced.syncs }
+        ensures stay_noted { StayNoted self.old.unsynced self.new.unsynced }
+        ensures above { self.old.unsynced.syncs ≡ Kept
+            → AreNotedAbove self.new.unsynced writes.now (length round.new.temp_files.items) }
+        ensures earlier { ⟦<HostSystem<R> as System>⟧.honest self.new.system
+            → ⟦<HostSystem<R> as System>⟧.honest self.old.system }
+        ensures changes { OnlyChanges IsNewFile (⟦<HostSystem<R> as System>⟧.changes self.old.system)
+            (⟦<HostSystem<R> as System>⟧.changes self.new.system) }
+        ensures known { AreKnown seen.old.reads.items writes.now round.new.temp_files.items }
+        ensures reads { seen.new.reads ≡ seen.old.reads }
+    {
+        for write in writes {
+            let Some(parts) = write.file else {
+                return Ok(());
+            };
+            let number = round.temp_files.len();
+            if let Err(fault) = self.add_temp_file(alloc, write, parts, round, seen) {
+                if number == 0 {
+                    return Err(fault);
+                }
+                return round.new_file.check_free(&mut self.system, alloc, number);
+            }
+        }
+        Ok(())
+    }
+
+    /// Writes one more new temporary file, if there is room for a file at its path.
+    fn add_temp_file(
         &mut self,
         alloc: Global,
         write: &FileWrite,
         parts: Pieces,
-        number: usize,
+        round: &mut Round,
         seen: &mut Seen,
-    ) -> Result<NewContent, FolderFault>
+    ) -> Result<(), FolderFault>
+        ensures folder { round.new.new_file.folder ≡ round.old.new_file.folder }
+        ensures others { IsAlikeBut (new_place round.old.new_file.folder.identity (length round.old.temp_files.items))
+            (⟦<HostSystem<R> as System>⟧.holds self.old.system) (⟦<HostSystem<R> as System>⟧.holds self.new.system) }
+        ensures added { IsAdded round.old.new_file.folder.identity (⟦<HostSystem<R> as System>⟧.holds self.new.system)
+            (joined parts.entry) round.old.temp_files.items round.new.temp_files.items (is_ok result) }
+        ensures syncs { self.new.unsynced.syncs ≡ self.old.unsynced.syncs }
+        ensures stay_noted { StayNoted self.old.unsynced self.new.unsynced }
+        ensures above { self.old.unsynced.syncs ≡ Kept
+            → IfOk result (λ _. IsNotedAbove self.new.unsynced write.now.path.now) }
+        ensures earlier { ⟦<HostSystem<R> as System>⟧.honest self.new.system
+            → ⟦<HostSystem<R> as System>⟧.honest self.old.system }
         ensures changes { OnlyChanges IsNewFile (⟦<HostSystem<R> as System>⟧.changes self.old.system)
             (⟦<HostSystem<R> as System>⟧.changes self.new.system) }
-        ensures known { IfOk result (IsKnownTempFile seen.old.reads.items write.now.path.now) }
+        ensures known { IfOk result
+            (λ _. (one : NewContent) × (round.new.temp_files.items ≡ round.old.temp_files.items ++ one ∷ [])
+            × IsKnownTempFile seen.old.reads.items write.now.path.now one) }
         ensures reads { seen.new.reads ≡ seen.old.reads }
     {
         let (folder, _) = folder_and_name(write.path.text());
         let found = self.make_room(alloc, write.path, seen.next_at(write.path))?;
         self.unsynced.note(alloc, folder)?;
-        let mut new_file = self.take_new_file(alloc)?;
-        if let Err(fault) = self
-            .open_folders
-            .enter_seen(&mut self.system, alloc, folder)
-        {
-            // The new files before this one are still to be named, by the folder that it holds
-            // open.
-            self.new_file = Some(new_file);
-            return Err(fault);
-        }
-        let target = self.open_folders.current()?;
+        self.open_folders
+            .enter_seen(&mut self.system, alloc, folder)?;
         let content = Content {
             parts,
-            wanted: self.ownership.wanted(target, found),
+            wanted: self.ownership.wanted(self.open_folders.current()?, found),
             found,
         };
-        let temp_file = new_file.write_one_temp_file(&mut self.system, alloc, number, content);
-        if temp_file.is_ok() {
-            self.ownership
-                .note_written(write.path.text(), found, new_file.kept());
-        }
-        self.new_file = Some(new_file);
-        let temp_file = temp_file?;
-        Ok(NewContent {
+        let number = round.temp_files.len();
+        let temp_file = round
+            .new_file
+            .write_one_temp_file(&mut self.system, alloc, number, content)?;
+        self.ownership
+            .note_written(write.path.text(), found, round.new_file.kept());
+        let one = NewContent {
             temp_file,
             seen: found,
-        })
+        };
+        match round.temp_files.push(one) {
+            Ok(()) => Ok(()),
+            Err(full) => {
+                let _ = self.system.discard(&full.value.temp_file);
+                Err(FolderFault::Memory)
+            }
+        }
     }
 
     /// Makes the data of the new files durable and gives each its name, in order: the first so many
@@ -227,10 +339,28 @@ impl<R: Files<File = File> + AllocGlobal + Clone + Drop> RootFolder<R> {
         &mut self,
         alloc: Global,
         writes: &[FileWrite],
+        new_file: &mut NewFile,
         temp_files: &[NewContent],
     ) -> Result<(), Stop>
         requires { 0 < length writes.now }
         ensures stop { IfErr result (λ stop. stop.made < length writes.now) }
+        ensures folder { new_file.new.folder ≡ new_file.old.folder }
+        ensures named { ⟦<HostSystem<R> as System>⟧.honest self.new.system → 0 < length temp_files.now
+            → length temp_files.now ≤ length writes.now
+            → HavePlaces new_file.old.folder.identity temp_files.now → AreApart temp_files.now
+            → AreTempFile new_file.old.folder.identity false (⟦<HostSystem<R> as System>⟧.holds self.old.system) 0
+            (length temp_files.now) writes.now temp_files.now
+            → AreNamed new_file.old.folder.identity (is_kept self.old.unsynced.syncs) writes.now temp_files.now
+            (disk_of ⟦<HostSystem<R> as System>⟧ self.old.system)
+            (disk_of ⟦<HostSystem<R> as System>⟧ self.new.system) result }
+        ensures syncs { self.new.unsynced.syncs ≡ self.old.unsynced.syncs }
+        ensures folders { self.new.unsynced.folders ≡ self.old.unsynced.folders }
+        ensures noted { (reads : List ReadPath) → AreKnown reads writes.now temp_files.now
+            → AreNotedAbove self.old.unsynced writes.now (length temp_files.now)
+            → HaveNoted self.new.unsynced writes.now (⟦<HostSystem<R> as System>⟧.changes self.old.system)
+            (⟦<HostSystem<R> as System>⟧.changes self.new.system) }
+        ensures earlier { ⟦<HostSystem<R> as System>⟧.honest self.new.system
+            → ⟦<HostSystem<R> as System>⟧.honest self.old.system }
         ensures keeps_edits { (reads : List ReadPath) → AreKnown reads writes.now temp_files.now
             → LoseNoEdits reads writes.now (⟦<HostSystem<R> as System>⟧.changes self.old.system)
             (⟦<HostSystem<R> as System>⟧.changes self.new.system) }
@@ -239,7 +369,7 @@ impl<R: Files<File = File> + AllocGlobal + Clone + Drop> RootFolder<R> {
             remove_all(&mut self.system, temp_files);
             return Err(Stop::at_first(fault));
         }
-        self.name_each(alloc, writes, temp_files)
+        self.name_each(alloc, writes, new_file, temp_files)
     }
 
     /// Makes the data of the new files durable.
@@ -248,7 +378,20 @@ impl<R: Files<File = File> + AllocGlobal + Clone + Drop> RootFolder<R> {
         writes: &[FileWrite],
         temp_files: &[NewContent],
     ) -> Result<(), FolderFault>
-        ensures { ⟦<HostSystem<R> as System>⟧.changes self.new.system
+        ensures synced { (new_files : Identity) → length temp_files.now ≤ length writes.now → AreApart temp_files.now
+            → AreTempFile new_files false (⟦<HostSystem<R> as System>⟧.holds self.old.system) 0
+            (length temp_files.now) writes.now temp_files.now
+            → IfOk result (λ _. AreTempFile new_files (is_kept self.old.unsynced.syncs)
+            (⟦<HostSystem<R> as System>⟧.holds self.new.system) 0 (length temp_files.now) writes.now temp_files.now)
+            × IsAlikeUnless (IsNumbered new_files (length temp_files.now))
+            (⟦<HostSystem<R> as System>⟧.holds self.old.system) (⟦<HostSystem<R> as System>⟧.holds self.new.system) }
+        ensures syncs { self.new.unsynced.syncs ≡ self.old.unsynced.syncs }
+        ensures folders { self.new.unsynced.folders ≡ self.old.unsynced.folders }
+        ensures still { ⟦<HostSystem<R> as System>⟧.folders self.new.system
+            ≡ ⟦<HostSystem<R> as System>⟧.folders self.old.system }
+        ensures earlier { ⟦<HostSystem<R> as System>⟧.honest self.new.system
+            → ⟦<HostSystem<R> as System>⟧.honest self.old.system }
+        ensures changes { ⟦<HostSystem<R> as System>⟧.changes self.new.system
             ≡ ⟦<HostSystem<R> as System>⟧.changes self.old.system }
     {
         for (at, new) in temp_files.iter().enumerate() {
@@ -260,14 +403,51 @@ impl<R: Files<File = File> + AllocGlobal + Clone + Drop> RootFolder<R> {
         Ok(())
     }
 
+    /// Makes the data of the new file durable that is to get this path.
+    fn sync_temp_file(&mut self, temp_file: &TempFile, path: &PathText) -> Result<(), FolderFault>
+        ensures synced { MatchResult result
+            (λ _. IsSyncedIf (is_kept self.old.unsynced.syncs) (key_of temp_file.now)
+            (⟦<HostSystem<R> as System>⟧.holds self.old.system) (⟦<HostSystem<R> as System>⟧.holds self.new.system))
+            (λ _. IsAlikeButFile (key_of temp_file.now) (⟦<HostSystem<R> as System>⟧.holds self.old.system)
+            (⟦<HostSystem<R> as System>⟧.holds self.new.system)) }
+        ensures syncs { self.new.unsynced.syncs ≡ self.old.unsynced.syncs }
+        ensures folders { self.new.unsynced.folders ≡ self.old.unsynced.folders }
+        ensures still { ⟦<HostSystem<R> as System>⟧.folders self.new.system
+            ≡ ⟦<HostSystem<R> as System>⟧.folders self.old.system }
+        ensures earlier { ⟦<HostSystem<R> as System>⟧.honest self.new.system
+            → ⟦<HostSystem<R> as System>⟧.honest self.old.system }
+        ensures changes { ⟦<HostSystem<R> as System>⟧.changes self.new.system
+            ≡ ⟦<HostSystem<R> as System>⟧.changes self.old.system }
+    {
+        let unsynced = &mut self.unsynced;
+        Ok(unsynced.sync_data(&mut self.system, temp_file, path.text())?)
+    }
+
     /// Gives each new file its name, in order. If one fails, it and those behind it are removed.
     fn name_each(
         &mut self,
         alloc: Global,
         writes: &[FileWrite],
+        new_file: &mut NewFile,
         temp_files: &[NewContent],
     ) -> Result<(), Stop>
         ensures stop { IfErr result (λ stop. stop.made < length writes.now) }
+        ensures folder { new_file.new.folder ≡ new_file.old.folder }
+        ensures named { ⟦<HostSystem<R> as System>⟧.honest self.new.system → length temp_files.now ≤ length writes.now
+            → HavePlaces new_file.old.folder.identity temp_files.now → AreApart temp_files.now
+            → AreTempFile new_file.old.folder.identity (is_kept self.old.unsynced.syncs)
+            (⟦<HostSystem<R> as System>⟧.holds self.old.system) 0 (length temp_files.now) writes.now temp_files.now
+            → AreNamed new_file.old.folder.identity (is_kept self.old.unsynced.syncs) writes.now temp_files.now
+            (disk_of ⟦<HostSystem<R> as System>⟧ self.old.system)
+            (disk_of ⟦<HostSystem<R> as System>⟧ self.new.system) result }
+        ensures syncs { self.new.unsynced.syncs ≡ self.old.unsynced.syncs }
+        ensures folders { self.new.unsynced.folders ≡ self.old.unsynced.folders }
+        ensures noted { (reads : List ReadPath) → AreKnown reads writes.now temp_files.now
+            → AreNotedAbove self.old.unsynced writes.now (length temp_files.now)
+            → HaveNoted self.new.unsynced writes.now (⟦<HostSystem<R> as System>⟧.changes self.old.system)
+            (⟦<HostSystem<R> as System>⟧.changes self.new.system) }
+        ensures earlier { ⟦<HostSystem<R> as System>⟧.honest self.new.system
+            → ⟦<HostSystem<R> as System>⟧.honest self.old.system }
         ensures keeps_edits { (reads : List ReadPath) → AreKnown reads writes.now temp_files.now
             → LoseNoEdits reads writes.now (⟦<HostSystem<R> as System>⟧.changes self.old.system)
             (⟦<HostSystem<R> as System>⟧.changes self.new.system) }
@@ -276,7 +456,7 @@ impl<R: Files<File = File> + AllocGlobal + Clone + Drop> RootFolder<R> {
             let Some(new) = temp_files.get(made) else {
                 return Ok(());
             };
-            if let Err(fault) = self.name_one(alloc, new, write) {
+            if let Err(fault) = self.name_one(alloc, new_file, new, write) {
                 remove_all(&mut self.system, &temp_files[made..]);
                 return Err(Stop { made, fault });
             }
@@ -284,24 +464,30 @@ impl<R: Files<File = File> + AllocGlobal + Clone + Drop> RootFolder<R> {
         Ok(())
     }
 
-    /// Makes the data of the new file durable that is to get this path.
-    fn sync_temp_file(&mut self, temp_file: &TempFile, path: &PathText) -> Result<(), FolderFault>
-        ensures { ⟦<HostSystem<R> as System>⟧.changes self.new.system
-            ≡ ⟦<HostSystem<R> as System>⟧.changes self.old.system }
-    {
-        let unsynced = &mut self.unsynced;
-        Ok(unsynced.sync_data(&mut self.system, temp_file, path.text())?)
-    }
-
     /// Gives the new file its name, if what was seen at the path stands there. If that leads to
     /// another device, the file is written anew beside the one that it is to be.
     fn name_one(
         &mut self,
         alloc: Global,
+        new_file: &mut NewFile,
         new: &NewContent,
         write: &FileWrite,
     ) -> Result<(), FolderFault>
-        ensures { (reads : List ReadPath) → IsKnownTempFile reads write.now.path.now new.now
+        ensures folder { new_file.new.folder ≡ new_file.old.folder }
+        ensures named { ⟦<HostSystem<R> as System>⟧.honest self.new.system → (count number : ℕ)
+            → StandsTempFile new_file.old.folder.identity count (is_kept self.old.unsynced.syncs)
+            (⟦<HostSystem<R> as System>⟧.holds self.old.system) number write.now new.now
+            → IsNamed new_file.old.folder.identity count (is_kept self.old.unsynced.syncs) number write.now new.now
+            (disk_of ⟦<HostSystem<R> as System>⟧ self.old.system) (disk_of ⟦<HostSystem<R> as System>⟧ self.new.system)
+            (is_ok result) }
+        ensures syncs { self.new.unsynced.syncs ≡ self.old.unsynced.syncs }
+        ensures folders { self.new.unsynced.folders ≡ self.old.unsynced.folders }
+        ensures noted { IsNewFile (place_of new.now.temp_file) → IsNotedAbove self.old.unsynced write.now.path.now
+            → HasNoted self.new.unsynced write.now.path.now (⟦<HostSystem<R> as System>⟧.changes self.old.system)
+            (⟦<HostSystem<R> as System>⟧.changes self.new.system) }
+        ensures earlier { ⟦<HostSystem<R> as System>⟧.honest self.new.system
+            → ⟦<HostSystem<R> as System>⟧.honest self.old.system }
+        ensures keeps_edits { (reads : List ReadPath) → IsKnownTempFile reads write.now.path.now new.now
             → LoseNoEdits reads (write.now ∷ []) (⟦<HostSystem<R> as System>⟧.changes self.old.system)
             (⟦<HostSystem<R> as System>⟧.changes self.new.system) }
     {
@@ -314,16 +500,19 @@ impl<R: Files<File = File> + AllocGlobal + Clone + Drop> RootFolder<R> {
             name,
             path,
         };
+        new_file.check(target)?;
         if name_temp_file(&mut self.system, &new.temp_file, target, new.seen)? {
             return Ok(());
         }
-        self.system.discard(&new.temp_file);
-        match write.file {
-            Some(parts) => {
-                let expected = Expected::of(new.seen);
-                self.put_expected(alloc, write.path, parts, expected)
-            }
-            None => Ok(()),
-        }
+        self.system.discard(&new.temp_file)?;
+        let Some(parts) = write.file else {
+            return Ok(());
+        };
+        let content = Content {
+            parts,
+            wanted: self.ownership.wanted(target.folder, new.seen),
+            found: new.seen,
+        };
+        new_file.write_beside(&mut self.system, alloc, target, content, &mut self.unsynced)
     }
 }

@@ -1,6 +1,7 @@
 //! Putting and removing a file. What a put makes of the names is stated by what each call of the
 //! system makes of them, whatever was there.
-ghost use Rattle.std.specs.Prelude.{◌≡◌, is_ok, IfOk, IsErr, IsTrue};
+ghost use Rattle.std.specs.Prelude.{◌≡◌, is_ok, IfOk, IsErr, IsTrue, None};
+ghost use Rattle.reuse_system.specs.declared.place.Identity.{Identity};
 ghost use Rattle.reuse_system.specs.Ignored.{is_ignored};
 
 use super::RootFolder;
@@ -17,9 +18,12 @@ use std::fs::File;
 use std::rt::Files;
 
 impl<R: Files<File = File> + AllocGlobal + Clone + Drop> RootFolder<R> {
-    ghost use Rattle.reuse_folder.specs.FolderWrites.{IsCleared, IsGone, IsPutAt, IsPutIn, IsRemovedAt, IsRemovedIn};
-    ghost use Rattle.reuse_folder.specs.FolderWrites.{IsStoredAt};
-    ghost use Rattle.reuse_disk.specs.Written.{is_kept};
+    ghost use Rattle.reuse_folder.specs.FolderWrites.{IsCleared, IsGone, IsPutBy, IsPutIn, IsRemovedAt, IsRemovedIn};
+    ghost use Rattle.reuse_folder.specs.FolderWrites.{IsStoredAt, IsTidy};
+    ghost use Rattle.reuse_disk.specs.Noted.{StayNoted};
+    ghost use Rattle.reuse_disk.specs.Written.{is_kept, LeavesNone};
+    ghost use Rattle.reuse_folder.specs.Barriers.{HasNoted};
+    ghost use Rattle.reuse_system.specs.declared.syncs.Syncs.TheVariants.{Kept};
     ghost use Rattle.reuse_folder.specs.Seen.{IsSeenAs, IsSeenBefore, LosesNoEdit, LosesNoEditAfter};
     ghost use Rattle.reuse_change.specs.Parts.{joined};
 
@@ -27,7 +31,7 @@ impl<R: Files<File = File> + AllocGlobal + Clone + Drop> RootFolder<R> {
     fn take_expected(&mut self, path: &PathText) -> Expected
         ensures kept { self.new.system ≡ self.old.system }
         ensures open_folders { self.new.open_folders ≡ self.old.open_folders }
-        ensures syncs { self.new.unsynced.syncs ≡ self.old.unsynced.syncs }
+        ensures unsynced { self.new.unsynced ≡ self.old.unsynced }
         ensures expected { IsSeenBefore self.old.reads.items path.now result }
     {
         let expected = expected_at(&self.reads, path);
@@ -38,18 +42,25 @@ impl<R: Files<File = File> + AllocGlobal + Clone + Drop> RootFolder<R> {
     /// Makes the parts joined the file at the path, as a whole or not at all, and folders as
     /// needed.
     pub fn put(&mut self, alloc: Global, path: &PathText, parts: Pieces) -> Result<(), FolderFault>
-        ensures written { IsPutAt path.now (joined parts.entry) (is_kept self.old.unsynced.syncs)
+        ensures written { (new_files : Identity)
+            × IsPutBy new_files path.now (joined parts.entry) (is_kept self.old.unsynced.syncs)
             (⟦<HostSystem<R> as System>⟧.holds self.old.system) (⟦<HostSystem<R> as System>⟧.holds self.new.system)
             (is_ok result) }
         ensures place { ⟦<HostSystem<R> as System>⟧.honest self.new.system
-            → IsPutIn (⟦<HostSystem<R> as System>⟧.folders self.new.system) path.now (joined parts.entry)
-            (is_kept self.old.unsynced.syncs)
-            (⟦<HostSystem<R> as System>⟧.holds self.old.system) (⟦<HostSystem<R> as System>⟧.holds self.new.system)
-            (is_ok result) }
+            → (new_files : Identity) × IsPutIn new_files (⟦<HostSystem<R> as System>⟧.folders self.new.system) path.now
+            (joined parts.entry) (is_kept self.old.unsynced.syncs)
+            (⟦<HostSystem<R> as System>⟧.holds self.old.system)
+            (⟦<HostSystem<R> as System>⟧.holds self.new.system) (is_ok result)
+            × IsTidy new_files (⟦<HostSystem<R> as System>⟧.holds self.old.system)
+            (⟦<HostSystem<R> as System>⟧.holds self.new.system) (is_ok result) }
         ensures stands { ⟦<HostSystem<R> as System>⟧.honest self.new.system
             → IfOk result (λ _. IsStoredAt (⟦<HostSystem<R> as System>⟧.folders self.new.system)
             (⟦<HostSystem<R> as System>⟧.holds self.new.system) path.now (joined parts.entry)
             (is_kept self.old.unsynced.syncs)) }
+        // The folder above the path is noted for the next barrier, if that got or lost a file.
+        ensures noted { self.old.unsynced.syncs ≡ Kept
+            → HasNoted self.new.unsynced path.now (⟦<HostSystem<R> as System>⟧.changes self.old.system)
+            (⟦<HostSystem<R> as System>⟧.changes self.new.system) }
         ensures earlier { ⟦<HostSystem<R> as System>⟧.honest self.new.system
             → ⟦<HostSystem<R> as System>⟧.honest self.old.system }
         ensures ignored { IsTrue (is_ignored path.now) → IsErr result }
@@ -63,25 +74,32 @@ impl<R: Files<File = File> + AllocGlobal + Clone + Drop> RootFolder<R> {
     }
 
     /// Does so if what is expected stands at the path.
-    pub(super) fn put_expected(
+    fn put_expected(
         &mut self,
         alloc: Global,
         path: &PathText,
         parts: Pieces,
         expected: Expected,
     ) -> Result<(), FolderFault>
-        ensures written { IsPutAt path.now (joined parts.entry) (is_kept self.old.unsynced.syncs)
+        ensures written { (new_files : Identity)
+            × IsPutBy new_files path.now (joined parts.entry) (is_kept self.old.unsynced.syncs)
             (⟦<HostSystem<R> as System>⟧.holds self.old.system) (⟦<HostSystem<R> as System>⟧.holds self.new.system)
             (is_ok result) }
         ensures place { ⟦<HostSystem<R> as System>⟧.honest self.new.system
-            → IsPutIn (⟦<HostSystem<R> as System>⟧.folders self.new.system) path.now (joined parts.entry)
-            (is_kept self.old.unsynced.syncs)
-            (⟦<HostSystem<R> as System>⟧.holds self.old.system) (⟦<HostSystem<R> as System>⟧.holds self.new.system)
-            (is_ok result) }
+            → (new_files : Identity) × IsPutIn new_files (⟦<HostSystem<R> as System>⟧.folders self.new.system) path.now
+            (joined parts.entry) (is_kept self.old.unsynced.syncs)
+            (⟦<HostSystem<R> as System>⟧.holds self.old.system)
+            (⟦<HostSystem<R> as System>⟧.holds self.new.system) (is_ok result)
+            × IsTidy new_files (⟦<HostSystem<R> as System>⟧.holds self.old.system)
+            (⟦<HostSystem<R> as System>⟧.holds self.new.system) (is_ok result) }
         ensures stands { ⟦<HostSystem<R> as System>⟧.honest self.new.system
             → IfOk result (λ _. IsStoredAt (⟦<HostSystem<R> as System>⟧.folders self.new.system)
             (⟦<HostSystem<R> as System>⟧.holds self.new.system) path.now (joined parts.entry)
             (is_kept self.old.unsynced.syncs)) }
+        // The folder above the path is noted for the next barrier, if that got or lost a file.
+        ensures noted { self.old.unsynced.syncs ≡ Kept
+            → HasNoted self.new.unsynced path.now (⟦<HostSystem<R> as System>⟧.changes self.old.system)
+            (⟦<HostSystem<R> as System>⟧.changes self.new.system) }
         ensures earlier { ⟦<HostSystem<R> as System>⟧.honest self.new.system
             → ⟦<HostSystem<R> as System>⟧.honest self.old.system }
         ensures ignored { IsTrue (is_ignored path.now) → IsErr result }
@@ -108,6 +126,7 @@ impl<R: Files<File = File> + AllocGlobal + Clone + Drop> RootFolder<R> {
         ensures earlier { ⟦<HostSystem<R> as System>⟧.honest self.new.system
             → ⟦<HostSystem<R> as System>⟧.honest self.old.system }
         ensures syncs { self.new.unsynced.syncs ≡ self.old.unsynced.syncs }
+        ensures stay_noted { StayNoted self.old.unsynced self.new.unsynced }
         ensures ignored { IsTrue (is_ignored path.now) → IsErr result }
         ensures seen { IfOk result (IsSeenAs expected) }
     {
@@ -142,14 +161,21 @@ impl<R: Files<File = File> + AllocGlobal + Clone + Drop> RootFolder<R> {
         parts: Pieces,
         found: Option<FileStatus>,
     ) -> Result<(), FolderFault>
-        ensures written { IsPutAt path.now (joined parts.entry) (is_kept self.old.unsynced.syncs)
+        ensures written { (new_files : Identity)
+            × IsPutBy new_files path.now (joined parts.entry) (is_kept self.old.unsynced.syncs)
             (⟦<HostSystem<R> as System>⟧.holds self.old.system) (⟦<HostSystem<R> as System>⟧.holds self.new.system)
             (is_ok result) }
         ensures place { ⟦<HostSystem<R> as System>⟧.honest self.new.system
-            → IsPutIn (⟦<HostSystem<R> as System>⟧.folders self.new.system) path.now (joined parts.entry)
-            (is_kept self.old.unsynced.syncs)
-            (⟦<HostSystem<R> as System>⟧.holds self.old.system) (⟦<HostSystem<R> as System>⟧.holds self.new.system)
-            (is_ok result) }
+            → (new_files : Identity) × IsPutIn new_files (⟦<HostSystem<R> as System>⟧.folders self.new.system) path.now
+            (joined parts.entry) (is_kept self.old.unsynced.syncs)
+            (⟦<HostSystem<R> as System>⟧.holds self.old.system)
+            (⟦<HostSystem<R> as System>⟧.holds self.new.system) (is_ok result)
+            × IsTidy new_files (⟦<HostSystem<R> as System>⟧.holds self.old.system)
+            (⟦<HostSystem<R> as System>⟧.holds self.new.system) (is_ok result) }
+        // The folder above the path is noted for the next barrier, if that got or lost a file.
+        ensures noted { self.old.unsynced.syncs ≡ Kept
+            → HasNoted self.new.unsynced path.now (⟦<HostSystem<R> as System>⟧.changes self.old.system)
+            (⟦<HostSystem<R> as System>⟧.changes self.new.system) }
         ensures earlier { ⟦<HostSystem<R> as System>⟧.honest self.new.system
             → ⟦<HostSystem<R> as System>⟧.honest self.old.system }
         ensures keeps_edits { (expected : Expected) → IsSeenAs expected found → LosesNoEdit path.now expected
@@ -185,7 +211,8 @@ impl<R: Files<File = File> + AllocGlobal + Clone + Drop> RootFolder<R> {
         new_file: NewFile,
         is_done: bool,
     )
-        ensures { self.new.system ≡ self.old.system }
+        ensures system { self.new.system ≡ self.old.system }
+        ensures unsynced { self.new.unsynced ≡ self.old.unsynced }
     {
         if is_done {
             self.ownership
@@ -197,11 +224,13 @@ impl<R: Files<File = File> + AllocGlobal + Clone + Drop> RootFolder<R> {
     /// The place of new files, opened as needed.
     pub(super) fn take_new_file(&mut self, alloc: Global) -> Result<NewFile, FolderFault>
         ensures cleared { IsCleared (⟦<HostSystem<R> as System>⟧.changes self.old.system)
-            (⟦<HostSystem<R> as System>⟧.changes self.new.system) (⟦<HostSystem<R> as System>⟧.holds self.old.system)
+            (⟦<HostSystem<R> as System>⟧.changes self.new.system) self.old.new_file
+            (⟦<HostSystem<R> as System>⟧.holds self.old.system)
             (⟦<HostSystem<R> as System>⟧.holds self.new.system) result }
         ensures earlier { ⟦<HostSystem<R> as System>⟧.honest self.new.system
             → ⟦<HostSystem<R> as System>⟧.honest self.old.system }
         ensures syncs { self.new.unsynced.syncs ≡ self.old.unsynced.syncs }
+        ensures stay_noted { StayNoted self.old.unsynced self.new.unsynced }
     {
         match self.new_file.take() {
             Some(new_file) => Ok(new_file),
@@ -212,11 +241,13 @@ impl<R: Files<File = File> + AllocGlobal + Clone + Drop> RootFolder<R> {
     /// Opens the journal's folder for new files; it is made as needed.
     fn open_new_file(&mut self, alloc: Global) -> Result<NewFile, FolderFault>
         ensures cleared { IsCleared (⟦<HostSystem<R> as System>⟧.changes self.old.system)
-            (⟦<HostSystem<R> as System>⟧.changes self.new.system) (⟦<HostSystem<R> as System>⟧.holds self.old.system)
+            (⟦<HostSystem<R> as System>⟧.changes self.new.system) None
+            (⟦<HostSystem<R> as System>⟧.holds self.old.system)
             (⟦<HostSystem<R> as System>⟧.holds self.new.system) result }
         ensures earlier { ⟦<HostSystem<R> as System>⟧.honest self.new.system
             → ⟦<HostSystem<R> as System>⟧.honest self.old.system }
         ensures syncs { self.new.unsynced.syncs ≡ self.old.unsynced.syncs }
+        ensures stay_noted { StayNoted self.old.unsynced self.new.unsynced }
     {
         self.open_folders
             .make(&mut self.system, alloc, JOURNAL, &mut self.unsynced)?;
@@ -236,6 +267,7 @@ impl<R: Files<File = File> + AllocGlobal + Clone + Drop> RootFolder<R> {
         ensures earlier { ⟦<HostSystem<R> as System>⟧.honest self.new.system
             → ⟦<HostSystem<R> as System>⟧.honest self.old.system }
         ensures syncs { self.new.unsynced.syncs ≡ self.old.unsynced.syncs }
+        ensures stay_noted { StayNoted self.old.unsynced self.new.unsynced }
     {
         let (system, open_folders) = (&mut self.system, &mut self.open_folders);
         let files = list_below(system, alloc, open_folders, path.text(), &mut self.listed)?;
@@ -259,6 +291,10 @@ impl<R: Files<File = File> + AllocGlobal + Clone + Drop> RootFolder<R> {
         ensures gone { ⟦<HostSystem<R> as System>⟧.honest self.new.system
             → IfOk result (λ _. IsGone (⟦<HostSystem<R> as System>⟧.folders self.new.system)
             (⟦<HostSystem<R> as System>⟧.holds self.new.system) path.now) }
+        // The folder above the path is noted for the next barrier, if that got or lost a file.
+        ensures noted { self.old.unsynced.syncs ≡ Kept
+            → HasNoted self.new.unsynced path.now (⟦<HostSystem<R> as System>⟧.changes self.old.system)
+            (⟦<HostSystem<R> as System>⟧.changes self.new.system) }
         // The file at the path stays if it isn't what was read there.
         ensures keeps_edits { LosesNoEditAfter self.old.reads.items path.now
             (⟦<HostSystem<R> as System>⟧.changes self.old.system) (⟦<HostSystem<R> as System>⟧.changes self.new.system)
@@ -285,6 +321,17 @@ impl<R: Files<File = File> + AllocGlobal + Clone + Drop> RootFolder<R> {
         ensures gone { ⟦<HostSystem<R> as System>⟧.honest self.new.system
             → IfOk result (λ _. IsGone (⟦<HostSystem<R> as System>⟧.folders self.new.system)
             (⟦<HostSystem<R> as System>⟧.holds self.new.system) path.now) }
+        ensures none_left { IfOk result (λ _. LeavesNone (λ _. Unit {0})
+            (⟦<HostSystem<R> as System>⟧.holds self.old.system) (⟦<HostSystem<R> as System>⟧.holds self.new.system)) }
+        ensures earlier { ⟦<HostSystem<R> as System>⟧.honest self.new.system
+            → ⟦<HostSystem<R> as System>⟧.honest self.old.system }
+        ensures syncs { self.new.unsynced.syncs ≡ self.old.unsynced.syncs }
+        ensures stay_noted { StayNoted self.old.unsynced self.new.unsynced }
+        // The folder above the path is noted for the next barrier, if that got or lost a file.
+        ensures noted { self.old.unsynced.syncs ≡ Kept
+            → HasNoted self.new.unsynced path.now (⟦<HostSystem<R> as System>⟧.changes self.old.system)
+            (⟦<HostSystem<R> as System>⟧.changes self.new.system) }
+        ensures new_file { self.new.new_file ≡ self.old.new_file }
         ensures keeps_edits { LosesNoEdit path.now expected (⟦<HostSystem<R> as System>⟧.changes self.old.system)
             (⟦<HostSystem<R> as System>⟧.changes self.new.system)
             (⟦<HostSystem<R> as System>⟧.holds self.old.system) (⟦<HostSystem<R> as System>⟧.holds self.new.system) }

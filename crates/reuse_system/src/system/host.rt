@@ -167,10 +167,11 @@ impl<R: Files<File = File> + AllocGlobal + Drop> System for HostSystem<R> {
         answer
     }
 
-    fn discard(&mut self, temp_file: &TempFile) {
+    fn discard(&mut self, temp_file: &TempFile) -> io::Result<()> {
         let answer = fs::remove_file(&self.rt, temp_file.path.as_str());
         let kind = CallKind::Remove(temp_file.folder, answer.is_ok());
         self.noted.note(&kind, temp_file.name.as_bytes(), b"");
+        answer
     }
 
     fn remove(&mut self, folder: &OpenFolder, name: &str) -> io::Result<()> {

@@ -1,9 +1,9 @@
 use Rattle.std.proofs.Common.{◌≡◌, ◌∙◌, ◌∷◌, sym, ap, subst, IsTrue}
-use Rattle.std.specs.Prelude.{codes}
 use Rattle.reuse_system.specs.TempFiles.{is_elsewhere, name_in}
 use Rattle.reuse_system.specs.FileStates.{place_in}
 use Rattle.reuse_system.specs.Folders.{folder_at}
 use Rattle.reuse_system.specs.NameChanges.{change_at}
+use Rattle.reuse_change.specs.Layout.{journal_folder}
 use Rattle.reuse_disk.proofs.LeftLemmas.{clears_none, clears_one, none_reported}
 use Rattle.reuse_disk.proofs.mounted_folders.clear_folder.Goals as goal
 
@@ -20,7 +20,7 @@ returns-in_err-remove-in-File-clause-cleared g c opened known =
     clears_one (s.honest last) (s.folders last) c.args.journal c.in_ok-folder.folder.now.identity c.args.path.now
     c.as_str-in-File.result.now c.as_str.result.now c.in_ok-look.field-0 c.in-File.field-0
     (s.looked looked) (s.changes first) (s.changes last) (s.holds first) (s.holds last)
-    (λ honest. ap (λ folders. folder_at folders (codes ".reuse/undo")) (since ∙ c.enter_seen.ensures.still)
+    (λ honest. ap (λ folders. folder_at folders journal_folder) (since ∙ c.enter_seen.ensures.still)
     ∙ known (c.enter_seen.ensures.earlier (honest_once honest)))
     (λ honest. ap (λ folders. folder_at folders c.args.path.now) since
     ∙ c.in_ok-enter_seen.ensures.entered opened (honest_once honest) ∙ c.in_ok-folder.ensures)
@@ -45,7 +45,7 @@ returns-in-File-clause-cleared g c opened known =
     clears_one (s.honest last) (s.folders last) c.args.journal c.in_ok-folder.folder.now.identity c.args.path.now
     c.as_str-in-File.result.now c.as_str.result.now c.in_ok-look.field-0 c.in-File.field-0
     (s.looked looked) (s.changes first) (s.changes last) (s.holds first) (s.holds last)
-    (λ honest. ap (λ folders. folder_at folders (codes ".reuse/undo")) (since ∙ c.enter_seen.ensures.still)
+    (λ honest. ap (λ folders. folder_at folders journal_folder) (since ∙ c.enter_seen.ensures.still)
     ∙ known (c.enter_seen.ensures.earlier (honest_once honest)))
     (λ honest. ap (λ folders. folder_at folders c.args.path.now) since
     ∙ c.in_ok-enter_seen.ensures.entered opened (honest_once honest) ∙ c.in_ok-folder.ensures)

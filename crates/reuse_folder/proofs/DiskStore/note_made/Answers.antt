@@ -1,4 +1,4 @@
-use Rattle.std.proofs.Common.{◌∙◌, refl, subst}
+use Rattle.std.proofs.Common.{◌∙◌, refl, subst, arith}
 use Rattle.reuse_store.specs.Asked.{IsWrite}
 use Rattle.reuse_store.proofs.WrittenInTurn.{one_more}
 use Rattle.reuse_folder.proofs.NotedWrites.{noted}
@@ -12,4 +12,5 @@ loop-write-preserved g c = (
       (subst (λ r. IsWrite (noted (λ store. store.calls)) c.write-item.result.path.now c.write-item.result.file
       c.loop-write.self c.note_write.new.self r) (c.note_write.ensures.ok refl) c.note_write.ensures.write),
   c.note_write.ensures.folder ∙ c.loop-write.invariant.1,
+  grind (arith, c.note_write.ensures.mutations, c.loop-write.invariant.2),
 )

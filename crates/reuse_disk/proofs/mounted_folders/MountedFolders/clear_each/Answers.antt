@@ -1,6 +1,6 @@
-use Rattle.std.proofs.Common.{◌≡◌, ◌∙◌, sym, ap, subst, Some}
-use Rattle.std.specs.Prelude.{codes}
+use Rattle.std.proofs.Common.{◌∙◌, sym, ap, subst, Some}
 use Rattle.reuse_system.specs.Folders.{folder_at}
+use Rattle.reuse_change.specs.Layout.{journal_folder}
 use Rattle.reuse_disk.specs.LeftFiles.{ClearsLeft, IsJournalIf}
 use Rattle.reuse_disk.specs.OpenFolders.{AreOpenedIf}
 use Rattle.reuse_disk.proofs.LeftLemmas.{clears_later, clears_then}
@@ -14,7 +14,7 @@ loop-path-preserved g c =
     let after = c.clear_folder.new.system in
     let known : AreOpenedIf (s.honest first) (s.folders first) c.args.open_folders.now
     → IsJournalIf (s.honest before) (s.folders before) c.identity-journal.result =
-    λ opened honest. ap (λ folders. folder_at folders (codes ".reuse/undo"))
+    λ opened honest. ap (λ folders. folder_at folders journal_folder)
     (c.loop-path.invariant.1 ∙ sym c.enter_seen.ensures.still)
     ∙ c.in_ok-enter_seen.ensures.entered opened (c.loop-path.invariant.2 honest) ∙ c.in_ok-current.ensures
     ∙ ap (λ one. Some one) (sym c.identity-journal.ensures) in (

@@ -1,4 +1,4 @@
-use Rattle.std.proofs.Common.{◌≡◌, ◌∙◌, inl, inr, refl, sym, subst}
+use Rattle.std.proofs.Common.{◌≡◌, ◌∙◌, inl, refl, sym, subst}
 use Rattle.std.specs.Prelude.{codes}
 use Rattle.reuse_system.specs.TempFiles.{name_in, place_of, IsNewIn, IsNewPlace}
 use Rattle.reuse_system.specs.FileStates.{Place}

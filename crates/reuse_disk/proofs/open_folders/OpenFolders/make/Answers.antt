@@ -24,6 +24,7 @@ loop-name-preserved g c =
           (c.loop-name.invariant.5 right (c.open_or_make.ensures.earlier honest)))
           (rw c.in-Folder.is at (c.in_ok-opened.ensures.opened honest))),
       c.open_or_make.ensures.changes ∙ c.loop-name.invariant.6,
+      (λ folder noted. c.open_or_make.ensures.noted folder (c.loop-name.invariant.7 folder noted)),
     )
 
 pub returns-in_err-opened-clause-opened : goal.returns-in_err-opened-clause-opened

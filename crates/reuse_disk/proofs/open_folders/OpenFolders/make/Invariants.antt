@@ -3,6 +3,7 @@ use denote.Text.{Utf8}
 use denote.Shadow.{shadow}
 use Rattle.reuse_system.specs.Folders.{IsGrown}
 use Rattle.reuse_system.specs.SystemCalls.{changes_of, folders_after, held_after, IsHonest}
+use Rattle.reuse_disk.specs.Noted.{StayNoted}
 use Rattle.reuse_disk.specs.OpenFolders.{AreOpenedIf}
 use Rattle.reuse_disk.proofs.open_folders.OpenFolders.make.Given as goal
 
@@ -21,7 +22,8 @@ invariant-loop-name g l =
     (folders_after first.folders first.effects first.calls) l.fn.self
     → AreOpenedIf (IsHonest now.folders now.files now.effects now.calls)
     (folders_after now.folders now.effects now.calls) l.self) ×
-    (changes_of now.calls ≡ changes_of first.calls)
+    (changes_of now.calls ≡ changes_of first.calls) ×
+    StayNoted l.fn.unsynced l.unsynced
 
 abbrev pub decreases-loop-name : goal.decreases-loop-name
 decreases-loop-name g l = length l.rest

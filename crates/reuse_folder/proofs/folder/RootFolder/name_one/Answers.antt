@@ -1,69 +1,369 @@
-use Rattle.std.proofs.Common.{rules, ◌∷◌, []}
-use Rattle.reuse_system.specs.TempFiles.{place_of}
+use Rattle.std.proofs.Common.{rules, ◌≡◌, ◌∙◌, ◌∷◌, [], false, true, is_ok, Ok, Err, ap, subst, sym}
+use Rattle.reuse_change.specs.Parts.{joined}
+use Rattle.reuse_system.specs.TempFiles.{place_of, IsNewPlace}
+use Rattle.reuse_system.specs.FileStates.{Place, place_in}
 use Rattle.reuse_system.specs.NameChanges.{change_at}
-use Rattle.reuse_system.specs.Names.{IsNameOf}
+use Rattle.reuse_system.specs.Names.{IsNameOf, IsSplit}
 use Rattle.reuse_system.specs.SystemCalls.{changes_of, looked_of}
-use Rattle.reuse_folder.specs.Seen.{IsNewFile}
+use Rattle.reuse_disk.specs.OpenFolders.{current_of, AreOpened}
+use Rattle.reuse_disk.specs.Written.{is_kept, is_named, IsWritten}
 use Rattle.reuse_disk.proofs.EditLemmas.{only_one}
-use Rattle.reuse_folder.proofs.SeenLemmas.{lose_again, lose_named, lose_none, lose_only, lose_then}
+use Rattle.reuse_disk.proofs.WrittenLemmas.{discarded_alike}
+use Rattle.reuse_folder.specs.Rounds.{IsNamed, StandsTempFile}
+use Rattle.reuse_folder.specs.Seen.{IsNewFile}
+use Rattle.reuse_folder.proofs.NamedLemmas.{bytes_temp_file, named_beside, named_here, named_stuck, naming_failed}
+use Rattle.reuse_folder.proofs.NamedLemmas.{written_from}
+use Rattle.reuse_folder.proofs.Noted.{disk_after, disk_with, folders_of, held_of, Honest_of}
+use Rattle.reuse_folder.proofs.PutLemmas.{above_here}
+use Rattle.reuse_folder.proofs.SeenLemmas.{lose_beside, lose_named, lose_none, lose_only, lose_then}
+use Rattle.reuse_folder.proofs.BarrierLemmas.{above_same, guarded_noted, has_later, has_none, has_only, has_then}
 use Rattle.reuse_folder.proofs.folder.RootFolder.name_one.Goals as goal
 
-pub returns-in_err-name_temp_file : goal.returns-in_err-name_temp_file
-returns-in_err-name_temp_file g c reads known =
+pub returns-in_err-name_temp_file-clause-named : goal.returns-in_err-name_temp_file-clause-named
+returns-in_err-name_temp_file-clause-named g c honest count number stands =
+    let new_files = c.args.new_file.now.folder.identity in
+    let is = is_kept c.args.self.now.unsynced.syncs in
+    let first = c.args.self.now.system.noted in
+    let entered = c.enter_seen.new.system.noted in
+    let written = c.name_temp_file.new.system.noted in
     let write = c.args.write.now in
+    let one = c.args.new.now in
+    let path = write.path.now in
+    let above = c.folder_and_name.result.0.now in
     let name = c.folder_and_name.result.1.now in
-    let named : IsNameOf write.path.now name = search rules in
-    let a = changes_of c.args.self.now.system.noted.calls in
-    let b = changes_of c.enter_seen.new.system.noted.calls in
-    let d = changes_of c.name_temp_file.new.system.noted.calls in
-    lose_then reads (write ∷ []) a b d (lose_none reads (write ∷ []) a b c.enter_seen.ensures.changes)
-    (lose_named reads write name c.in_ok-current.field-0.now.identity (place_of c.args.new.now.temp_file)
-    c.args.new.now.seen b d _ _ named known.1 known.0 c.name_temp_file.ensures.guarded)
+    let split : IsSplit path above name = search rules in
+    let named : IsNameOf path name = search rules in
+    let folder = c.in_ok-current.field-0.now.identity in
+    let stood =
+    subst (λ held. StandsTempFile new_files count is held number write one) (sym c.enter_seen.ensures.kept) stands in
+    let here = above_here (folders_of written) (folders_of entered) (held_of written) path above name
+    (current_of c.enter_seen.new.self) folder c.name_temp_file.ensures.still split
+    (c.in_ok-enter_seen.ensures.entered c.args.self.now.opened (c.name_temp_file.ensures.earlier honest))
+    c.in_ok-current.ensures in
+    let was : c.name_temp_file.result ≡ Err c.in_err-name_temp_file.field-0.0 = c.in_err-name_temp_file.was in
+    let failed : is_ok c.from_residual-in_err-name_temp_file.result ≡ false = search rules in
+    rw failed (
+    subst (λ held. IsNamed new_files count is number write one (disk_with first held) (disk_after written) false)
+    c.enter_seen.ensures.kept
+    (naming_failed new_files folder count is number write one name (disk_with first (held_of entered))
+    (disk_after written) stood named here c.in_ok-check.ensures.apart
+    (λ parts is_file.
+    let bytes = joined parts in
+    written_from new_files folder number one (place_in folder name) bytes is (held_of entered)
+    (held_of written) false stood.place
+    (subst (λ done. IsWritten (λ place. place ≡ place_of one.temp_file) (place_in folder name) bytes is
+    (held_of entered) (held_of written) done) (ap is_named was)
+    (c.name_temp_file.ensures.named bytes is
+    (bytes_temp_file new_files count is (held_of entered) number write one parts is_file stood))))))
 
-pub returns-then-branch : goal.returns-then-branch
-returns-then-branch g c reads known =
+pub returns-then-branch-clause-named : goal.returns-then-branch-clause-named
+returns-then-branch-clause-named g c honest count number stands =
+    let new_files = c.args.new_file.now.folder.identity in
+    let is = is_kept c.args.self.now.unsynced.syncs in
+    let first = c.args.self.now.system.noted in
+    let entered = c.enter_seen.new.system.noted in
+    let written = c.name_temp_file.new.system.noted in
     let write = c.args.write.now in
+    let one = c.args.new.now in
+    let path = write.path.now in
+    let above = c.folder_and_name.result.0.now in
     let name = c.folder_and_name.result.1.now in
-    let named : IsNameOf write.path.now name = search rules in
-    let a = changes_of c.args.self.now.system.noted.calls in
-    let b = changes_of c.enter_seen.new.system.noted.calls in
-    let d = changes_of c.name_temp_file.new.system.noted.calls in
-    lose_then reads (write ∷ []) a b d (lose_none reads (write ∷ []) a b c.enter_seen.ensures.changes)
-    (lose_named reads write name c.in_ok-current.field-0.now.identity (place_of c.args.new.now.temp_file)
-    c.args.new.now.seen b d _ _ named known.1 known.0 c.name_temp_file.ensures.guarded)
+    let split : IsSplit path above name = search rules in
+    let named : IsNameOf path name = search rules in
+    let folder = c.in_ok-current.field-0.now.identity in
+    let stood =
+    subst (λ held. StandsTempFile new_files count is held number write one) (sym c.enter_seen.ensures.kept) stands in
+    let here = above_here (folders_of written) (folders_of entered) (held_of written) path above name
+    (current_of c.enter_seen.new.self) folder c.name_temp_file.ensures.still split
+    (c.in_ok-enter_seen.ensures.entered c.args.self.now.opened (c.name_temp_file.ensures.earlier honest))
+    c.in_ok-current.ensures in
+    let was : c.name_temp_file.result ≡ Ok c.in_ok-name_temp_file.field-0 = c.in_ok-name_temp_file.was in
+    let done : is_named c.name_temp_file.result ≡ true = ap is_named was ∙ c.if-branch.true in
+    subst (λ held. IsNamed new_files count is number write one (disk_with first held) (disk_after written) true)
+    c.enter_seen.ensures.kept
+    (named_here new_files folder count is number write one name (disk_with first (held_of entered))
+    (disk_after written) stood named here c.in_ok-check.ensures.apart
+    (λ bytes durable at. subst (λ yes_done. IsWritten (λ place. place ≡ place_of one.temp_file) (place_in folder name)
+    bytes durable (held_of entered) (held_of written) yes_done) done (c.name_temp_file.ensures.named bytes durable at))
+    c.name_temp_file.ensures.moved (λ apart differ. c.name_temp_file.ensures.gone honest apart differ done))
 
-pub returns-in-None : goal.returns-in-None
-returns-in-None g c reads known =
+pub returns-in_err-discard-clause-named : goal.returns-in_err-discard-clause-named
+returns-in_err-discard-clause-named g c honest count number stands =
+    let new_files = c.args.new_file.now.folder.identity in
+    let is = is_kept c.args.self.now.unsynced.syncs in
+    let first = c.args.self.now.system.noted in
+    let entered = c.enter_seen.new.system.noted in
+    let written = c.name_temp_file.new.system.noted in
     let write = c.args.write.now in
+    let one = c.args.new.now in
+    let path = write.path.now in
+    let above = c.folder_and_name.result.0.now in
     let name = c.folder_and_name.result.1.now in
-    let named : IsNameOf write.path.now name = search rules in
-    let from = place_of c.args.new.now.temp_file in
-    let a = changes_of c.args.self.now.system.noted.calls in
-    let b = changes_of c.enter_seen.new.system.noted.calls in
-    let d = changes_of c.name_temp_file.new.system.noted.calls in
-    let e = changes_of c.discard.new.self.noted.calls in
-    lose_then reads (write ∷ []) a b e (lose_none reads (write ∷ []) a b c.enter_seen.ensures.changes)
-    (lose_then reads (write ∷ []) b d e
-    (lose_named reads write name c.in_ok-current.field-0.now.identity from c.args.new.now.seen b d _ _ named known.1
-    known.0 c.name_temp_file.ensures.guarded)
-    (lose_only reads (write ∷ []) d e (only_one IsNewFile d e
-    (change_at (looked_of c.name_temp_file.new.system.noted.calls) from) c.discard.ensures.changes known.0)))
+    let split : IsSplit path above name = search rules in
+    let named : IsNameOf path name = search rules in
+    let folder = c.in_ok-current.field-0.now.identity in
+    let stood =
+    subst (λ held. StandsTempFile new_files count is held number write one) (sym c.enter_seen.ensures.kept) stands in
+    let last = c.discard.new.self.noted in
+    let here = above_here (folders_of last) (folders_of entered) (held_of last) path above name
+    (current_of c.enter_seen.new.self) folder (c.discard.ensures.still ∙ c.name_temp_file.ensures.still) split
+    (c.in_ok-enter_seen.ensures.entered c.args.self.now.opened
+    (c.name_temp_file.ensures.earlier (c.discard.ensures.earlier honest))) c.in_ok-current.ensures in
+    let was : c.name_temp_file.result ≡ Ok c.in_ok-name_temp_file.field-0 = c.in_ok-name_temp_file.was in
+    let not_done : is_named c.name_temp_file.result ≡ false = ap is_named was ∙ c.if-branch.false in
+    let failed : is_ok c.from_residual-in_err-discard.result ≡ false = search rules in
+    rw failed (
+    subst (λ held. IsNamed new_files count is number write one (disk_with first held) (disk_after last) false)
+    c.enter_seen.ensures.kept
+    (named_stuck new_files folder count is number write one name (disk_with first (held_of entered)) (disk_after last)
+    (held_of written) stood named here c.in_ok-check.ensures.apart
+    (λ bytes durable at. subst (λ done. IsWritten (λ place. place ≡ place_of one.temp_file) (place_in folder name) bytes
+    durable (held_of entered) (held_of written) done) not_done (c.name_temp_file.ensures.named bytes durable at))
+    c.name_temp_file.ensures.moved (discarded_alike (place_of one.temp_file) (held_of written)
+    (held_of last) c.discard.result c.discard.ensures.removed)))
 
-pub returns-in-Some : goal.returns-in-Some
-returns-in-Some g c reads known =
+pub returns-clause-named : goal.returns-clause-named
+returns-clause-named g c honest count number stands =
+    let new_files = c.args.new_file.now.folder.identity in
+    let is = is_kept c.args.self.now.unsynced.syncs in
+    let first = c.args.self.now.system.noted in
+    let entered = c.enter_seen.new.system.noted in
+    let written = c.name_temp_file.new.system.noted in
+    let write = c.args.write.now in
+    let one = c.args.new.now in
+    let path = write.path.now in
+    let above = c.folder_and_name.result.0.now in
+    let name = c.folder_and_name.result.1.now in
+    let split : IsSplit path above name = search rules in
+    let named : IsNameOf path name = search rules in
+    let folder = c.in_ok-current.field-0.now.identity in
+    let stood =
+    subst (λ held. StandsTempFile new_files count is held number write one) (sym c.enter_seen.ensures.kept) stands in
+    let discarded = c.discard.new.self.noted in
+    let last = c.write_beside.new.system.noted in
+    let here =
+    above_here (folders_of last) (folders_of entered) (held_of last) path above name (current_of c.enter_seen.new.self)
+    folder (c.write_beside.ensures.still ∙ c.discard.ensures.still ∙ c.name_temp_file.ensures.still) split
+    (c.in_ok-enter_seen.ensures.entered c.args.self.now.opened (c.name_temp_file.ensures.earlier
+    (c.discard.ensures.earlier (c.write_beside.ensures.earlier honest)))) c.in_ok-current.ensures in
+    let was : c.name_temp_file.result ≡ Ok c.in_ok-name_temp_file.field-0 = c.in_ok-name_temp_file.was in
+    let not_done : is_named c.name_temp_file.result ≡ false = ap is_named was ∙ c.if-branch.false in
+    subst (λ held. IsNamed new_files count is number write one (disk_with first held) (disk_after last)
+    (is_ok c.write_beside.result)) c.enter_seen.ensures.kept
+    (named_beside (Honest_of last) new_files folder count is number write one name c.in-Some.parts (disk_with first
+    (held_of entered)) (disk_after last) (held_of written) (held_of discarded) (is_ok c.write_beside.result) honest
+    c.in-Some.is stood named here c.in_ok-check.ensures.apart
+    (λ bytes durable at. subst (λ done. IsWritten (λ place. place ≡ place_of one.temp_file) (place_in folder name) bytes
+    durable (held_of entered) (held_of written) done) not_done (c.name_temp_file.ensures.named bytes durable at))
+    c.name_temp_file.ensures.moved c.in_ok-discard.ensures.removed c.write_beside.ensures.placed)
+
+pub returns-in_err-name_temp_file-clause-keeps_edits : goal.returns-in_err-name_temp_file-clause-keeps_edits
+returns-in_err-name_temp_file-clause-keeps_edits g c reads known =
     let write = c.args.write.now in
     let name = c.folder_and_name.result.1.now in
     let named : IsNameOf write.path.now name = search rules in
     let from = place_of c.args.new.now.temp_file in
     let seen = c.args.new.now.seen in
+    let folder = c.in_ok-current.field-0.now.identity in
     let a = changes_of c.args.self.now.system.noted.calls in
     let b = changes_of c.enter_seen.new.system.noted.calls in
     let d = changes_of c.name_temp_file.new.system.noted.calls in
+    let before = lose_then reads (write ∷ []) a b d (lose_none reads (write ∷ []) a b c.enter_seen.ensures.changes)
+    (lose_named reads write name folder from seen b d _ _ named known.1 known.0 c.name_temp_file.ensures.guarded) in
+    before
+
+pub returns-then-branch-clause-keeps_edits : goal.returns-then-branch-clause-keeps_edits
+returns-then-branch-clause-keeps_edits g c reads known =
+    let write = c.args.write.now in
+    let name = c.folder_and_name.result.1.now in
+    let named : IsNameOf write.path.now name = search rules in
+    let from = place_of c.args.new.now.temp_file in
+    let seen = c.args.new.now.seen in
+    let folder = c.in_ok-current.field-0.now.identity in
+    let a = changes_of c.args.self.now.system.noted.calls in
+    let b = changes_of c.enter_seen.new.system.noted.calls in
+    let d = changes_of c.name_temp_file.new.system.noted.calls in
+    let before = lose_then reads (write ∷ []) a b d (lose_none reads (write ∷ []) a b c.enter_seen.ensures.changes)
+    (lose_named reads write name folder from seen b d _ _ named known.1 known.0 c.name_temp_file.ensures.guarded) in
+    before
+
+pub returns-in_err-discard-clause-keeps_edits : goal.returns-in_err-discard-clause-keeps_edits
+returns-in_err-discard-clause-keeps_edits g c reads known =
+    let write = c.args.write.now in
+    let name = c.folder_and_name.result.1.now in
+    let named : IsNameOf write.path.now name = search rules in
+    let from = place_of c.args.new.now.temp_file in
+    let seen = c.args.new.now.seen in
+    let folder = c.in_ok-current.field-0.now.identity in
+    let a = changes_of c.args.self.now.system.noted.calls in
+    let b = changes_of c.enter_seen.new.system.noted.calls in
+    let d = changes_of c.name_temp_file.new.system.noted.calls in
+    let before = lose_then reads (write ∷ []) a b d (lose_none reads (write ∷ []) a b c.enter_seen.ensures.changes)
+    (lose_named reads write name folder from seen b d _ _ named known.1 known.0 c.name_temp_file.ensures.guarded) in
     let e = changes_of c.discard.new.self.noted.calls in
-    let f = changes_of c.put_expected.new.self.system.noted.calls in
-    lose_then reads (write ∷ []) a b f (lose_none reads (write ∷ []) a b c.enter_seen.ensures.changes)
-    (lose_then reads (write ∷ []) b d f (lose_named reads write name c.in_ok-current.field-0.now.identity from seen b d
-    _ _ named known.1 known.0 c.name_temp_file.ensures.guarded)
-    (lose_then reads (write ∷ []) d e f (lose_only reads (write ∷ []) d e (only_one IsNewFile d e
-    (change_at (looked_of c.name_temp_file.new.system.noted.calls) from) c.discard.ensures.changes known.0))
-    (lose_again reads write seen e f _ _ known.1 (rw c.of-expected.ensures at c.put_expected.ensures.keeps_edits))))
+    let gone = lose_only reads (write ∷ []) d e (only_one IsNewFile d e
+    (change_at (looked_of c.name_temp_file.new.system.noted.calls) from) c.discard.ensures.changes known.0) in
+    lose_then reads (write ∷ []) a d e before gone
+
+pub returns-in_default-clause-keeps_edits : goal.returns-in_default-clause-keeps_edits
+returns-in_default-clause-keeps_edits g c reads known =
+    let write = c.args.write.now in
+    let name = c.folder_and_name.result.1.now in
+    let named : IsNameOf write.path.now name = search rules in
+    let from = place_of c.args.new.now.temp_file in
+    let seen = c.args.new.now.seen in
+    let folder = c.in_ok-current.field-0.now.identity in
+    let a = changes_of c.args.self.now.system.noted.calls in
+    let b = changes_of c.enter_seen.new.system.noted.calls in
+    let d = changes_of c.name_temp_file.new.system.noted.calls in
+    let before = lose_then reads (write ∷ []) a b d (lose_none reads (write ∷ []) a b c.enter_seen.ensures.changes)
+    (lose_named reads write name folder from seen b d _ _ named known.1 known.0 c.name_temp_file.ensures.guarded) in
+    let e = changes_of c.discard.new.self.noted.calls in
+    let gone = lose_only reads (write ∷ []) d e (only_one IsNewFile d e
+    (change_at (looked_of c.name_temp_file.new.system.noted.calls) from) c.discard.ensures.changes known.0) in
+    lose_then reads (write ∷ []) a d e before gone
+
+pub returns-clause-keeps_edits : goal.returns-clause-keeps_edits
+returns-clause-keeps_edits g c reads known =
+    let write = c.args.write.now in
+    let name = c.folder_and_name.result.1.now in
+    let named : IsNameOf write.path.now name = search rules in
+    let from = place_of c.args.new.now.temp_file in
+    let seen = c.args.new.now.seen in
+    let folder = c.in_ok-current.field-0.now.identity in
+    let a = changes_of c.args.self.now.system.noted.calls in
+    let b = changes_of c.enter_seen.new.system.noted.calls in
+    let d = changes_of c.name_temp_file.new.system.noted.calls in
+    let before = lose_then reads (write ∷ []) a b d (lose_none reads (write ∷ []) a b c.enter_seen.ensures.changes)
+    (lose_named reads write name folder from seen b d _ _ named known.1 known.0 c.name_temp_file.ensures.guarded) in
+    let e = changes_of c.discard.new.self.noted.calls in
+    let gone = lose_only reads (write ∷ []) d e (only_one IsNewFile d e
+    (change_at (looked_of c.name_temp_file.new.system.noted.calls) from) c.discard.ensures.changes known.0) in
+    let f = changes_of c.write_beside.new.system.noted.calls in
+    lose_then reads (write ∷ []) a e f (lose_then reads (write ∷ []) a d e before gone)
+    (lose_beside reads write c.args.new_file.now.folder.identity folder name seen e f _ _ named known.1
+    c.write_beside.ensures.guarded)
+
+pub invariant_of-self-in-Break-branch-5 : goal.invariant_of-self-in-Break-branch-5
+invariant_of-self-in-Break-branch-5 g c =
+    let was = c.enter_seen.ensures.opened c.args.self.now.opened in
+    record {
+      opened = λ honest. subst (λ folders. AreOpened folders c.enter_seen.new.self)
+          (sym (c.discard.ensures.still ∙ c.name_temp_file.ensures.still))
+          (was (c.name_temp_file.ensures.earlier (c.discard.ensures.earlier honest)));
+    }
+
+pub invariant_of-self-2 : goal.invariant_of-self-2
+invariant_of-self-2 g c =
+    let was = c.enter_seen.ensures.opened c.args.self.now.opened in
+    record {
+      opened = λ honest. subst (λ folders. AreOpened folders c.enter_seen.new.self)
+          (sym (c.write_beside.ensures.still ∙ c.discard.ensures.still ∙ c.name_temp_file.ensures.still))
+          (was (c.name_temp_file.ensures.earlier (c.discard.ensures.earlier (c.write_beside.ensures.earlier honest))));
+    }
+
+pub returns-in_err-name_temp_file-clause-noted : goal.returns-in_err-name_temp_file-clause-noted
+returns-in_err-name_temp_file-clause-noted g c new above =
+    let write = c.args.write.now in
+    let path = write.path.now in
+    let name = c.folder_and_name.result.1.now in
+    let named : IsNameOf path name = search rules in
+    let from = place_of c.args.new.now.temp_file in
+    let folder = c.in_ok-current.field-0.now.identity in
+    let a = changes_of c.args.self.now.system.noted.calls in
+    let b = changes_of c.enter_seen.new.system.noted.calls in
+    let d = changes_of c.name_temp_file.new.system.noted.calls in
+    let unsynced = c.args.self.now.unsynced in
+    let same : (place : Place) → place ≡ from → IsNewFile place = λ place is. subst IsNewFile (sym is) new in
+    let before = has_then unsynced path a b d (has_none unsynced path a b c.enter_seen.ensures.changes)
+    (guarded_noted unsynced path name folder (λ place. place ≡ from) c.args.new.now.seen b d _ _ above named same
+    c.name_temp_file.ensures.guarded) in
+    before
+
+pub returns-then-branch-clause-noted : goal.returns-then-branch-clause-noted
+returns-then-branch-clause-noted g c new above =
+    let write = c.args.write.now in
+    let path = write.path.now in
+    let name = c.folder_and_name.result.1.now in
+    let named : IsNameOf path name = search rules in
+    let from = place_of c.args.new.now.temp_file in
+    let folder = c.in_ok-current.field-0.now.identity in
+    let a = changes_of c.args.self.now.system.noted.calls in
+    let b = changes_of c.enter_seen.new.system.noted.calls in
+    let d = changes_of c.name_temp_file.new.system.noted.calls in
+    let unsynced = c.args.self.now.unsynced in
+    let same : (place : Place) → place ≡ from → IsNewFile place = λ place is. subst IsNewFile (sym is) new in
+    let before = has_then unsynced path a b d (has_none unsynced path a b c.enter_seen.ensures.changes)
+    (guarded_noted unsynced path name folder (λ place. place ≡ from) c.args.new.now.seen b d _ _ above named same
+    c.name_temp_file.ensures.guarded) in
+    before
+
+pub returns-in_err-discard-clause-noted : goal.returns-in_err-discard-clause-noted
+returns-in_err-discard-clause-noted g c new above =
+    let write = c.args.write.now in
+    let path = write.path.now in
+    let name = c.folder_and_name.result.1.now in
+    let named : IsNameOf path name = search rules in
+    let from = place_of c.args.new.now.temp_file in
+    let folder = c.in_ok-current.field-0.now.identity in
+    let a = changes_of c.args.self.now.system.noted.calls in
+    let b = changes_of c.enter_seen.new.system.noted.calls in
+    let d = changes_of c.name_temp_file.new.system.noted.calls in
+    let unsynced = c.args.self.now.unsynced in
+    let same : (place : Place) → place ≡ from → IsNewFile place = λ place is. subst IsNewFile (sym is) new in
+    let before = has_then unsynced path a b d (has_none unsynced path a b c.enter_seen.ensures.changes)
+    (guarded_noted unsynced path name folder (λ place. place ≡ from) c.args.new.now.seen b d _ _ above named same
+    c.name_temp_file.ensures.guarded) in
+    let e = changes_of c.discard.new.self.noted.calls in
+    let gone = has_only unsynced path d e (only_one IsNewFile d e
+    (change_at (looked_of c.name_temp_file.new.system.noted.calls) from) c.discard.ensures.changes new) in
+    has_then unsynced path a d e before gone
+
+pub returns-in_default-clause-noted : goal.returns-in_default-clause-noted
+returns-in_default-clause-noted g c new above =
+    let write = c.args.write.now in
+    let path = write.path.now in
+    let name = c.folder_and_name.result.1.now in
+    let named : IsNameOf path name = search rules in
+    let from = place_of c.args.new.now.temp_file in
+    let folder = c.in_ok-current.field-0.now.identity in
+    let a = changes_of c.args.self.now.system.noted.calls in
+    let b = changes_of c.enter_seen.new.system.noted.calls in
+    let d = changes_of c.name_temp_file.new.system.noted.calls in
+    let unsynced = c.args.self.now.unsynced in
+    let same : (place : Place) → place ≡ from → IsNewFile place = λ place is. subst IsNewFile (sym is) new in
+    let before = has_then unsynced path a b d (has_none unsynced path a b c.enter_seen.ensures.changes)
+    (guarded_noted unsynced path name folder (λ place. place ≡ from) c.args.new.now.seen b d _ _ above named same
+    c.name_temp_file.ensures.guarded) in
+    let e = changes_of c.discard.new.self.noted.calls in
+    let gone = has_only unsynced path d e (only_one IsNewFile d e
+    (change_at (looked_of c.name_temp_file.new.system.noted.calls) from) c.discard.ensures.changes new) in
+    has_then unsynced path a d e before gone
+
+pub returns-clause-noted : goal.returns-clause-noted
+returns-clause-noted g c new above =
+    let write = c.args.write.now in
+    let path = write.path.now in
+    let name = c.folder_and_name.result.1.now in
+    let named : IsNameOf path name = search rules in
+    let from = place_of c.args.new.now.temp_file in
+    let folder = c.in_ok-current.field-0.now.identity in
+    let a = changes_of c.args.self.now.system.noted.calls in
+    let b = changes_of c.enter_seen.new.system.noted.calls in
+    let d = changes_of c.name_temp_file.new.system.noted.calls in
+    let unsynced = c.args.self.now.unsynced in
+    let same : (place : Place) → place ≡ from → IsNewFile place = λ place is. subst IsNewFile (sym is) new in
+    let before = has_then unsynced path a b d (has_none unsynced path a b c.enter_seen.ensures.changes)
+    (guarded_noted unsynced path name folder (λ place. place ≡ from) c.args.new.now.seen b d _ _ above named same
+    c.name_temp_file.ensures.guarded) in
+    let e = changes_of c.discard.new.self.noted.calls in
+    let gone = has_only unsynced path d e (only_one IsNewFile d e
+    (change_at (looked_of c.name_temp_file.new.system.noted.calls) from) c.discard.ensures.changes new) in
+    let f = changes_of c.write_beside.new.system.noted.calls in
+    let last = c.write_beside.new.unsynced in
+    let later = above_same unsynced last path c.write_beside.ensures.folders above in
+    let beside = guarded_noted last path name folder (IsNewPlace c.args.new_file.now.folder.identity folder)
+    c.args.new.now.seen e f _ _ later named (λ place is. (c.args.new_file.now.folder.identity, folder, is))
+    c.write_beside.ensures.guarded in
+    has_then last path a e f
+    (has_later unsynced last path a e c.write_beside.ensures.folders (has_then unsynced path a d e before gone)) beside

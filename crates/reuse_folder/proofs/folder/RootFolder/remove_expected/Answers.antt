@@ -1,12 +1,19 @@
-use Rattle.std.proofs.Common.{rules, inl, refl, ◌≡◌, subst, sym, Some}
+use Rattle.std.proofs.Common.{rules, inl, refl, ap, subst, sym, Some, ◌∙◌}
 use Rattle.reuse_folder.specs.FolderReads.{LiesIn}
 use Rattle.reuse_disk.specs.OpenFolders.{current_of}
 use Rattle.reuse_folder.specs.FolderWrites.{IsGone, IsRemovedIn}
 use Rattle.reuse_system.specs.Names.{IsNameOf}
-use Rattle.reuse_system.specs.SystemCalls.{changes_of, folders_after, held_after}
+use Rattle.reuse_system.specs.SystemCalls.{folders_after, held_after}
 use Rattle.reuse_folder.proofs.FolderLemmas.{nothing_removed, removed_at}
 use Rattle.reuse_folder.proofs.ReadLemmas.{always, gone_if, gone_reported, no_file_of, removed_in}
 use Rattle.reuse_folder.proofs.SeenLemmas.{loses_none, loses_removed}
+use Rattle.reuse_system.specs.FileStates.{place_in}
+use Rattle.reuse_disk.specs.Written.{LeavesNone}
+use Rattle.reuse_folder.proofs.Noted.{held_of}
+use Rattle.reuse_folder.proofs.PutLemmas.{none_by_removal}
+use Rattle.reuse_system.specs.Names.{IsSplit}
+use Rattle.reuse_disk.specs.Noted.{IsNoted}
+use Rattle.reuse_folder.proofs.BarrierLemmas.{above_of, has_none, has_noted}
 use Rattle.reuse_folder.proofs.folder.RootFolder.remove_expected.Goals as goal
 
 pub returns-in_err-status-clause-removed : goal.returns-in_err-status-clause-removed
@@ -105,6 +112,32 @@ returns-in_default g c =
       place = λ honest. rw c.look_unless_seen.ensures.kept (inl (λ at. refl));
       gone = λ honest. always c.nothing.result (IsGone folders held path)
           (gone_reported folders held path current place free (c.in_ok-status.ensures.apart honest free));
+      none_left = always c.nothing.result (LeavesNone (λ at. Unit {0}) (held_of c.args.self.now.system.noted) held)
+          (λ at any. inl (ap (λ f. f at) c.look_unless_seen.ensures.kept));
+      earlier = c.look_unless_seen.ensures.earlier;
+      syncs = ap (λ unsynced. unsynced.syncs) c.look_unless_seen.ensures.unsynced;
+      stay_noted = λ folder noted. subst (λ unsynced. IsNoted unsynced folder) (sym c.look_unless_seen.ensures.unsynced) noted;
+      noted = λ kept. has_none _ path _ _ c.look_unless_seen.ensures.changes;
+      new_file = c.look_unless_seen.ensures.new_file;
       keeps_edits =
           loses_none path c.args.expected _ _ _ _ c.look_unless_seen.ensures.changes c.look_unless_seen.ensures.kept;
     }
+
+pub returns-in_ok-current-in-File-clause-none_left : goal.returns-in_ok-current-in-File-clause-none_left
+returns-in_ok-current-in-File-clause-none_left g c =
+    let name = c.folder_and_name.result.1.now in
+    rw (← c.look_unless_seen.ensures.kept)
+    (none_by_removal (place_in c.in_ok-current-in-File.field-0.now.identity name)
+    (held_of c.look_unless_seen.new.self.system.noted)
+    (held_of c.remove_seen.new.system.noted) c.remove_seen.result c.remove_seen.ensures.removed)
+
+pub returns-in_ok-current-in-File-clause-noted : goal.returns-in_ok-current-in-File-clause-noted
+returns-in_ok-current-in-File-clause-noted g c kept =
+    let path = c.args.path.now in
+    let above = c.folder_and_name.result.0.now in
+    let name = c.folder_and_name.result.1.now in
+    let split : IsSplit path above name = search rules in
+    let noted =
+    c.in_ok-note-in-File.ensures.noted (ap (λ unsynced. unsynced.syncs) c.look_unless_seen.ensures.unsynced ∙ kept) in
+    has_noted _ path c.args.expected _ _ _ _ (above_of _ path above name split noted)
+    (returns-in_ok-current-in-File-clause-keeps_edits g c)

@@ -1,54 +1,110 @@
-use Rattle.std.proofs.Common.{rules, ◌≡◌, false, is_ok, refl, subst, sym}
+use Rattle.std.proofs.Common.{rules, ◌≡◌, false, true, is_ok, refl, subst, sym}
 use Rattle.reuse_change.specs.Parts.{joined}
 use Rattle.reuse_system.specs.TempFiles.{IsNewIn, IsNewPlace}
 use Rattle.reuse_system.specs.FileStates.{place_in}
 use Rattle.reuse_disk.specs.OpenFolders.{current_of, AreOpened}
 use Rattle.reuse_system.specs.NameChanges.{OnlyChanges}
 use Rattle.reuse_system.specs.Names.{IsNameOf, IsSplit}
-use Rattle.reuse_system.specs.SystemCalls.{changes_of, folders_after, held_after}
+use Rattle.reuse_system.specs.SystemCalls.{changes_of, held_after}
 use Rattle.reuse_system.specs.SystemLaws.{IsAlikeUnless}
-use Rattle.reuse_disk.specs.Written.{IsWritten, is_kept}
-use Rattle.reuse_folder.proofs.FolderLemmas.{nothing_put, cleared_alone, put_at}
-use Rattle.reuse_folder.proofs.PutLemmas.{nothing_put_in, not_put_in, put_in}
+use Rattle.reuse_disk.specs.Written.{IsWritten, LeavesNone, is_kept}
+use Rattle.reuse_folder.proofs.Noted.{folders_of, held_of}
+use Rattle.reuse_folder.proofs.PutLemmas.{not_put_by, not_put_in, nothing_put_by, nothing_put_in, of_ok, put_by, put_in}
+use Rattle.reuse_folder.proofs.ReadLemmas.{named_of}
 use Rattle.reuse_folder.proofs.SeenLemmas.{loses_none, loses_only, loses_put}
+use Rattle.std.specs.BTreeSet.{contains_text}
+use Rattle.reuse_disk.specs.Noted.{IsNoted}
+use Rattle.reuse_folder.specs.declared.folder.seen.Expected.TheVariants as expected
+use Rattle.reuse_folder.proofs.BarrierLemmas.{above_of, has_noted, has_only, new_only}
 use Rattle.reuse_folder.proofs.folder.RootFolder.write.Goals as goal
 
 pub returns-in_err-note-clause-written : goal.returns-in_err-note-clause-written
-returns-in_err-note-clause-written g c = let failed : is_ok c.from_residual.result ≡ false = search rules in
-    rw failed (nothing_put _ _ _ _)
+returns-in_err-note-clause-written g c =
+    let failed : is_ok c.from_residual.result ≡ false = search rules in
+    nothing_put_by c.args.path.now (joined c.args.parts) (is_kept c.args.self.now.unsynced.syncs)
+    (held_of c.args.self.now.system.noted) (is_ok c.from_residual.result) failed
+
+pub returns-in_err-note-clause-place : goal.returns-in_err-note-clause-place
+returns-in_err-note-clause-place g c honest =
+    let failed : is_ok c.from_residual.result ≡ false = search rules in
+    nothing_put_in (folders_of c.args.self.now.system.noted) c.args.path.now (joined c.args.parts)
+    (is_kept c.args.self.now.unsynced.syncs) (held_of c.args.self.now.system.noted)
+    (is_ok c.from_residual.result) failed
 
 pub returns-in_err-new_file-clause-written : goal.returns-in_err-new_file-clause-written
 returns-in_err-new_file-clause-written g c =
     let failed : is_ok c.from_residual-in_err-new_file.result ≡ false = search rules in
-    let name = c.folder_and_name.result.1.now in
-    let named : IsNameOf c.args.path.now name = search rules in
     let cleared = c.take_new_file.ensures.cleared in
-    rw failed (cleared_alone c.args.path.now name cleared.folder _ _ _ _ named cleared.others)
+    not_put_by cleared.folder c.args.path.now (joined c.args.parts) (is_kept c.args.self.now.unsynced.syncs)
+    (held_of c.args.self.now.system.noted) (held_of c.take_new_file.new.self.system.noted)
+    (is_ok c.from_residual-in_err-new_file.result) failed cleared.others
+
+pub returns-in_err-new_file-clause-place : goal.returns-in_err-new_file-clause-place
+returns-in_err-new_file-clause-place g c honest =
+    let failed : is_ok c.from_residual-in_err-new_file.result ≡ false = search rules in
+    let cleared = c.take_new_file.ensures.cleared in
+    not_put_in (folders_of c.take_new_file.new.self.system.noted) c.args.path.now (joined c.args.parts)
+    (is_kept c.args.self.now.unsynced.syncs) (held_of c.args.self.now.system.noted)
+    (held_of c.take_new_file.new.self.system.noted)
+    (is_ok c.from_residual-in_err-new_file.result) cleared.folder failed cleared.others
+
+pub returns-in_err-enter_seen-clause-written : goal.returns-in_err-enter_seen-clause-written
+returns-in_err-enter_seen-clause-written g c =
+    let failed : is_ok c.from_residual-in_err-enter_seen.result ≡ false = search rules in
+    let cleared = c.take_new_file.ensures.cleared in
+    not_put_by cleared.folder c.args.path.now (joined c.args.parts) (is_kept c.args.self.now.unsynced.syncs)
+    (held_of c.args.self.now.system.noted) (held_of c.enter_seen.new.system.noted)
+    (is_ok c.from_residual-in_err-enter_seen.result) failed (rw c.enter_seen.ensures.kept cleared.others)
+
+pub returns-in_err-enter_seen-clause-place : goal.returns-in_err-enter_seen-clause-place
+returns-in_err-enter_seen-clause-place g c honest =
+    let failed : is_ok c.from_residual-in_err-enter_seen.result ≡ false = search rules in
+    let cleared = c.take_new_file.ensures.cleared in
+    not_put_in (folders_of c.enter_seen.new.system.noted) c.args.path.now (joined c.args.parts)
+    (is_kept c.args.self.now.unsynced.syncs) (held_of c.args.self.now.system.noted)
+    (held_of c.enter_seen.new.system.noted) (is_ok c.from_residual-in_err-enter_seen.result) cleared.folder failed
+    (rw c.enter_seen.ensures.kept cleared.others)
+
+pub returns-in_err-current-clause-written : goal.returns-in_err-current-clause-written
+returns-in_err-current-clause-written g c =
+    let failed : is_ok c.from_residual-in_err-current.result ≡ false = search rules in
+    let cleared = c.take_new_file.ensures.cleared in
+    not_put_by cleared.folder c.args.path.now (joined c.args.parts) (is_kept c.args.self.now.unsynced.syncs)
+    (held_of c.args.self.now.system.noted) (held_of c.enter_seen.new.system.noted)
+    (is_ok c.from_residual-in_err-current.result) failed (rw c.enter_seen.ensures.kept cleared.others)
+
+pub returns-in_err-current-clause-place : goal.returns-in_err-current-clause-place
+returns-in_err-current-clause-place g c honest =
+    let failed : is_ok c.from_residual-in_err-current.result ≡ false = search rules in
+    let cleared = c.take_new_file.ensures.cleared in
+    not_put_in (folders_of c.enter_seen.new.system.noted) c.args.path.now (joined c.args.parts)
+    (is_kept c.args.self.now.unsynced.syncs) (held_of c.args.self.now.system.noted)
+    (held_of c.enter_seen.new.system.noted) (is_ok c.from_residual-in_err-current.result) cleared.folder failed
+    (rw c.enter_seen.ensures.kept cleared.others)
 
 pub returns-clause-written : goal.returns-clause-written
 returns-clause-written g c =
     let path = c.args.path.now in
+    let above = c.folder_and_name.result.0.now in
     let name = c.folder_and_name.result.1.now in
-    let named : IsNameOf path name = search rules in
+    let split : IsSplit path above name = search rules in
     let bytes = joined c.args.parts in
     let is = is_kept c.args.self.now.unsynced.syncs in
     let is_done = is_ok c.write-written.result in
     let folder = c.in_ok-current.field-0.now.identity in
     let new_files = c.in_ok-new_file.new_file.folder.identity in
-    let first = c.args.self.now.system.noted in
-    let between = c.take_new_file.new.self.system.noted in
-    let second = c.enter_seen.new.system.noted in
-    let third = c.write-written.new.system.noted in
-    let a = held_after first.files first.effects first.calls in
-    let b = held_after second.files second.effects second.calls in
-    let d = held_after third.files third.effects third.calls in
+    let a = held_of c.args.self.now.system.noted in
+    let b = held_of c.enter_seen.new.system.noted in
+    let d = held_of c.write-written.new.system.noted in
     let cleared = c.in_ok-new_file.ensures.cleared in
-    let cleared_alike : IsAlikeUnless (IsNewIn new_files) a (held_after between.files between.effects between.calls) =
+    let cleared_alike : IsAlikeUnless (IsNewIn new_files) a (held_of c.take_new_file.new.self.system.noted) =
     rw cleared.is_folder cleared.others in
     let alike : IsAlikeUnless (IsNewIn new_files) a b = rw c.enter_seen.ensures.kept cleared_alike in
-    let written : IsWritten (IsNewPlace new_files folder) (place_in folder name) bytes is b d is_done = search rules in
-    let put = put_at path name new_files folder bytes is a b d is_done named alike written in
-    search rules
+    let syncs : c.take_new_file.new.self.unsynced.syncs ≡ c.args.self.now.unsynced.syncs = search rules in
+    let written : IsWritten (IsNewPlace new_files folder) (place_in folder name) bytes is b d is_done =
+    rw syncs at c.write-written.ensures.written in
+    rw c.note_written.ensures.system (put_by new_files folder path name bytes is a b d is_done
+    (named_of path above name split) alike c.write-written.ensures.apart written)
 
 pub returns-clause-place : goal.returns-clause-place
 returns-clause-place g c honest =
@@ -61,43 +117,29 @@ returns-clause-place g c honest =
     let is_done = is_ok c.write-written.result in
     let folder = c.in_ok-current.field-0.now.identity in
     let new_files = c.in_ok-new_file.new_file.folder.identity in
-    let first = c.args.self.now.system.noted in
-    let between = c.take_new_file.new.self.system.noted in
-    let second = c.enter_seen.new.system.noted in
-    let third = c.write-written.new.system.noted in
-    let a = held_after first.files first.effects first.calls in
-    let b = held_after second.files second.effects second.calls in
-    let d = held_after third.files third.effects third.calls in
+    let a = held_of c.args.self.now.system.noted in
+    let b = held_of c.enter_seen.new.system.noted in
+    let d = held_of c.write-written.new.system.noted in
     let cleared = c.in_ok-new_file.ensures.cleared in
-    let cleared_alike : IsAlikeUnless (IsNewIn new_files) a (held_after between.files between.effects between.calls) =
+    let cleared_alike : IsAlikeUnless (IsNewIn new_files) a (held_of c.take_new_file.new.self.system.noted) =
     rw cleared.is_folder cleared.others in
     let alike : IsAlikeUnless (IsNewIn new_files) a b = rw c.enter_seen.ensures.kept cleared_alike in
-    let written : IsWritten (IsNewPlace new_files folder) (place_in folder name) bytes is b d is_done = search rules in
-    let entered = c.in_ok-enter_seen.ensures.entered c.take_new_file.new.self.opened
-    (c.write-written.ensures.earlier (rw c.note_written.ensures at honest)) in
-    rw c.note_written.ensures (put_in (folders_after third.folders third.effects third.calls)
-    (folders_after second.folders second.effects second.calls) path above name
+    let syncs : c.take_new_file.new.self.unsynced.syncs ≡ c.args.self.now.unsynced.syncs = search rules in
+    let written : IsWritten (IsNewPlace new_files folder) (place_in folder name) bytes is b d is_done =
+    rw syncs at c.write-written.ensures.written in
+    let late = rw c.note_written.ensures.system at honest in
+    let entered =
+    c.in_ok-enter_seen.ensures.entered c.take_new_file.new.self.opened (c.write-written.ensures.earlier late) in
+    let none : LeavesNone (IsNewIn new_files) a (held_of c.take_new_file.new.self.system.noted) =
+    rw cleared.is_folder cleared.none_left in
+    let none_left : LeavesNone (IsNewIn new_files) a b = rw c.enter_seen.ensures.kept none in
+    rw c.note_written.ensures.system
+    (put_in (folders_of c.write-written.new.system.noted) (folders_of c.enter_seen.new.system.noted) path above name
     (current_of c.enter_seen.new.self) new_files folder bytes is a b d is_done
-    c.write-written.ensures.still split entered c.in_ok-current.ensures alike written)
-
-pub returns-in_err-note-clause-place : goal.returns-in_err-note-clause-place
-returns-in_err-note-clause-place g c honest =
-    let noted = c.args.self.now.system.noted in
-    let failed : is_ok c.from_residual.result ≡ false = search rules in
-    nothing_put_in (folders_after noted.folders noted.effects noted.calls) c.args.path.now (joined c.args.parts)
-    (is_kept c.args.self.now.unsynced.syncs) (held_after noted.files noted.effects noted.calls)
-    (is_ok c.from_residual.result) failed
-
-pub returns-in_err-new_file-clause-place : goal.returns-in_err-new_file-clause-place
-returns-in_err-new_file-clause-place g c honest =
-    let first = c.args.self.now.system.noted in
-    let second = c.take_new_file.new.self.system.noted in
-    let result = c.from_residual-in_err-new_file.result in
-    let failed : is_ok result ≡ false = search rules in
-    let cleared = c.take_new_file.ensures.cleared in
-    not_put_in (folders_after second.folders second.effects second.calls) c.args.path.now (joined c.args.parts)
-    (is_kept c.args.self.now.unsynced.syncs) (held_after first.files first.effects first.calls)
-    (held_after second.files second.effects second.calls) (is_ok result) cleared.folder failed cleared.others
+    c.write-written.ensures.still split entered c.in_ok-current.ensures alike none_left
+    c.write-written.ensures.apart written
+    (of_ok c.write-written.result (LeavesNone (IsNewPlace new_files folder) b d)
+    (c.write-written.ensures.none_left late)))
 
 pub invariant_of-self-2 : goal.invariant_of-self-2
 invariant_of-self-2 g c =
@@ -149,5 +191,36 @@ returns-clause-keeps_edits g c expected seen =
     rw cleared.is_folder cleared.changed in
     let only : OnlyChanges (IsNewIn new_files) (changes_of first.calls) (changes_of second.calls) =
     rw c.enter_seen.ensures.changes cleared_only in
-    rw c.note_written.ensures (loses_put path name expected c.args.found new_files folder (changes_of first.calls)
+    rw c.note_written.ensures.system (loses_put path name expected c.args.found new_files folder (changes_of first.calls)
     (changes_of second.calls) (changes_of third.calls) a b d named seen only alike c.write-written.ensures.guarded)
+
+pub returns-in_err-new_file-clause-noted : goal.returns-in_err-new_file-clause-noted
+returns-in_err-new_file-clause-noted g c kept =
+    let cleared = c.take_new_file.ensures.cleared in
+    has_only _ c.args.path.now _ _ (new_only cleared.folder _ _ cleared.changed)
+
+pub returns-in_err-enter_seen-clause-noted : goal.returns-in_err-enter_seen-clause-noted
+returns-in_err-enter_seen-clause-noted g c kept =
+    let cleared = c.take_new_file.ensures.cleared in
+    has_only _ c.args.path.now _ _
+    (rw c.enter_seen.ensures.changes (new_only cleared.folder _ _ cleared.changed))
+
+pub returns-in_err-current-clause-noted : goal.returns-in_err-current-clause-noted
+returns-in_err-current-clause-noted g c kept =
+    let cleared = c.take_new_file.ensures.cleared in
+    has_only _ c.args.path.now _ _
+    (rw c.enter_seen.ensures.changes (new_only cleared.folder _ _ cleared.changed))
+
+pub returns-clause-noted : goal.returns-clause-noted
+returns-clause-noted g c kept =
+    let path = c.args.path.now in
+    let above = c.folder_and_name.result.0.now in
+    let name = c.folder_and_name.result.1.now in
+    let split : IsSplit path above name = search rules in
+    let first = c.in_ok-note.ensures.noted kept in
+    let second = c.take_new_file.ensures.stay_noted above first in
+    let last : IsNoted c.write-written.new.unsynced above =
+    subst (λ folders. contains_text folders above ≡ true) (sym c.write-written.ensures.folders) second in
+    let loses = returns-clause-keeps_edits g c expected.Found tt in
+    rw c.note_written.ensures.unsynced
+    (has_noted _ path expected.Found _ _ _ _ (above_of _ path above name split last) loses)

@@ -1,15 +1,34 @@
-use Rattle.std.proofs.Common.{◌≡◌, length, ◌-◌, ◌≤◌}
+use Rattle.std.proofs.Common.{◌≡◌, length, ◌-◌, ◌≤◌, true, take}
 use Rattle.reuse_system.specs.SystemCalls.{changes_of}
+use Rattle.reuse_system.specs.declared.place.Identity.{Identity}
+use Rattle.reuse_disk.specs.Written.{is_kept}
+use Rattle.reuse_folder.specs.Batches.{DisksAfter}
+use Rattle.reuse_system.specs.declared.syncs.Syncs.TheVariants.{Kept}
+use Rattle.reuse_folder.specs.Barriers.{HaveNoted}
+use Rattle.reuse_folder.specs.FolderWrites.{IsFolderOf, IsTidy}
 use Rattle.reuse_folder.specs.Seen.{LoseNoEdits}
+use Rattle.reuse_folder.proofs.Noted.{disk_after, held_of, Honest_of}
 use Rattle.reuse_folder.proofs.folder.RootFolder.write_all.Given as goal
 
--- the writes so far are some of them, and no edit was lost by them
+-- the writes so far are some of them, each made as a single one is, no edit was lost by them, and their
+-- folders are noted
 abbrev pub invariant-loop-made : goal.invariant-loop-made
 invariant-loop-made g l =
-    (l.made ≤ length l.writes)
-    × (l.seen.reads ≡ l.fn.self.reads)
-    × LoseNoEdits l.fn.self.reads.items l.writes (changes_of l.fn.self.system.noted.calls)
-    (changes_of l.self.system.noted.calls)
+    let first = l.fn.self.system.noted in
+    let now = l.self.system.noted in
+    record {
+      few : l.made ≤ length l.writes;
+      reads : l.seen.reads ≡ l.fn.self.reads;
+      syncs : l.self.unsynced.syncs ≡ l.fn.self.unsynced.syncs;
+      earlier : Honest_of now → Honest_of first;
+      made : Honest_of now → (new_files : Identity) → IsFolderOf l.self.new_file new_files
+          → IsFolderOf l.fn.self.new_file new_files × DisksAfter new_files (is_kept l.fn.self.unsynced.syncs)
+          (take l.made l.writes) (disk_after first) (disk_after now)
+          × IsTidy new_files (held_of first) (held_of now) true;
+      noted : l.fn.self.unsynced.syncs ≡ Kept
+          → HaveNoted l.self.unsynced l.writes (changes_of first.calls) (changes_of now.calls);
+      keeps_edits : LoseNoEdits l.fn.self.reads.items l.writes (changes_of first.calls) (changes_of now.calls);
+    }
 
 abbrev pub decreases-loop-made : goal.decreases-loop-made
 decreases-loop-made g l = length l.writes - l.made

@@ -1,76 +1,76 @@
-use Rattle.std.proofs.Common.{rules, ◌≡◌, ◌∙◌, ◌∷◌, ◌++◌, ◌+◌, [], length, refl, sym, ap, subst}
-use Rattle.std.proofs.lemmas.List.{length_push}
-use Rattle.reuse_system.specs.NameChanges.{OnlyChanges}
-use Rattle.reuse_system.specs.SystemCalls.{changes_of}
-use Rattle.reuse_folder.specs.Seen.{AreKnown, IsNewFile, IsKnownTempFile}
-use Rattle.reuse_disk.proofs.EditLemmas.{only_none, only_then}
-use Rattle.reuse_folder.proofs.SeenLemmas.{temp_file_more}
+use Rattle.std.proofs.Common.{◌<◌, length, subst, sym}
+use Rattle.std.specs.List.{All}
+use Rattle.reuse_system.specs.TempFiles.{place_of, IsNewIn}
+use Rattle.reuse_system.specs.SystemLaws.{IsAlikeUnless}
+use Rattle.reuse_system.specs.declared.handle.OpenFolder.{OpenFolder}
+use Rattle.reuse_disk.specs.Written.{LeavesNone}
+use Rattle.reuse_disk.proofs.EditLemmas.{only_then}
+use Rattle.reuse_folder.specs.FolderWrites.{IsFolderOf}
+use Rattle.reuse_folder.specs.Rounds.{AreBegun}
+use Rattle.reuse_folder.specs.Seen.{IsNewFile}
+use Rattle.reuse_folder.proofs.Noted.{held_of, Honest_of}
+use Rattle.reuse_folder.proofs.RoundEnds.{alike_then, all_new, begun_after, round_not_begun}
+use Rattle.reuse_folder.proofs.SeenLemmas.{new_at, only_new}
 use Rattle.reuse_folder.proofs.folder.RootFolder.write_temp_file.Goals as goal
-use Rattle.reuse_folder.proofs.folder.RootFolder.write_temp_file.Goals.{else-loop-write-test}
-use Rattle.reuse_folder.proofs.folder.RootFolder.write_temp_file.Goals.{then-loop-write-test+in_default}
-use Rattle.reuse_folder.proofs.folder.RootFolder.write_temp_file.Goals.{then-loop-write-test+in-Some+in-Err-2}
 
-pub loop-write-init : goal.loop-write-init
-loop-write-init g c = (
-  only_none IsNewFile _ _ refl,
-  subst (λ l. AreKnown c.args.seen.now.reads.items c.args.writes.now l) (sym c.new-temp_files.ensures.items) tt,
-  refl,
-  ap length c.new-temp_files.ensures.items,
-)
+pub returns-in_err-check_guard-clause-round : goal.returns-in_err-check_guard-clause-round
+returns-in_err-check_guard-clause-round g c =
+    let noted = c.args.self.now.system.noted in
+    round_not_begun (Honest_of noted) c.args.writes.now c.args.self.now.new_file
+    (held_of noted) c.from_residual.result c.from_residual.ensures.0
 
-pub returns-in_err-map_err-in-Ok-clause-changes : goal.returns-in_err-map_err-in-Ok-clause-changes
-returns-in_err-map_err-in-Ok-clause-changes g c =
-    only_then IsNewFile _ _ _ c.loop-write.invariant.0 c.write_one_temp_file.ensures.changes
+pub returns-in_err-take_new_file-clause-changes : goal.returns-in_err-take_new_file-clause-changes
+returns-in_err-take_new_file-clause-changes g c = let cleared = c.take_new_file.ensures.cleared in
+    only_new cleared.folder _ _ cleared.changed
 
-pub returns-in_err-map_err-in-Ok-clause-reads : goal.returns-in_err-map_err-in-Ok-clause-reads
-returns-in_err-map_err-in-Ok-clause-reads g c = c.write_one_temp_file.ensures.reads ∙ c.loop-write.invariant.2
+pub returns-in-Ok-clause-round : goal.returns-in-Ok-clause-round
+returns-in-Ok-clause-round g c =
+    let first = held_of c.args.self.now.system.noted in
+    let between = held_of c.take_new_file.new.self.system.noted in
+    let last = c.fill_round.new.self.system.noted in
+    let temp_files = c.fill_round.new.round.temp_files.items in
+    let folder = c.in_ok-take_new_file.field-0.folder in
+    let cleared = c.in_ok-take_new_file.ensures.cleared in
+    let was : IsFolderOf c.args.self.now.new_file folder.identity = rw cleared.is_folder cleared.was in
+    let alike : IsAlikeUnless (IsNewIn folder.identity) first between = rw cleared.is_folder cleared.others in
+    let none_left : LeavesNone (IsNewIn folder.identity) first between = rw cleared.is_folder cleared.none_left in
+    subst (λ (f : OpenFolder). IsFolderOf c.args.self.now.new_file f.identity × (0 < length temp_files) × AreBegun
+    (Honest_of last) f.identity c.args.writes.now temp_files first (held_of last)) (sym c.fill_round.ensures.folder) (
+      was,
+      c.in-Ok.ensures.some c.requires,
+      begun_after (Honest_of last) folder.identity c.args.writes.now temp_files first between
+          (held_of last) alike none_left c.in-Ok.ensures.begun,
+    )
+
+pub returns-in-Ok-clause-changes : goal.returns-in-Ok-clause-changes
+returns-in-Ok-clause-changes g c = let cleared = c.take_new_file.ensures.cleared in
+    only_then IsNewFile _ _ _ (only_new cleared.folder _ _ cleared.changed) c.fill_round.ensures.changes
+
+pub returns-in-Err-clause-round : goal.returns-in-Err-clause-round
+returns-in-Err-clause-round g c =
+    let first = held_of c.args.self.now.system.noted in
+    let between = held_of c.take_new_file.new.self.system.noted in
+    let filled = held_of c.fill_round.new.self.system.noted in
+    let last = held_of c.remove_all.new.system.noted in
+    let new_files = c.in_ok-take_new_file.field-0.folder.identity in
+    let cleared = c.in_ok-take_new_file.ensures.cleared in
+    let was : IsFolderOf c.args.self.now.new_file new_files = rw cleared.is_folder cleared.was in
+    let alike : IsAlikeUnless (IsNewIn new_files) first between = rw cleared.is_folder cleared.others in
+    let begun = c.fill_round.ensures.begun in
+    let all = subst (λ l. All (λ one. IsNewIn new_files (place_of one.temp_file)) l) (sym c.deref.ensures.value)
+    (all_new new_files c.fill_round.new.round.temp_files.items begun.places) in (
+      new_files,
+      was,
+      alike_then new_files first between last alike
+          (alike_then new_files between filled last begun.others (c.remove_all.ensures.others new_files all)),
+    )
 
 pub returns-in-Err-clause-changes : goal.returns-in-Err-clause-changes
 returns-in-Err-clause-changes g c =
-    only_then IsNewFile _ _ _ c.loop-write.invariant.0 c.write_one_temp_file.ensures.changes
-
-pub returns-in-Err-clause-reads : goal.returns-in-Err-clause-reads
-returns-in-Err-clause-reads g c = c.write_one_temp_file.ensures.reads ∙ c.loop-write.invariant.2
-
-pub loop-write-preserved : goal.loop-write-preserved
-loop-write-preserved g c =
-    let reads = c.args.seen.now.reads in
-    let temp_files = c.loop-write.temp_files.items in
-    let one = c.in-Ok.temp_file in
-    let items : c.push.new.self.items ≡ (temp_files ++ (one ∷ [])) = search rules in
-    let here : IsKnownTempFile reads.items c.write-item.result.path.now one = subst
-    (λ r. IsKnownTempFile r.items c.write-item.result.path.now one) c.loop-write.invariant.2 c.in-Ok.ensures.known in
-    let count : length (temp_files ++ (one ∷ [])) ≡ (c.loop-write.write-index + 1) =
-    length_push temp_files one ∙ ap (λ n. n + 1) c.loop-write.invariant.3 in (
-      only_then IsNewFile _ _ _ c.loop-write.invariant.0 c.write_one_temp_file.ensures.changes,
-      subst (λ l. AreKnown reads.items c.args.writes.now l) (sym items)
-          (temp_file_more reads.items c.args.writes.now temp_files one c.loop-write.write-index c.write-item.result
-          c.loop-write.invariant.1 c.loop-write.invariant.3 c.loop-write-test.true c.write-item.is here),
-      c.write_one_temp_file.ensures.reads ∙ c.loop-write.invariant.2,
-      ap length items ∙ count,
-    )
-
-pub returns-clause-changes : goal.returns-clause-changes
-returns-clause-changes g c =
-    elim c.loop-write-test.branch [
-      | else-loop-write-test w ↦ subst (λ s. OnlyChanges IsNewFile (changes_of c.args.self.now.system.noted.calls)
-          (changes_of s.system.noted.calls)) (sym w.self-is) c.loop-write.invariant.0
-      | then-loop-write-test+in_default w ↦ subst
-          (λ s. OnlyChanges IsNewFile (changes_of c.args.self.now.system.noted.calls) (changes_of s.system.noted.calls))
-          (sym w.self-is) c.loop-write.invariant.0
-      | then-loop-write-test+in-Some+in-Err-2 w ↦ subst
-          (λ s. OnlyChanges IsNewFile (changes_of c.args.self.now.system.noted.calls) (changes_of s.system.noted.calls))
-          (sym w.self-is) (only_then IsNewFile _ _ _ c.loop-write.invariant.0 w.write_one_temp_file.ensures.changes)
-    ]
-
-pub returns-clause-known : goal.returns-clause-known
-returns-clause-known g c = c.loop-write.invariant.1
-
-pub returns-clause-reads : goal.returns-clause-reads
-returns-clause-reads g c =
-    elim c.loop-write-test.branch [
-      | else-loop-write-test w ↦ ap (λ s. s.reads) w.seen-is ∙ c.loop-write.invariant.2
-      | then-loop-write-test+in_default w ↦ ap (λ s. s.reads) w.seen-is ∙ c.loop-write.invariant.2
-      | then-loop-write-test+in-Some+in-Err-2 w ↦
-          ap (λ s. s.reads) w.seen-is ∙ (w.write_one_temp_file.ensures.reads ∙ c.loop-write.invariant.2)
-    ]
+    let cleared = c.take_new_file.ensures.cleared in
+    let temp_files = c.fill_round.new.round.temp_files.items in
+    let known = c.fill_round.ensures.known in
+    let all = subst (λ l. All (λ one. IsNewFile (place_of one.temp_file)) l) (sym c.deref.ensures.value)
+    (λ k one short. new_at c.args.seen.now.reads.items c.args.writes.now temp_files k one known short) in
+    only_then IsNewFile _ _ _ (only_new cleared.folder _ _ cleared.changed)
+    (only_then IsNewFile _ _ _ c.fill_round.ensures.changes (c.remove_all.ensures.changes all))

@@ -1,7 +1,7 @@
 use Rattle.std.proofs.Common.{Some}
 use Rattle.reuse_system.specs.TempFiles.{name_in}
 use Rattle.reuse_disk.proofs.EditLemmas.{guarded_look}
-use Rattle.reuse_disk.proofs.new_file.remove_seen.Goals as goal
+use Rattle.reuse_disk.proofs.naming.remove_seen.Goals as goal
 
 pub returns-in_err-remove-clause-guarded : goal.returns-in_err-remove-clause-guarded
 returns-in_err-remove-clause-guarded g c =

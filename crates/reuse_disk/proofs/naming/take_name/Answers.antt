@@ -1,11 +1,11 @@
 use Rattle.std.proofs.Common.{◌≡◌, refl, None}
 use Rattle.reuse_system.specs.TempFiles.{name_in, place_of}
-use Rattle.reuse_system.specs.FileStates.{Place}
 use Rattle.reuse_disk.proofs.EditLemmas.{guarded_temp_file, guarded_link, guarded_then, renamed_after_link}
-use Rattle.reuse_disk.proofs.new_file.take_name.Goals as goal
+use Rattle.reuse_disk.proofs.WrittenLemmas.{discarded_alike}
+use Rattle.reuse_disk.proofs.naming.take_name.Goals as goal
 
-pub returns-in-Ok-clause-guarded : goal.returns-in-Ok-clause-guarded
-returns-in-Ok-clause-guarded g c =
+pub returns-in_err-discard-in-Ok-clause-guarded : goal.returns-in_err-discard-in-Ok-clause-guarded
+returns-in_err-discard-in-Ok-clause-guarded g c =
     let s = g.S.System in
     let from = place_of c.args.temp_file.now in
     let target = name_in c.args.target.folder.now c.args.target.name.now in
@@ -17,7 +17,24 @@ returns-in-Ok-clause-guarded g c =
     (guarded_link (λ place. place ≡ from) target (s.changes a) (s.changes b) (s.holds a)
     (s.holds b) c.link.ensures.changes)
     (guarded_temp_file (λ place. place ≡ from) target from None (s.looked b) (s.changes b) (s.changes d) (s.holds b)
-    (s.holds d) refl c.discard.ensures.changes (λ no. c.discard.ensures.others target no))
+    (s.holds d) refl c.discard.ensures.changes
+    (discarded_alike from (s.holds b) (s.holds d) c.discard.result c.discard.ensures.removed target))
+
+pub returns-in_ok-discard-in-Ok-clause-guarded : goal.returns-in_ok-discard-in-Ok-clause-guarded
+returns-in_ok-discard-in-Ok-clause-guarded g c =
+    let s = g.S.System in
+    let from = place_of c.args.temp_file.now in
+    let target = name_in c.args.target.folder.now c.args.target.name.now in
+    let a = c.args.system.now in
+    let b = c.link.new.self in
+    let d = c.discard.new.self in
+    guarded_then (λ place. place ≡ from) target None (s.changes a) (s.changes b) (s.changes d) (s.holds a)
+    (s.holds b) (s.holds d)
+    (guarded_link (λ place. place ≡ from) target (s.changes a) (s.changes b) (s.holds a)
+    (s.holds b) c.link.ensures.changes)
+    (guarded_temp_file (λ place. place ≡ from) target from None (s.looked b) (s.changes b) (s.changes d) (s.holds b)
+    (s.holds d) refl c.discard.ensures.changes
+    (discarded_alike from (s.holds b) (s.holds d) c.discard.result c.discard.ensures.removed target))
 
 pub returns-in-Err-clause-guarded : goal.returns-in-Err-clause-guarded
 returns-in-Err-clause-guarded g c =

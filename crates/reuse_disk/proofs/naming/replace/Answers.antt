@@ -1,7 +1,7 @@
 use Rattle.std.proofs.Common.{◌≡◌}
 use Rattle.reuse_system.specs.TempFiles.{name_in, place_of}
 use Rattle.reuse_disk.proofs.EditLemmas.{guarded_look}
-use Rattle.reuse_disk.proofs.new_file.replace.Goals as goal
+use Rattle.reuse_disk.proofs.naming.replace.Goals as goal
 
 pub returns-in_err-rename-clause-guarded : goal.returns-in_err-rename-clause-guarded
 returns-in_err-rename-clause-guarded g c =

@@ -1,0 +1,46 @@
+-- Which folders are noted for the next barrier, where files are put and removed.
+use Rattle.std.specs.Prelude.{◌≡◌, ◌⊎◌, ℕ, ◌<◌, List, length, slice_index_or}
+use Rattle.reuse_store.specs.declared.file_write.FileWrite.{FileWrite}
+use Rattle.reuse_system.specs.FileStates.{Place, place_in}
+use Rattle.reuse_system.specs.NameChanges.{NameChange, OnlyChanges}
+use Rattle.reuse_system.specs.Names.{IsSplit}
+use Rattle.reuse_system.specs.declared.place.Identity.{Identity}
+use Rattle.reuse_disk.specs.Noted.{IsNoted}
+use Rattle.reuse_disk.specs.declared.syncs.Unsynced.{Unsynced}
+use Rattle.reuse_folder.specs.Seen.{IsNewFile}
+
+-- the folder above the path is noted
+pub record IsNotedAbove (unsynced : Unsynced) (path : List ℕ) : Type 0 where
+  pub above : List ℕ
+  pub name : List ℕ
+  pub is_split : IsSplit path above name
+  pub is_noted : IsNoted unsynced above
+
+-- so it is, and the place has the path's own name, in some folder
+pub record IsNotedAt (unsynced : Unsynced) (path : List ℕ) (place : Place) : Type 0 where
+  pub noted : IsNotedAbove unsynced path
+  pub folder : Identity
+  pub at : place ≡ place_in folder noted.name
+
+-- each name that changed is one of new files, or the path's own, and then the folder above that is noted
+abbrev pub HasNoted : Unsynced → List ℕ → (before after : List NameChange) → Type 0
+HasNoted unsynced path before after =
+    OnlyChanges (λ place. IsNewFile place ⊎ IsNotedAt unsynced path place) before after
+
+-- so it is of one of the writes
+pub record IsNotedOf (unsynced : Unsynced) (writes : List FileWrite) (place : Place) : Type 0 where
+  pub number : ℕ
+  pub write : FileWrite
+  pub short : number < length writes
+  pub is_one : write ≡ slice_index_or writes number write
+  pub at : IsNotedAt unsynced write.path.now place
+
+abbrev pub HaveNoted : Unsynced → List FileWrite → (before after : List NameChange) → Type 0
+HaveNoted unsynced writes before after =
+    OnlyChanges (λ place. IsNewFile place ⊎ IsNotedOf unsynced writes place) before after
+
+-- the folders above the first so many of the writes are noted
+abbrev pub AreNotedAbove : Unsynced → List FileWrite → ℕ → Type 0
+AreNotedAbove unsynced writes count =
+    (k : ℕ) (write : FileWrite) → k < count → write ≡ slice_index_or writes k write
+    → IsNotedAbove unsynced write.path.now
