@@ -9,3 +9,4 @@ pub mod WrittenLemmas
 pub mod EditLemmas
 pub mod LeftLemmas
 pub mod NoteLemmas
+pub mod SyncLemmas

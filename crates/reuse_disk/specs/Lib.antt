@@ -1,4 +1,5 @@
 pub mod LeftFiles
 pub mod Noted
 pub mod OpenFolders
+pub mod Synced
 pub mod Written

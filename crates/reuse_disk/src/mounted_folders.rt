@@ -3,6 +3,7 @@
 //! stopped may leave it. Tested by `odd_folders.sh` in `tests/`.
 ghost use Rattle.std.specs.Prelude.{◌≡◌, IfOk};
 ghost use Rattle.reuse_disk.specs.LeftFiles.{ClearsLeft, IsClearedAt, IsJournalIf};
+ghost use Rattle.reuse_disk.specs.Noted.{StayNoted};
 ghost use Rattle.reuse_disk.specs.OpenFolders.{AreOpenedIf};
 
 use crate::open_folders::OpenFolders;
@@ -73,6 +74,8 @@ impl MountedFolders {
         ensures opened { AreOpenedIf (S.honest system.old) (S.folders system.old) open_folders.old
             → AreOpenedIf (S.honest system.new) (S.folders system.new) open_folders.new }
         ensures syncs { unsynced.new.syncs ≡ unsynced.old.syncs }
+        ensures noted { StayNoted unsynced.old unsynced.new }
+        ensures no_sync { S.synced system.new ≡ S.synced system.old }
     {
         if !self.paths.is_empty() {
             let _ = self.clear_each(system, alloc, open_folders, unsynced);
@@ -95,6 +98,8 @@ impl MountedFolders {
         ensures opened { AreOpenedIf (S.honest system.old) (S.folders system.old) open_folders.old
             → AreOpenedIf (S.honest system.new) (S.folders system.new) open_folders.new }
         ensures syncs { unsynced.new.syncs ≡ unsynced.old.syncs }
+        ensures noted { StayNoted unsynced.old unsynced.new }
+        ensures no_sync { S.synced system.new ≡ S.synced system.old }
     {
         open_folders.enter_seen(system, alloc, JOURNAL)?;
         let journal = open_folders.current()?.identity();
@@ -134,6 +139,8 @@ fn clear_folder<S: System>(
     ensures opened { AreOpenedIf (S.honest system.old) (S.folders system.old) open_folders.old
         → AreOpenedIf (S.honest system.new) (S.folders system.new) open_folders.new }
     ensures syncs { unsynced.new.syncs ≡ unsynced.old.syncs }
+    ensures noted { StayNoted unsynced.old unsynced.new }
+    ensures no_sync { S.synced system.new ≡ S.synced system.old }
 {
     open_folders.enter_seen(system, alloc, path)?;
     let folder = open_folders.current()?;

@@ -160,6 +160,7 @@ impl OpenFolders {
         ensures kept { S.holds system.new ≡ S.holds system.old }
         ensures changes { S.changes system.new ≡ S.changes system.old }
         ensures still { S.folders system.new ≡ S.folders system.old }
+        ensures no_sync { S.synced system.new ≡ S.synced system.old }
         ensures earlier { S.honest system.new → S.honest system.old }
         ensures opened { AreOpenedIf (S.honest system.old) (S.folders system.old) self.old
             → AreOpenedIf (S.honest system.new) (S.folders system.new) self.new }
@@ -184,6 +185,7 @@ impl OpenFolders {
         ensures kept { S.holds system.new ≡ S.holds system.old }
         ensures changes { S.changes system.new ≡ S.changes system.old }
         ensures still { S.folders system.new ≡ S.folders system.old }
+        ensures no_sync { S.synced system.new ≡ S.synced system.old }
         ensures earlier { S.honest system.new → S.honest system.old }
         ensures opened { AreOpenedIf (S.honest system.old) (S.folders system.old) self.old
             → AreOpenedIf (S.honest system.new) (S.folders system.new) self.new }
@@ -236,6 +238,7 @@ impl OpenFolders {
         ensures kept { S.holds system.new ≡ S.holds system.old }
         ensures changes { S.changes system.new ≡ S.changes system.old }
         ensures still { S.folders system.new ≡ S.folders system.old }
+        ensures no_sync { S.synced system.new ≡ S.synced system.old }
         ensures earlier { S.honest system.new → S.honest system.old }
         ensures no_file { IfOk result (λ place. IfSome place IsNoFile) }
         ensures opened { AreOpenedIf (S.honest system.old) (S.folders system.old) self.old
@@ -267,6 +270,7 @@ impl OpenFolders {
         ensures kept { S.holds system.new ≡ S.holds system.old }
         ensures changes { S.changes system.new ≡ S.changes system.old }
         ensures still { S.folders system.new ≡ S.folders system.old }
+        ensures no_sync { S.synced system.new ≡ S.synced system.old }
         ensures earlier { S.honest system.new → S.honest system.old }
         ensures opened { AreOpenedIf (S.honest system.old) (S.folders system.old) self.old
             → AreOpenedIf (S.honest system.new) (S.folders system.new) self.new }

@@ -2,13 +2,14 @@
 //! synced before the file is given its name. Which folders got or lost a name is noted, and a
 //! barrier syncs each of them once. The system reports a fault of a sync once, and may then drop
 //! what it could not write: so a store whose sync has failed believes no later one.
-ghost use Rattle.std.specs.Prelude.{◌≡◌, IfErr, IfOk, IfSome, IsOk, MatchResult, None, OnOk, Some};
-ghost use Rattle.std.specs.BTreeSet.{IsEmpty};
+ghost use Rattle.std.specs.Prelude.{◌≡◌, ℕ, List, IfErr, IfOk, IfSome, IsOk, MatchResult, None, OnOk, Some, true};
+ghost use Rattle.std.specs.BTreeSet.{contains_text, IsEmpty};
 ghost use Rattle.std.specs.Option.{unwrap_or};
 ghost use Rattle.reuse_system.specs.SystemLaws.{IsAlikeButFile};
 ghost use Rattle.reuse_system.specs.TempFiles.{key_of};
 ghost use Rattle.reuse_disk.specs.Noted.{IsNoted, StayNoted};
 ghost use Rattle.reuse_disk.specs.OpenFolders.{AreOpenedIf};
+ghost use Rattle.reuse_disk.specs.Synced.{AreSynced, HaveFolders};
 ghost use Rattle.reuse_disk.specs.Written.{IsSyncedIf, is_kept};
 ghost use Rattle.reuse_system.specs.declared.fault.FolderFault.TheVariants.{Device};
 ghost use Rattle.reuse_system.specs.declared.fault.IoReason.{IoReason};
@@ -41,6 +42,17 @@ pub struct Unsynced {
     last: String,
 }
 
+/// Adds a path to these.
+fn add(alloc: Global, paths: &mut BTreeSet<String>, path: &str) -> Result<(), AllocError>
+    ensures added { IfOk result (λ _. contains_text paths.new path.now ≡ true) }
+    ensures kept { (other : List ℕ) → contains_text paths.old other ≡ true → contains_text paths.new other ≡ true }
+{
+    if !paths.contains(path) {
+        paths.insert(String::from_str(alloc, path)?)?;
+    }
+    Ok(())
+}
+
 impl Unsynced {
     /// Nothing so far.
     pub fn new(alloc: Global, syncs: Syncs) -> Unsynced
@@ -69,10 +81,10 @@ impl Unsynced {
         ensures syncs { self.new.syncs ≡ self.old.syncs }
         ensures failed { self.new.failed ≡ self.old.failed }
     {
-        if self.syncs == Syncs::Kept && !self.folders.contains(folder) {
-            self.folders.insert(String::from_str(alloc, folder)?)?;
+        match self.syncs {
+            Syncs::Kept => add(alloc, &mut self.folders, folder),
+            Syncs::LeftOut => Ok(()),
         }
-        Ok(())
     }
 
     /// A sync failed for this. The first one stays known.
@@ -148,6 +160,11 @@ impl Unsynced {
         ensures earlier { S.honest system.new → S.honest system.old }
         ensures opened { AreOpenedIf (S.honest system.old) (S.folders system.old) open_folders.old
             → AreOpenedIf (S.honest system.new) (S.folders system.new) open_folders.new }
+        // Each folder that is noted, and there, was synced since.
+        ensures synced { self.old.syncs ≡ Syncs.Kept
+            → AreOpenedIf (S.honest system.old) (S.folders system.old) open_folders.old → S.honest system.new
+            → IfOk result (λ _. AreSynced self.old (S.folders system.new) (S.holds system.new) (S.synced system.old)
+            (S.synced system.new)) }
     {
         if self.syncs == Syncs::LeftOut {
             return Ok(());
@@ -181,13 +198,18 @@ impl Unsynced {
         ensures earlier { S.honest system.new → S.honest system.old }
         ensures opened { AreOpenedIf (S.honest system.old) (S.folders system.old) open_folders.old
             → AreOpenedIf (S.honest system.new) (S.folders system.new) open_folders.new }
+        // Each folder that is noted, and there, was synced since.
+        ensures synced { AreOpenedIf (S.honest system.old) (S.folders system.old) open_folders.old
+            → S.honest system.new
+            → IfOk result (λ _. AreSynced self.old (S.folders system.new) (S.holds system.new) (S.synced system.old)
+            (S.synced system.new)) }
     {
         self.note_changes(alloc, changes)?;
         let there = self.folders_there(system, alloc, open_folders)?;
         for folder in &there {
             self.set_last(folder.as_str());
             open_folders.enter_seen(system, alloc, folder.as_str())?;
-            open_folders.current()?.sync()?;
+            system.sync_folder(open_folders.current()?)?;
         }
         Ok(())
     }
@@ -196,6 +218,7 @@ impl Unsynced {
     /// of the changes.
     fn note_changes(&mut self, alloc: Global, changes: &[Change]) -> Result<(), AllocError>
         ensures failed { self.new.failed ≡ self.old.failed }
+        ensures kept { StayNoted self.old self.new }
     {
         if !self.is_journal_durable {
             self.note(alloc, JOURNAL)?;
@@ -220,12 +243,16 @@ impl Unsynced {
         ensures earlier { S.honest system.new → S.honest system.old }
         ensures opened { AreOpenedIf (S.honest system.old) (S.folders system.old) open_folders.old
             → AreOpenedIf (S.honest system.new) (S.folders system.new) open_folders.new }
+        ensures no_sync { S.synced system.new ≡ S.synced system.old }
+        ensures there { AreOpenedIf (S.honest system.old) (S.folders system.old) open_folders.old
+            → S.honest system.new
+            → IfOk result (λ there. HaveFolders self.now (λ path. contains_text there path ≡ true)
+            (S.folders system.new) (S.holds system.new)) }
     {
         let mut there = BTreeSet::new(alloc);
         for folder in &self.folders {
             open_folders.enter(system, alloc, folder.as_str())?;
-            let nearest = String::from_str(alloc, open_folders.path())?;
-            there.insert(nearest).map_err(AllocError::from)?;
+            add(alloc, &mut there, open_folders.path())?;
         }
         Ok(there)
     }

@@ -60,6 +60,9 @@ pub struct RootFolder<R: Files<File = File> + AllocGlobal + Clone + Drop> {
 impl<R: Files<File = File> + AllocGlobal + Clone + Drop> RootFolder<R> {
     ghost use Rattle.reuse_folder.specs.FolderReads.{IsPlaceAt, LiesIn};
     ghost use Rattle.reuse_disk.specs.LeftFiles.{ClearsLeft};
+    ghost use Rattle.reuse_disk.specs.Noted.{StayNoted};
+    ghost use Rattle.reuse_disk.specs.Synced.{AreSynced};
+    ghost use Rattle.reuse_system.specs.declared.syncs.Syncs.TheVariants.{Kept};
     ghost use Rattle.reuse_disk.specs.OpenFolders.{current_of};
     ghost use Rattle.reuse_system.specs.FolderPlaces.{IsNoFile};
     /// The folder at this path, in which what is written is made durable or not.
@@ -294,6 +297,9 @@ impl<R: Files<File = File> + AllocGlobal + Clone + Drop> RootFolder<R> {
         ensures over { rolled_back.is_over ≡ true
             → ⟦<HostSystem<R> as System>⟧.changes self.new.system
             ≡ ⟦<HostSystem<R> as System>⟧.changes self.old.system }
+        ensures syncs { self.new.unsynced.syncs ≡ self.old.unsynced.syncs }
+        ensures noted { StayNoted self.old.unsynced self.new.unsynced }
+        ensures no_sync { ⟦<HostSystem<R> as System>⟧.synced self.new.system ≡ ⟦<HostSystem<R> as System>⟧.synced self.old.system }
     {
         if rolled_back.is_over() {
             return;
@@ -322,6 +328,10 @@ impl<R: Files<File = File> + AllocGlobal + Clone + Drop> RootFolder<R> {
         ensures over { rolled_back.is_over ≡ true
             → ⟦<HostSystem<R> as System>⟧.changes self.new.system
             ≡ ⟦<HostSystem<R> as System>⟧.changes self.old.system }
+        // Each folder that is noted, and there, was synced since.
+        ensures synced { self.old.unsynced.syncs ≡ Kept → ⟦<HostSystem<R> as System>⟧.honest self.new.system
+            → IfOk result (λ _. AreSynced self.old.unsynced (⟦<HostSystem<R> as System>⟧.folders self.new.system) (⟦<HostSystem<R> as System>⟧.holds self.new.system)
+            (⟦<HostSystem<R> as System>⟧.synced self.old.system) (⟦<HostSystem<R> as System>⟧.synced self.new.system)) }
     {
         self.clear_left(alloc, rolled_back);
         self.unsynced

@@ -18,6 +18,7 @@ ghost use Rattle.reuse_system.specs.declared.place.Identity.{Identity};
 ghost use Rattle.reuse_folder.specs.RolledBack.{foreign_of};
 ghost use Rattle.reuse_folder.specs.Seen.{LoseNoEdits, LosesNoEditAfter};
 ghost use Rattle.reuse_disk.specs.LeftFiles.{ClearsLeft};
+ghost use Rattle.reuse_disk.specs.Synced.{AreSynced};
 ghost use Rattle.reuse_disk.specs.Written.{is_kept};
 ghost use Rattle.reuse_store.specs.Asked.{FailsAsRead, OnlyReads, IsLater, IsPut, IsRemoval, IsWrite, AreWrites};
 ghost use Rattle.reuse_store.specs.Asked.{IsBarrier};
@@ -436,6 +437,11 @@ impl<R: Files<File = File> + AllocGlobal + Clone + Drop> Store for DiskStore<R> 
         ensures over { self.old.rolled_back.is_over ≡ true
             → ⟦<HostSystem<R> as System>⟧.changes self.new.folder.system
             ≡ ⟦<HostSystem<R> as System>⟧.changes self.old.folder.system }
+        // Each folder that is noted, and there, was synced since the barrier began, if it succeeds.
+        ensures synced { self.old.folder.unsynced.syncs ≡ Syncs.Kept → ⟦<HostSystem<R> as System>⟧.honest self.new.folder.system
+            → IfOk result (λ _. AreSynced self.old.folder.unsynced (⟦<HostSystem<R> as System>⟧.folders self.new.folder.system)
+            (⟦<HostSystem<R> as System>⟧.holds self.new.folder.system) (⟦<HostSystem<R> as System>⟧.synced self.old.folder.system)
+            (⟦<HostSystem<R> as System>⟧.synced self.new.folder.system)) }
     {
         let answer = self.folder.sync(alloc, changes, self.rolled_back);
         self.failure

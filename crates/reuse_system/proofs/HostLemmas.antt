@@ -16,7 +16,7 @@ use Rattle.reuse_system.specs.SystemLaws.{IsLinked, MayBeLinked, MayBeRenamed}
 use Rattle.reuse_system.specs.SystemCall.{SystemCall, made_of}
 use Rattle.reuse_system.specs.SystemCall.SystemCall.{MakeCall, AppendCall, SyncCall, RenameCall, LinkCall, RemoveCall}
 use Rattle.reuse_system.specs.SystemCall.SystemCall.{LookCall, ReadCall, RootCall, OpenCall, NoFolderCall}
-use Rattle.reuse_system.specs.SystemCall.SystemCall.{MakeFolderCall, RemoveFolderCall}
+use Rattle.reuse_system.specs.SystemCall.SystemCall.{MakeFolderCall, RemoveFolderCall, SyncFolderCall}
 use Rattle.reuse_system.specs.SystemCalls.{held_at_start, set, set_by, is_made, filled_if, filled, is_one_key}
 use Rattle.reuse_system.specs.SystemCalls.{is_one_file, renamed, renamed_by, linked, linked_by, held_by, held_after}
 use Rattle.reuse_system.specs.SystemCalls.{effect_at}
@@ -242,6 +242,7 @@ step-below effect (OpenCall above name opened) calls held old = old
 step-below effect (NoFolderCall above name found) calls held old = old
 step-below effect (MakeFolderCall above name is) calls held old = old
 step-below effect (RemoveFolderCall at is) calls held old = old
+step-below effect (SyncFolderCall folder is) calls held old = old
 
 after-below : (files : List (Place × (ℕ × (List ℕ × Bool)))) (effects : List ℕ) (calls : List SystemCall)
     → AreBelow (made_of calls) (held_after files effects calls)

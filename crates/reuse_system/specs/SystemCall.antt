@@ -1,4 +1,4 @@
--- A call of the system that changes regular files or folders, opens a folder, or reports what stands at a name.
+-- A call of the system that changes regular files or folders, opens or syncs a folder, or reports what stands at a name.
 use Rattle.std.specs.Prelude.{ℕ, ◌+◌, Bool, List, [], ◌∷◌, Result}
 use Rattle.reuse_store.specs.declared.store.Reading.{Reading}
 use Rattle.reuse_system.specs.FileStates.{Place}
@@ -21,6 +21,7 @@ pub data SystemCall : Type 0 where
   NoFolderCall : (above : Identity) (name : List ℕ) (found : Found) → SystemCall
   MakeFolderCall : (above : Identity) (name : List ℕ) (is_done : Bool) → SystemCall
   RemoveFolderCall : (place : Place) (is_done : Bool) → SystemCall
+  SyncFolderCall : (folder : Identity) (is_done : Bool) → SystemCall
 
 -- how many files were to be made by these calls
 abbrev pub made_of : List SystemCall → ℕ
@@ -38,3 +39,4 @@ made_of (OpenCall above name opened ∷ calls) = made_of calls
 made_of (NoFolderCall above name found ∷ calls) = made_of calls
 made_of (MakeFolderCall above name is_done ∷ calls) = made_of calls
 made_of (RemoveFolderCall place is_done ∷ calls) = made_of calls
+made_of (SyncFolderCall folder is_done ∷ calls) = made_of calls

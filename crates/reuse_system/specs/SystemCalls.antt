@@ -11,7 +11,7 @@ use Rattle.reuse_system.specs.NameChanges.{Look, NameChange, change_at, change_o
 use Rattle.reuse_system.specs.SystemCall.{SystemCall, made_of}
 use Rattle.reuse_system.specs.SystemCall.SystemCall.{MakeCall, AppendCall, SyncCall, RenameCall, LinkCall, RemoveCall}
 use Rattle.reuse_system.specs.SystemCall.SystemCall.{LookCall, ReadCall, RootCall, OpenCall, NoFolderCall}
-use Rattle.reuse_system.specs.SystemCall.SystemCall.{MakeFolderCall, RemoveFolderCall}
+use Rattle.reuse_system.specs.SystemCall.SystemCall.{MakeFolderCall, RemoveFolderCall, SyncFolderCall}
 use Rattle.reuse_system.specs.SystemLaws.{IsSeen, IsReadOf, IsNoFolder}
 use Rattle.reuse_system.specs.declared.place.Identity.{Identity}
 use Rattle.reuse_system.specs.declared.system.record.CallKind.{CallKind}
@@ -126,6 +126,7 @@ held_by effect made (OpenCall above name opened) held = held
 held_by effect made (NoFolderCall above name found) held = held
 held_by effect made (MakeFolderCall above name is_done) held = held
 held_by effect made (RemoveFolderCall place is_done) held = held
+held_by effect made (SyncFolderCall folder is_done) held = held
 
 -- what names lead to after these calls, the newest first
 abbrev pub held_after : List (Place × (ℕ × (List ℕ × Bool))) → List ℕ → List SystemCall → FileState
@@ -172,6 +173,7 @@ folders_by effect (ReadCall place said limit answer) folders = folders
 folders_by effect (RootCall opened) folders = folders
 folders_by effect (OpenCall above name opened) folders = folders
 folders_by effect (NoFolderCall above name found) folders = folders
+folders_by effect (SyncFolderCall folder is_done) folders = folders
 
 -- the folders after these calls, the newest first
 abbrev pub folders_after : FolderStart → List ℕ → List SystemCall → Folders
@@ -209,6 +211,17 @@ changes_of (OpenCall above name opened ∷ calls) = changes_of calls
 changes_of (NoFolderCall above name found ∷ calls) = changes_of calls
 changes_of (MakeFolderCall above name is_done ∷ calls) = changes_of calls
 changes_of (RemoveFolderCall place is_done ∷ calls) = changes_of calls
+changes_of (SyncFolderCall folder is_done ∷ calls) = changes_of calls
+
+-- the folder that the call has synced
+abbrev pub synced_by : SystemCall → List Identity
+synced_by (SyncFolderCall folder true) = folder ∷ []
+synced_by call = []
+
+-- the folders that these calls have synced, the newest first
+abbrev pub synced_of : List SystemCall → List Identity
+synced_of [] = []
+synced_of (call ∷ calls) = synced_by call ++ synced_of calls
 
 -- each of these calls was answered so
 abbrev pub IsHonest : FolderStart → List (Place × (ℕ × (List ℕ × Bool))) → List ℕ → List SystemCall → Type 0
@@ -231,3 +244,4 @@ call_of (kind.Open above opened) name other = OpenCall above name opened
 call_of (kind.NoFolder above found) name other = NoFolderCall above name found
 call_of (kind.MakeFolder above is_done) name other = MakeFolderCall above name is_done
 call_of (kind.RemoveFolder above is_done) name other = RemoveFolderCall (place_in above name) is_done
+call_of (kind.SyncFolder folder is_done) name other = SyncFolderCall folder is_done

@@ -5,6 +5,7 @@ ghost use Rattle.std.specs.Prelude.{◌≡◌, ◌∷◌, List, Option, Some, is
 ghost use Rattle.reuse_system.specs.FileStates.{FileState};
 ghost use Rattle.reuse_system.specs.Folders.{Folders};
 ghost use Rattle.reuse_system.specs.NameChanges.{Look, NameChange};
+ghost use Rattle.reuse_system.specs.declared.place.Identity.{Identity};
 
 mod host;
 mod make_file;
@@ -90,6 +91,9 @@ pub trait System {
     /// directly before reported of it. It reports what was there, whoever has written it.
     ghost changes: { Self → List NameChange };
 
+    /// The folders that were synced so far, the newest first.
+    ghost synced: { Self → List Identity };
+
     /// So far nobody else has written in the folders, and what was reported of a file is what it
     /// is. A call can lose this, and never gain it.
     ghost honest: { Self → Type 0 };
@@ -103,7 +107,8 @@ pub trait System {
             (λ _. IsAlikeBut (name_in folder.now name.now) (holds self.old) (holds self.new)) }
         ensures still { folders self.new ≡ folders self.old }
         ensures earlier { honest self.new → honest self.old }
-        ensures changes { changes self.new ≡ changes self.old };
+        ensures changes { changes self.new ≡ changes self.old }
+        ensures no_sync { synced self.new ≡ synced self.old };
 
     /// Writes these bytes to the end of the file. Where that fails, any may be written.
     fn append(&mut self, temp_file: &TempFile, bytes: &[u8]) -> io::Result<()>
@@ -112,7 +117,8 @@ pub trait System {
             (λ _. IsAlikeButFile (key_of temp_file.now) (holds self.old) (holds self.new)) }
         ensures still { folders self.new ≡ folders self.old }
         ensures earlier { honest self.new → honest self.old }
-        ensures changes { changes self.new ≡ changes self.old };
+        ensures changes { changes self.new ≡ changes self.old }
+        ensures no_sync { synced self.new ≡ synced self.old };
 
     /// Makes the bytes of the file durable.
     fn sync_data(&mut self, temp_file: &TempFile) -> io::Result<()>
@@ -121,7 +127,8 @@ pub trait System {
             (λ _. IsAlikeButFile (key_of temp_file.now) (holds self.old) (holds self.new)) }
         ensures still { folders self.new ≡ folders self.old }
         ensures earlier { honest self.new → honest self.old }
-        ensures changes { changes self.new ≡ changes self.old };
+        ensures changes { changes self.new ≡ changes self.old }
+        ensures no_sync { synced self.new ≡ synced self.old };
 
     /// Gives the file another name, in place of what has it. Where that fails, it may be done.
     fn rename(&mut self, temp_file: &TempFile, folder: &OpenFolder, name: &str) -> io::Result<()>
@@ -134,7 +141,8 @@ pub trait System {
         ensures still { folders self.new ≡ folders self.old }
         ensures earlier { honest self.new → honest self.old }
         ensures changes { changes self.new ≡ change_at (looked self.old)
-            (name_in folder.now name.now) ∷ changes self.old };
+            (name_in folder.now name.now) ∷ changes self.old }
+        ensures no_sync { synced self.new ≡ synced self.old };
 
     /// Gives the file this name too. It fails where anything has the name; where it fails
     /// otherwise, it may be done.
@@ -145,7 +153,8 @@ pub trait System {
             (holds self.new)) }
         ensures still { folders self.new ≡ folders self.old }
         ensures earlier { honest self.new → honest self.old }
-        ensures changes { changes self.new ≡ change_of_free (name_in folder.now name.now) ∷ changes self.old };
+        ensures changes { changes self.new ≡ change_of_free (name_in folder.now name.now) ∷ changes self.old }
+        ensures no_sync { synced self.new ≡ synced self.old };
 
     /// Removes what stands where the file was made. Where that fails, it may be done.
     fn discard(&mut self, temp_file: &TempFile) -> io::Result<()>
@@ -154,7 +163,8 @@ pub trait System {
             (λ _. IsAlikeBut (place_of temp_file.now) (holds self.old) (holds self.new)) }
         ensures still { folders self.new ≡ folders self.old }
         ensures earlier { honest self.new → honest self.old }
-        ensures changes { changes self.new ≡ change_at (looked self.old) (place_of temp_file.now) ∷ changes self.old };
+        ensures changes { changes self.new ≡ change_at (looked self.old) (place_of temp_file.now) ∷ changes self.old }
+        ensures no_sync { synced self.new ≡ synced self.old };
 
     /// Removes the file of this name. Where that fails, it may be done.
     fn remove(&mut self, folder: &OpenFolder, name: &str) -> io::Result<()>
@@ -164,14 +174,26 @@ pub trait System {
         ensures still { folders self.new ≡ folders self.old }
         ensures earlier { honest self.new → honest self.old }
         ensures changes { changes self.new ≡ change_at (looked self.old)
-            (name_in folder.now name.now) ∷ changes self.old };
+            (name_in folder.now name.now) ∷ changes self.old }
+        ensures no_sync { synced self.new ≡ synced self.old };
+
+    /// Makes durable which names the folder has. A file system that can't sync folders does that in
+    /// its own way.
+    fn sync_folder(&mut self, folder: &OpenFolder) -> Result<(), FolderFault>
+        ensures synced { MatchResult result (λ _. synced self.new ≡ folder.now.identity ∷ synced self.old)
+            (λ _. synced self.new ≡ synced self.old) }
+        ensures kept { holds self.new ≡ holds self.old }
+        ensures still { folders self.new ≡ folders self.old }
+        ensures earlier { honest self.new → honest self.old }
+        ensures changes { changes self.new ≡ changes self.old };
 
     /// Makes a folder of this name. Where that fails, it may be done.
     fn make_folder(&mut self, above: &OpenFolder, name: &str) -> io::Result<()>
         ensures kept { holds self.new ≡ holds self.old }
         ensures made { IsFolderMade (name_in above.now name.now) (folders self.old) (folders self.new) (is_ok result) }
         ensures earlier { honest self.new → honest self.old }
-        ensures changes { changes self.new ≡ changes self.old };
+        ensures changes { changes self.new ≡ changes self.old }
+        ensures no_sync { synced self.new ≡ synced self.old };
 
     /// Removes the empty folder of this name. Where that fails, it may be done.
     fn remove_folder(&mut self, above: &OpenFolder, name: &str) -> io::Result<()>
@@ -179,7 +201,8 @@ pub trait System {
         ensures removed { IsFolderRemoved (name_in above.now name.now) (folders self.old) (folders self.new)
             (is_ok result) }
         ensures earlier { honest self.new → honest self.old }
-        ensures changes { changes self.new ≡ changes self.old };
+        ensures changes { changes self.new ≡ changes self.old }
+        ensures no_sync { synced self.new ≡ synced self.old };
 
     /// Opens the root, which is at this path.
     fn open_root(
@@ -193,7 +216,8 @@ pub trait System {
         ensures still { folders self.new ≡ folders self.old }
         ensures earlier { honest self.new → honest self.old }
         ensures root { honest self.new → IfOk result (λ folder. folder.identity ≡ (folders self.new).root) }
-        ensures changes { changes self.new ≡ changes self.old };
+        ensures changes { changes self.new ≡ changes self.old }
+        ensures no_sync { synced self.new ≡ synced self.old };
 
     /// The folder of this name, opened, or what stands there in its place.
     fn open_below(
@@ -207,7 +231,8 @@ pub trait System {
         ensures earlier { honest self.new → honest self.old }
         ensures opened { honest self.new
             → IsOpenedBelow (folders self.new) (holds self.new) above.now.identity name.now result }
-        ensures changes { changes self.new ≡ changes self.old };
+        ensures changes { changes self.new ≡ changes self.old }
+        ensures no_sync { synced self.new ≡ synced self.old };
 
     /// What stands at this name. No link is followed.
     fn look(&mut self, folder: &OpenFolder, name: &str) -> Result<Found, FolderFault>
@@ -217,7 +242,8 @@ pub trait System {
         ensures seen { honest self.new → IsSeen (holds self.new (name_in folder.now name.now)) result }
         ensures changes { changes self.new ≡ changes self.old }
         ensures looked { IfOk result
-            (λ found. looked self.new ≡ Some (record { place = name_in folder.now name.now; reported = found })) };
+            (λ found. looked self.new ≡ Some (record { place = name_in folder.now name.now; reported = found })) }
+        ensures no_sync { synced self.new ≡ synced self.old };
 
     /// Opens the regular file that was seen at this name just before, or gives nothing if something
     /// else has taken its place.
@@ -243,5 +269,6 @@ pub trait System {
         ensures earlier { honest self.new → honest self.old }
         ensures within { IfOk result (IsWithin limit) }
         ensures read { honest self.new → IsReadOf said limit (holds self.new (opened_at opened)) result }
-        ensures changes { changes self.new ≡ changes self.old };
+        ensures changes { changes self.new ≡ changes self.old }
+        ensures no_sync { synced self.new ≡ synced self.old };
 }

@@ -112,7 +112,8 @@ fn remove_folder_in<R: Files<File = File> + AllocGlobal>(
 }
 
 impl<R: Files<File = File> + AllocGlobal + Drop> System for HostSystem<R> {
-    ghost use Rattle.reuse_system.specs.SystemCalls.{changes_of, folders_after, held_after, looked_of, IsHonest};
+    ghost use Rattle.reuse_system.specs.SystemCalls.{changes_of, folders_after, held_after, looked_of, synced_of};
+    ghost use Rattle.reuse_system.specs.SystemCalls.{IsHonest};
 
     ghost holds = { λ system. held_after system.noted.files system.noted.effects system.noted.calls };
 
@@ -121,6 +122,8 @@ impl<R: Files<File = File> + AllocGlobal + Drop> System for HostSystem<R> {
     ghost looked = { λ system. looked_of system.noted.calls };
 
     ghost changes = { λ system. changes_of system.noted.calls };
+
+    ghost synced = { λ system. synced_of system.noted.calls };
 
     ghost honest = { λ system.
         IsHonest system.noted.folders system.noted.files system.noted.effects system.noted.calls };
@@ -178,6 +181,13 @@ impl<R: Files<File = File> + AllocGlobal + Drop> System for HostSystem<R> {
         let answer = remove_in(&self.rt, folder, name);
         let kind = CallKind::Remove(folder.identity(), answer.is_ok());
         self.noted.note(&kind, name.as_bytes(), b"");
+        answer
+    }
+
+    fn sync_folder(&mut self, folder: &OpenFolder) -> Result<(), FolderFault> {
+        let answer = folder.sync();
+        let kind = CallKind::SyncFolder(folder.identity(), answer.is_ok());
+        self.noted.note(&kind, b"", b"");
         answer
     }
 

@@ -40,6 +40,8 @@ pub enum CallKind {
     MakeFolder(Identity, bool),
     /// A folder in this one was to be removed.
     RemoveFolder(Identity, bool),
+    /// The names in this folder were to be made durable.
+    SyncFolder(Identity, bool),
 }
 
 /// What a record of the system's calls reports: the folders and the files at the start, the effects

@@ -29,4 +29,6 @@ loop-path-preserved g c =
       (λ honest. c.loop-path.invariant.2 (c.clear_folder.ensures.earlier honest)),
       (λ opened. c.clear_folder.ensures.opened (c.loop-path.invariant.3 opened)),
       c.clear_folder.ensures.syncs ∙ c.loop-path.invariant.4,
+      (λ folder noted. c.clear_folder.ensures.noted folder (c.loop-path.invariant.5 folder noted)),
+      c.clear_folder.ensures.no_sync ∙ c.loop-path.invariant.6,
     )

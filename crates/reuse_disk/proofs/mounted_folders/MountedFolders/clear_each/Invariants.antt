@@ -1,5 +1,6 @@
 use Rattle.std.proofs.Common.{◌≡◌}
 use Rattle.reuse_disk.specs.LeftFiles.{ClearsLeft}
+use Rattle.reuse_disk.specs.Noted.{StayNoted}
 use Rattle.reuse_disk.specs.OpenFolders.{AreOpenedIf}
 use Rattle.reuse_disk.proofs.mounted_folders.MountedFolders.clear_each.Given as goal
 
@@ -14,4 +15,6 @@ invariant-loop-path g l =
     (s.honest l.system → s.honest l.initial.system) ×
     (AreOpenedIf (s.honest l.fn.system) (s.folders l.fn.system) l.fn.open_folders
     → AreOpenedIf (s.honest l.system) (s.folders l.system) l.open_folders) ×
-    (l.unsynced.syncs ≡ l.fn.unsynced.syncs)
+    (l.unsynced.syncs ≡ l.fn.unsynced.syncs) ×
+    StayNoted l.fn.unsynced l.unsynced ×
+    (s.synced l.system ≡ s.synced l.fn.system)

@@ -30,6 +30,7 @@ loop-name-preserved g c =
           c.args.folder.now next (c.loop-name.invariant.5 right (c.open_below.ensures.earlier honest)) one
           (current_of c.step_into.new.self) (into honest) c.in_ok-step_into-in-Folder.ensures.current),
       c.open_below.ensures.changes ∙ c.loop-name.invariant.6,
+      c.open_below.ensures.no_sync ∙ c.loop-name.invariant.7,
     )
 
 pub returns-in-Other-clause-no_file : goal.returns-in-Other-clause-no_file

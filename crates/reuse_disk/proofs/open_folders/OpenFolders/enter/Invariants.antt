@@ -16,7 +16,8 @@ invariant-loop-name g l =
     → AreOpened (s.folders l.system) l.self) ×
     ((s.honest l.fn.system → AreOpened (s.folders l.fn.system) l.fn.self) → s.honest l.system
     → IsOnWay (s.folders l.system) (s.holds l.system) (current_of l.self) l.rest l.fn.folder) ×
-    (s.changes l.system ≡ s.changes l.fn.system)
+    (s.changes l.system ≡ s.changes l.fn.system) ×
+    (s.synced l.system ≡ s.synced l.fn.system)
 
 abbrev pub decreases-loop-name : goal.decreases-loop-name
 decreases-loop-name g l = length l.rest

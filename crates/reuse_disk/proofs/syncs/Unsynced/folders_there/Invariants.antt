@@ -1,4 +1,8 @@
-use Rattle.std.proofs.Common.{◌≡◌}
+use Rattle.std.proofs.Common.{◌≡◌, ◌++◌, map, string_bytes, true}
+use Rattle.std.specs.BTreeSet.{contains_text}
+use Rattle.std.specs.Map.Iter.{deref}
+use Rattle.reuse_disk.specs.Synced.{IsFoundAmong}
+use Rattle.reuse_disk.proofs.SyncLemmas.{EachText}
 use Rattle.reuse_disk.specs.OpenFolders.{AreOpenedIf}
 use Rattle.reuse_disk.proofs.syncs.Unsynced.folders_there.Given as goal
 
@@ -10,4 +14,9 @@ invariant-loop-folder g l =
     (s.honest l.system → s.honest l.fn.system) ×
     (AreOpenedIf (s.honest l.fn.system) (s.folders l.fn.system) l.fn.open_folders
     → AreOpenedIf (s.honest l.system) (s.folders l.system) l.open_folders) ×
-    (s.changes l.system ≡ s.changes l.fn.system)
+    (s.changes l.system ≡ s.changes l.fn.system) ×
+    (s.synced l.system ≡ s.synced l.fn.system) ×
+    (l.fn.self.folders.keys ≡ map deref l.yielded ++ l.folder-iterator) ×
+    (AreOpenedIf (s.honest l.fn.system) (s.folders l.fn.system) l.fn.open_folders → s.honest l.system
+    → EachText (λ key. string_bytes (deref key)) (IsFoundAmong (s.folders l.system) (s.holds l.system)
+    (λ path. contains_text l.there path ≡ true)) l.yielded)
