@@ -79,7 +79,7 @@ calls() {
   holds a.py "$mit\nx = 1\ny = 2\n"
 }
 
-# The REUSE.toml at the root: given, beneath the root, listed and left out
+# Each REUSE.toml: given, beneath a folder, listed and left out
 tables() {
   local change=(--replace-license MIT ISC)
   local head='version = 1 # MIT\n[[annotations]]\npath = "**" # "MIT"\n'
@@ -88,7 +88,8 @@ tables() {
   files REUSE.toml "$table" a.py "$mit" src/REUSE.toml "$table" src/b.py "$mit"
   cp "$tree/REUSE.toml" "$room/table"
   is "$(told "${change[@]}" -r . --dry-run)" "$(printf '%s\n' 'would change REUSE.toml' \
-    'would change a.py' 'would change src/b.py' 'status 0')" 'a dry run with a table'
+    'would change a.py' 'would change src/REUSE.toml' 'would change src/b.py' 'status 0')" \
+    'a dry run with tables'
   told "${change[@]}" --dry-run --diff REUSE.toml > "$room/diff"
   has_line "$room/diff" '-SPDX-License-Identifier = "MIT" # one'
   has_line "$room/diff" '+SPDX-License-Identifier = "ISC" # one'
@@ -101,20 +102,36 @@ tables() {
   "$program" --root "$tree" redo > "$room/out"
   holds REUSE.toml "$new"
   "$program" --root "$tree" undo > "$room/out"
-  is "$(told "${change[@]}" -r src)" $'changed src/b.py\nstatus 0' 'a folder beside the table'
-  is "$(told "${change[@]}" -r . --exclude REUSE.toml --exclude '*.py')" \
-    $'nothing changed\nstatus 0' 'a table that a glob leaves out'
+  is "$(told "${change[@]}" -r src --exclude src/REUSE.toml)" \
+    $'changed src/b.py\nstatus 0' 'a table of a folder that a glob leaves out'
+  is "$(told "${change[@]}" -r src)" $'changed src/REUSE.toml\nstatus 0' 'a folder with a table'
+  holds src/REUSE.toml "$new"
+  cmp "$tree/REUSE.toml" "$room/table" || fail 'the table above the folder changed'
+  "$program" --root "$tree" undo > "$room/out"
+  cmp "$tree/src/REUSE.toml" "$room/table" || fail 'the table of a folder is not taken back'
+  is "$(told "${change[@]}" -r . --exclude '**/REUSE.toml' --exclude '*.py')" \
+    $'nothing changed\nstatus 0' 'tables that a glob leaves out'
   is "$(echo a.py | told "${change[@]}" -r --files-from - .)" \
     $'changed a.py\nstatus 0' 'a list without the table'
-  is "$(printf 'REUSE.toml\nsrc/REUSE.toml\n' | told "${change[@]}" -r --files-from - .)" \
+  is "$(printf 'REUSE.toml\nsrc/gone.py\n' | told "${change[@]}" -r --files-from - .)" \
     $'changed REUSE.toml\nstatus 0' 'a list with the table'
   holds src/REUSE.toml "$table"
   is "$(told "${change[@]}" src/REUSE.toml)" \
-    $'reuse-undo: src/REUSE.toml: not covered\nstatus 1' 'a table in a folder'
+    $'changed src/REUSE.toml\nstatus 0' 'a table of a folder that is given'
+  holds src/REUSE.toml "$new"
+  files LICENSES/REUSE.toml "$table" .reuse/REUSE.toml "$table"
+  is "$(told "${change[@]}" -r .)" $'nothing changed\nstatus 0' 'tables where no file is covered'
+  is "$(told "${change[@]}" LICENSES/REUSE.toml)" \
+    $'reuse-undo: LICENSES/REUSE.toml: not covered\nstatus 1' 'a table among licence texts'
+  files REUSE.toml "$table" src/REUSE.toml "$table"
   is "$("$program" --root "$tree" annotate -l MIT REUSE.toml 2>&1)" \
     'reuse-undo: REUSE.toml: not covered' 'annotate of a table'
   is "$(told "${change[@]}" -r REUSE.toml)" $'nothing changed\nstatus 0' 'a table with --recursive'
   # What can't be amended leaves all as it is.
+  files src/REUSE.toml 'x\n' a.py "$mit"
+  is "$(told "${change[@]}" -r .)" \
+    $'reuse-undo: src/REUSE.toml: cannot be amended\nstatus 1' 'a table below that is no TOML'
+  holds a.py "$mit"
   files REUSE.toml '[[annotations]]\nSPDX-License-Identifier = """\nMIT"""\n' a.py "$mit"
   is "$(told "${change[@]}" -r .)" \
     $'reuse-undo: REUSE.toml: cannot be amended\nstatus 1' 'a string over lines'

@@ -1,15 +1,15 @@
 """What amend does at each path of a tree, told once more by docs/RULES.md alone."""
 import tables
-from retelling import STYLES, Refused, amend_file, amend_neighbour, is_covered, is_text, style_of
-
-TABLE = "REUSE.toml"
+from retelling import (
+    STYLES, Refused, amend_file, amend_neighbour, is_covered, is_table, is_text, style_of,
+)
 
 
 def made_of(tree, path, amendments, style, own):
     """The path that is written for a file, and its bytes."""
     place = path + ".license" if path + ".license" in tree else path
     name = style or style_of(path, own)
-    if path == TABLE:
+    if is_table(path):
         return path, tables.amend_table(tree[path], amendments)
     if place != path:
         return place, amend_neighbour(tree[place], amendments)
@@ -21,7 +21,7 @@ def made_of(tree, path, amendments, style, own):
 def outcomes(tree, amendments, style=None, own={}):
     """For each file that is gone through, in byte order: its path, and the path that changes and
     its bytes, or None, or a refusal."""
-    worked = [path for path in tree if is_covered(path) or path == TABLE]
+    worked = [path for path in tree if is_covered(path) or is_table(path)]
     for path in sorted(worked, key=str.encode):
         try:
             place, made = made_of(tree, path, amendments, style, own)

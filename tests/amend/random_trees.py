@@ -181,8 +181,10 @@ def tree_of(chance):
     if chance.random() < 0.4:
         tree["REUSE.toml"] = table_of(chance)
         if chance.random() < 0.1:
-            tree["src/REUSE.toml"] = tree["REUSE.toml"]
             tree["REUSE.toml.license"] = file_of(chance, contents(chance))
+    for folder in "src", "src/deep", "LICENSES":
+        if chance.random() < 0.1:
+            tree[f"{folder}/REUSE.toml"] = table_of(chance)
     return tree, own
 
 

@@ -430,11 +430,18 @@ def amend_neighbour(file, amendments):
 
 # ---- trees
 
+def is_outside(path):
+    return path.split("/")[0] in ("LICENSES", ".reuse", ".git")
+
+
+def is_table(path):
+    return path.split("/")[-1] == "REUSE.toml" and not is_outside(path)
+
+
 def is_covered(path):
-    parts = path.split("/")
-    name = parts[-1]
+    name = path.split("/")[-1]
     return not (
-        parts[0] in ("LICENSES", ".reuse", ".git")
+        is_outside(path)
         or name.endswith((".license", ".spdx"))
         or name == "REUSE.toml"
         or re.match(r"(LICENSE|LICENCE|COPYING)(\Z|[.-])", name)

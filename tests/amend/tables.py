@@ -1,4 +1,4 @@
-"""What amend makes of the REUSE.toml at the root, told once more by docs/RULES.md alone. The tags
+"""What amend makes of a REUSE.toml, told once more by docs/RULES.md alone. The tags
 below are data: REUSE-IgnoreStart"""
 import re
 import tomllib

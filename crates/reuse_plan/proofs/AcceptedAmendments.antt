@@ -1,10 +1,9 @@
 -- Where amend is accepted on a tree.
 use Rattle.std.proofs.Common.{◌≡◌, ◌↔◌, inl, inr, ℕ, Bool, true, false, cond, not, ◌&&◌, nat_lt, List, length, Option}
-use Rattle.std.proofs.Common.{Some, None, Result, Ok, Err, refl, sym, ap, subst, ◌∙◌, IsOk, bytes_eq}
+use Rattle.std.proofs.Common.{Some, None, Result, Ok, Err, refl, sym, ap, subst, ◌∙◌, IsOk}
 use Rattle.reuse_command.specs.Reading.{get, Files}
 use Rattle.std.proofs.lemmas.Bool.{false≢true, ltb-false, le-ltb}
 use Rattle.std.proofs.lemmas.Option.{none-some, same_Some}
-use Rattle.std.proofs.lemmas.Slice.Eq.{bytes_eq-Decides}
 use Rattle.reuse_text.specs.declared.TheConstants.{LONGEST_FILE}
 use Rattle.reuse_amend.specs.declared.amendments.Amendments.{Amendments}
 use Rattle.reuse_notice.proofs.SetLemmas.{In-from_contains, Contains-from_in}
@@ -25,11 +24,11 @@ use Rattle.reuse_plan.specs.AmendmentPlan.{Expected}
 use Rattle.reuse_plan.specs.Annotate.{neighbour_of}
 use Rattle.reuse_plan.specs.Annotated.{IsStyleOf}
 use Rattle.reuse_command.specs.Command.{has_root}
-use Rattle.reuse_plan.specs.Conversion.{toml_path}
+use Rattle.reuse_plan.specs.Tables.{is_table}
 use Rattle.reuse_command.specs.Covered.{is_covered}
 use Rattle.reuse_plan.specs.Outcome.{Edit, outcome_of, edits_of}
 use Rattle.reuse_plan.specs.TreeStyles.{OwnNames, styles_in}
-use Rattle.reuse_plan.specs.Selected.{amended_paths, with_table}
+use Rattle.reuse_plan.specs.Selected.{amended_paths}
 use Rattle.reuse_command.specs.declared.command.Command.TheVariants.{Amend}
 use Rattle.reuse_command.specs.declared.command.Place.{Place}
 use Rattle.reuse_command.specs.declared.command.Place.TheVariants as place
@@ -38,14 +37,13 @@ use Rattle.reuse_command.specs.declared.reply.Refusal.{Refusal}
 use Rattle.reuse_command.specs.declared.reply.Refusal.TheVariants as refusals
 use Rattle.reuse_plan.proofs.AcceptedFiles.{IsDone, done_nothing, done_rest, done_by}
 use Rattle.reuse_plan.proofs.AnnotationPathOutcomes.{all_at, root_from_test, test_from_root}
-use Rattle.reuse_plan.proofs.AmendedPlaces.{same_root}
 use Rattle.reuse_plan.proofs.AmendedFiles.{KeepsBlock, KeepsNeighbour, style_reason}
 use Rattle.reuse_plan.proofs.AmendedTrees.{each_done}
 use Rattle.reuse_plan.proofs.Annotating.{both_err}
 use Rattle.reuse_plan.proofs.Outcomes.{edits_of_tree, done, held, tree_comes}
 use Rattle.reuse_plan.proofs.Results.{err_or}
 use Rattle.reuse_plan.proofs.CommandEdits.{edits_at, amendments_by_names, amendment_edits, of_amendment}
-use Rattle.reuse_plan.proofs.TableLemmas.{not_table, is_table}
+use Rattle.reuse_plan.proofs.TableLemmas.{not_table}
 
 not_false : (b : Bool) → not b ≡ false → b ≡ true
 not_false true e = refl
@@ -73,7 +71,7 @@ style_is scope own path style (inl asked) = ap (λ o. style_or_named o (kind_in 
 style_is scope own path style (inr named) =
     ap (λ o. style_or_named o (kind_in own path)) named.0 ∙ ap (style_or_named None) named.1
 
--- the `REUSE.toml`: what the rules accept is done, and what is done they accept
+-- a table: what the rules accept is done, and what is done they accept
 table_done : (path bytes : List ℕ) (expected : Result (Option TomlSplice) AmendTomlRefusal)
     → IsOk (amended_table bytes expected) → IsDone (table_amendment path bytes expected)
 table_done path bytes (Ok None) is = (None, refl)
@@ -87,7 +85,7 @@ table_accepted path bytes (Ok (Some change)) given h = refl
 table_accepted path bytes (Err refusal) given h = absurd (cc)
 
 module _ (amendments : Amendments) (scope : Scope) (own : OwnNames) (tree : Files) (path : List ℕ) where
-  -- the `REUSE.toml`, or another file
+  -- a table, or another file
   abbrev by_path : List ℕ → Bool → Result (Option Edit) Refusal
   by_path bytes table = cond table (amend_table amendments path bytes) (cond (not (is_covered path))
       (Err (refusals.NotCovered path)) (amend_covered amendments scope own path bytes (get tree (neighbour_of path))))
@@ -114,16 +112,14 @@ module _ (amendments : Amendments) (scope : Scope) (own : OwnNames) (tree : File
       by_text true e = done_rest _ _ _ (ap not e)
           (amendment_done path path bytes (amendment_of style amendments bytes) ((can style refl).accepted e))
 
-  table_is_done : path ≡ toml_path → CanTableBeAmended amendments tree
-      → IsDone (amended_at amendments scope own tree path)
-  table_is_done same can =
+  table_is_done : CanTableBeAmended amendments tree path → IsDone (amended_at amendments scope own tree path)
+  table_is_done can =
       let here = done_rest (nat_lt LONGEST_FILE (length can.bytes)) (Err (refusals.TooLong path))
       (table_amendment path can.bytes (toml_amendment_of amendments can.bytes)) (le-ltb LONGEST_FILE
       (length can.bytes) can.short)
       (table_done path can.bytes (toml_amendment_of amendments can.bytes) can.accepted) in (
         here.0,
-        ap (amended_where amendments scope own tree path) (ap (get tree) same ∙ can.there)
-            ∙ ap (by_path can.bytes) (is_table path same) ∙ here.1,
+        ap (amended_where amendments scope own tree path) can.there ∙ ap (by_path can.bytes) can.table ∙ here.1,
       )
 
   covered_is_done : CanCoveredBeAmended amendments scope own tree path
@@ -144,17 +140,18 @@ module _ (amendments : Amendments) (scope : Scope) (own : OwnNames) (tree : File
 
   pub amendable_is_done : CanBeAmended amendments scope own tree path
       → IsDone (amended_at amendments scope own tree path)
-  amendable_is_done can = elim can [ inl table ↦ table_is_done table.0 table.1 | inr covered ↦ covered_is_done covered ]
+  amendable_is_done can = elim can [ inl table ↦ table_is_done table | inr covered ↦ covered_is_done covered ]
 
   -- ---- what is done is accepted
 
-  table_can : (bytes : List ℕ) (given : Option Edit) → get tree path ≡ Some bytes → path ≡ toml_path
-      → amend_table amendments path bytes ≡ Ok given → CanTableBeAmended amendments tree
-  table_can bytes given here same h =
+  table_can : (bytes : List ℕ) (given : Option Edit) → get tree path ≡ Some bytes → is_table path ≡ true
+      → amend_table amendments path bytes ≡ Ok given → CanTableBeAmended amendments tree path
+  table_can bytes given here table h =
       let short = err_or (nat_lt LONGEST_FILE (length bytes)) (refusals.TooLong path) _ given h in
       record {
         bytes = bytes;
-        there = ap (get tree) (sym same) ∙ here;
+        there = here;
+        table = table;
         short = ltb-false LONGEST_FILE (length bytes) short.0;
         accepted = table_accepted path bytes (toml_amendment_of amendments bytes) given short.1;
       }
@@ -206,12 +203,11 @@ module _ (amendments : Amendments) (scope : Scope) (own : OwnNames) (tree : File
             (sym (ap (amend_inside amendments path bytes) (style_is scope own path style styled)) ∙ e);
       }
 
-      of_path : (bytes : List ℕ) → get tree path ≡ Some bytes → (b : Bool) → bytes_eq path toml_path ≡ b
+      of_path : (bytes : List ℕ) → get tree path ≡ Some bytes → (b : Bool) → is_table path ≡ b
           → cond b (amend_table amendments path bytes) (cond (not (is_covered path)) (Err (refusals.NotCovered path))
           (amend_covered amendments scope own path bytes (get tree (neighbour_of path)))) ≡ Ok given
           → CanBeAmended amendments scope own tree path
-      of_path bytes is true t e = let same = (bytes_eq-Decides path toml_path).0 t in
-          inl (same, table_can bytes given is same e)
+      of_path bytes is true t e = inl (table_can bytes given is t e)
       of_path bytes is false t e =
           let k = err_or (not (is_covered path)) (refusals.NotCovered path) _ given e in
           inr (of_neighbour bytes (get tree (neighbour_of path)) is (not_false (is_covered path) k.0) refl k.1)
@@ -220,13 +216,13 @@ module _ (amendments : Amendments) (scope : Scope) (own : OwnNames) (tree : File
           → amended_where amendments scope own tree path file ≡ Ok given → CanBeAmended amendments scope own tree path
       of_file None is e = absurd
           (both_err (is_folder tree path) (refusals.IsFolder (place.Path path)) (refusals.NoSuchPath path) given e)
-      of_file (Some bytes) is e = of_path bytes is (bytes_eq path toml_path) refl e
+      of_file (Some bytes) is e = of_path bytes is (is_table path) refl e
 
 -- ---- the tree
 
 module _ (places : List Place) (amendments : Amendments) (scope : Scope) (tree : Files) where
   abbrev by_names : Result OwnNames Refusal → Result (List Edit) Refusal
-  by_names styles = amendments_by_names (with_table scope places tree) amendments scope tree styles
+  by_names styles = amendments_by_names places amendments scope tree styles
 
   accepts : KeepsBlock → KeepsNeighbour → (edits : List Edit) (styles : Result OwnNames Refusal)
       → styles_in tree ≡ styles → by_names styles ≡ Ok edits → FitsEntry (Amend places amendments scope) tree
@@ -235,13 +231,12 @@ module _ (places : List Place) (amendments : Amendments) (scope : Scope) (tree :
   accepts keeps_block keeps_neighbour edits (Ok own) is h fits =
       let at = amended_at amendments scope own tree in
       let paths = amended_paths scope places tree in
-      let parts = err_or (not scope.recursive && has_root (with_table scope places tree)) (refusals.IsFolder place.Root)
+      let parts = err_or (not scope.recursive && has_root places) (refusals.IsFolder place.Root)
       (edits_at at paths) edits h in
       record {
         own = own;
         styles = is;
-        root = root_from_test scope.recursive (has_root places)
-            (ap (λ b. not scope.recursive && b) (sym (same_root scope places tree)) ∙ parts.0);
+        root = root_from_test scope.recursive (has_root places) parts.0;
         each = λ path there. done_is_amendable amendments scope own tree path (each_done keeps_block keeps_neighbour
             amendments scope own tree paths edits parts.1 path (In-from_contains paths path there));
         fits = fits;
@@ -256,8 +251,7 @@ module _ (places : List Place) (amendments : Amendments) (scope : Scope) (tree :
       (can.each path (Contains-from_in paths path there))) in (
         all.0,
         ap by_names can.styles ∙ ap (λ b. cond b (Err (refusals.IsFolder place.Root)) (edits_at at paths))
-            (ap (λ b. not scope.recursive && b) (same_root scope places tree)
-            ∙ test_from_root scope.recursive (has_root places) can.root) ∙ all.1,
+            (test_from_root scope.recursive (has_root places) can.root) ∙ all.1,
       )
 
   pub amend_accepted : KeepsBlock → KeepsNeighbour

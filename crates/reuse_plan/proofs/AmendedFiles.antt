@@ -1,11 +1,10 @@
 -- Where amend isn't refused at a path, its file and the neighbour become what the rules say of them.
 use Rattle.std.proofs.Common.{◌≡◌, ◌⊎◌, inl, inr, ℕ, Bool, true, false, cond, not, nat_lt, List, ◌++◌, length, take}
-use Rattle.std.proofs.Common.{drop, Option, Some, None, Ok, Err, refl, sym, ap, ap₂, subst, ◌∙◌, Result, bytes_eq}
+use Rattle.std.proofs.Common.{drop, Option, Some, None, Ok, Err, refl, sym, ap, ap₂, subst, ◌∙◌, Result}
 use Rattle.std.specs.Option.{option_map, option_map_or}
 use Rattle.reuse_command.specs.Reading.{get, Files}
 use Rattle.std.proofs.lemmas.Bool.{not-false}
 use Rattle.std.proofs.lemmas.Option.{same_Some}
-use Rattle.std.proofs.lemmas.Slice.Eq.{bytes_eq-Decides}
 use Rattle.reuse_text.specs.Text.{mark_len_of, spliced}
 use Rattle.reuse_text.specs.declared.TheConstants.{LONGEST_FILE}
 use Rattle.reuse_amend.specs.declared.amendments.Amendments.{Amendments}
@@ -31,7 +30,7 @@ use Rattle.reuse_plan.specs.Amended.{IsAmended}
 use Rattle.reuse_plan.specs.AmendmentPlan.{Expected}
 use Rattle.reuse_plan.specs.Annotate.{neighbour_of}
 use Rattle.reuse_plan.specs.Annotated.{IsSameAround, IsStyleOf, HasKind, pair_at}
-use Rattle.reuse_plan.specs.Conversion.{toml_path}
+use Rattle.reuse_plan.specs.Tables.{is_table}
 use Rattle.reuse_command.specs.Covered.{is_covered}
 use Rattle.reuse_plan.specs.Edit.{Edit}
 use Rattle.reuse_plan.specs.TreeStyles.{OwnNames}
@@ -82,7 +81,7 @@ amendment_makes path at bytes (Ok (Some edit)) given h =
     }
 amendment_makes path at bytes (Err refusal) given h = absurd (cc)
 
--- ---- the `REUSE.toml`
+-- ---- a table
 
 -- what is made of its bytes: those that were there, or those that a change makes
 record MakesTable (amendments : Amendments) (at bytes : List ℕ) (given : Option Edit) : Type 0 where
@@ -255,13 +254,13 @@ module _ (keeps_block : KeepsBlock) (keeps_neighbour : KeepsNeighbour) where
         → IsAmended amendments scope own path (pair_at tree path) (pair_then tree given path)
     of_file None is h =
         absurd (both_err (is_folder tree path) (refusals.IsFolder (place.Path path)) (refusals.NoSuchPath path) given h)
-    of_file (Some bytes) is h = by_path (bytes_eq path toml_path) refl h
+    of_file (Some bytes) is h = by_path (is_table path) refl h
       where
-        by_path : (b : Bool) → bytes_eq path toml_path ≡ b
+        by_path : (b : Bool) → is_table path ≡ b
             → cond b (amend_table amendments path bytes) (cond (not (is_covered path)) (Err (refusals.NotCovered path))
             (amend_covered amendments scope own path bytes (get tree (neighbour_of path)))) ≡ Ok given
             → IsAmended amendments scope own path (pair_at tree path) (pair_then tree given path)
-        by_path true t e = inl ((bytes_eq-Decides path toml_path).0 t, table bytes is e)
+        by_path true t e = inl (t, table bytes is e)
         by_path false t e =
             let covered = err_or (not (is_covered path)) (refusals.NotCovered path)
             (amend_covered amendments scope own path bytes (get tree (neighbour_of path))) given e in

@@ -12,7 +12,7 @@ use Rattle.reuse_plan.specs.Annotated.{Pair, pair_at}
 use Rattle.reuse_command.specs.Command.{has_root}
 use Rattle.reuse_plan.specs.Outcome.{Edit, edited, outcome_of, edits_of}
 use Rattle.reuse_plan.specs.TreeStyles.{OwnNames, styles_in}
-use Rattle.reuse_plan.specs.Selected.{amended_paths, with_table}
+use Rattle.reuse_plan.specs.Selected.{amended_paths}
 use Rattle.reuse_command.specs.declared.command.Command.TheVariants.{Amend}
 use Rattle.reuse_command.specs.declared.command.Place.{Place}
 use Rattle.reuse_command.specs.declared.command.Place.TheVariants as place
@@ -22,7 +22,7 @@ use Rattle.reuse_command.specs.declared.reply.Refusal.TheVariants as refusals
 use Rattle.reuse_plan.proofs.AmendedFiles.{KeepsBlock, KeepsNeighbour, amended_there}
 use Rattle.reuse_plan.proofs.AnnotatedFiles.{pair}
 use Rattle.reuse_plan.proofs.Annotating.{if_not}
-use Rattle.reuse_plan.proofs.Choosing.{selected_ascend}
+use Rattle.reuse_plan.proofs.AmendedPlaces.{amended_ascend}
 use Rattle.reuse_plan.proofs.Fitting.{amendment_placed}
 use Rattle.reuse_plan.proofs.OneAnnotation.{Found, Lacking, searched}
 use Rattle.reuse_plan.proofs.PlacedEdits as placed_edits
@@ -59,7 +59,7 @@ module _ (keeps_block : KeepsBlock) (keeps_neighbour : KeepsNeighbour) (amendmen
     styles = styles;
     selected = λ path there.
         let is = placed_edits.all_done at tree placed workable_of (amended_paths scope places tree) edits h
-        (selected_ascend scope (with_table scope places tree) tree) path
+        (amended_ascend scope places tree) path
         (In-from_contains (amended_paths scope places tree) path there) in
         subst (IsAmended amendments scope own path (pair_at tree path))
         (sym (ap₂ pair (is.2 path (inl refl)) (is.2 (neighbour_of path) (inr refl))))
@@ -73,12 +73,12 @@ module _ (keeps_block : KeepsBlock) (keeps_neighbour : KeepsNeighbour) (amendmen
 module _ (keeps_block : KeepsBlock) (keeps_neighbour : KeepsNeighbour) (places : List Place) (amendments : Amendments)
     (scope : Scope) (tree : Files) where
   by_names : (edits : List Edit) (styles : Result OwnNames Refusal) → styles_in tree ≡ styles
-      → amendments_by_names (with_table scope places tree) amendments scope tree styles ≡ Ok edits
+      → amendments_by_names places amendments scope tree styles ≡ Ok edits
       → Amends places amendments scope tree (edited tree edits)
   by_names edits (Err refusal) is h = absurd (cc)
   by_names edits (Ok own) is h =
       amended_tree keeps_block keeps_neighbour amendments scope own tree places edits is
-      (if_not (not scope.recursive && has_root (with_table scope places tree)) (refusals.IsFolder place.Root)
+      (if_not (not scope.recursive && has_root places) (refusals.IsFolder place.Root)
       (edits_at (amended_at amendments scope own tree) (amended_paths scope places tree)) edits h)
 
   pub amends : (after : Files) → outcome_of (Amend places amendments scope) tree ≡ Ok after

@@ -1,9 +1,8 @@
--- The edit of an amendment: it is of a covered file that is there, or of its neighbour that is, or of the `REUSE.toml`.
+-- The edit of an amendment: it is of a covered file that is there, or of its neighbour that is, or of a table.
 use Rattle.std.proofs.Common.{◌≡◌, ◌⊎◌, inl, inr, ℕ, ◌≤◌, Bool, true, false, not, nat_lt, List, length, Option, Some}
-use Rattle.std.proofs.Common.{None, IsSome, is_some, Result, Ok, Err, refl, sym, ap, cond, ◌∙◌, bytes_eq}
+use Rattle.std.proofs.Common.{None, IsSome, is_some, Result, Ok, Err, refl, sym, ap, cond, ◌∙◌}
 use Rattle.reuse_command.specs.Reading.{get, Files}
 use Rattle.std.proofs.lemmas.Bool.{false≢true, ltb-false}
-use Rattle.std.proofs.lemmas.Slice.Eq.{bytes_eq-Decides}
 use Rattle.reuse_amend.specs.declared.amendments.Amendments.{Amendments}
 use Rattle.reuse_toml.specs.TomlAmending.{toml_amendment_of}
 use Rattle.reuse_header.specs.declared.amendment.AmendHeaderRefusal.{AmendHeaderRefusal}
@@ -16,7 +15,7 @@ use Rattle.reuse_change.specs.Listing.{is_folder}
 use Rattle.reuse_plan.specs.Amend.{style_for, amendment_edit, amend_neighbour, amend_inside, amend_covered}
 use Rattle.reuse_plan.specs.Amend.{table_amendment, amend_table, amended_where, amended_at}
 use Rattle.reuse_plan.specs.Annotate.{neighbour_of, edit_by}
-use Rattle.reuse_plan.specs.Conversion.{toml_path}
+use Rattle.reuse_plan.specs.Tables.{is_table}
 use Rattle.reuse_command.specs.Covered.{is_covered}
 use Rattle.reuse_plan.specs.Edit.{Edit}
 use Rattle.reuse_plan.specs.TreeStyles.{OwnNames}
@@ -50,10 +49,10 @@ pub record IsBeside (amendments : Amendments) (path at bytes : List ℕ) (one : 
   pub short : nat_lt LONGEST_FILE (length bytes) ≡ false
   pub amends : neighbour_amendment_of amendments bytes ≡ Ok (Some one)
 
--- the `REUSE.toml`
+-- a table
 pub record IsTable (path at : List ℕ) : Type 0 where
   pub same : at ≡ path
-  pub table : path ≡ toml_path
+  pub table : is_table path ≡ true
 
 pub record AmendsThere (amendments : Amendments) (scope : Scope) (own : OwnNames) (tree : Files) (path : List ℕ)
     (edit : Edit) : Type 0 where
@@ -134,7 +133,7 @@ module _ (amendments : Amendments) (scope : Scope) (own : OwnNames) (tree : File
   of_covered bytes (Some beside) here covered is e = of_neighbour beside (ap is_some here) covered is e
   of_covered bytes None here covered is e = of_inside bytes (style_for scope own path) here covered is refl e
 
-  of_table : (bytes : List ℕ) → get tree path ≡ Some bytes → path ≡ toml_path
+  of_table : (bytes : List ℕ) → get tree path ≡ Some bytes → is_table path ≡ true
       → amend_table amendments path bytes ≡ some_edit edit → Here
   of_table bytes here table e =
       let short = err_or (nat_lt LONGEST_FILE (length bytes)) (refusals.TooLong path)
@@ -155,12 +154,12 @@ module _ (amendments : Amendments) (scope : Scope) (own : OwnNames) (tree : File
       → amended_where amendments scope own tree path file ≡ some_edit edit → Here
   of_file None is e = absurd
       (both_err (is_folder tree path) (refusals.IsFolder (place.Path path)) (refusals.NoSuchPath path) (Some edit) e)
-  of_file (Some bytes) is e = by_table (bytes_eq path toml_path) refl e
+  of_file (Some bytes) is e = by_table (is_table path) refl e
     where
-      by_table : (table : Bool) → bytes_eq path toml_path ≡ table → cond table (amend_table amendments path bytes)
+      by_table : (table : Bool) → is_table path ≡ table → cond table (amend_table amendments path bytes)
           (cond (not (is_covered path)) (Err (refusals.NotCovered path))
           (amend_covered amendments scope own path bytes (get tree (neighbour_of path)))) ≡ some_edit edit → Here
-      by_table true t h = of_table bytes is ((bytes_eq-Decides path toml_path).0 t) h
+      by_table true t h = of_table bytes is t h
       by_table false t h =
           let k = err_or (not (is_covered path)) (refusals.NotCovered path)
           (amend_covered amendments scope own path bytes (get tree (neighbour_of path))) (Some edit) h in

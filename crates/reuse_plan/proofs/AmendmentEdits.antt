@@ -1,6 +1,6 @@
 -- The change of a place, by what an amendment makes of its bytes.
 use Rattle.std.proofs.Common.{◌≡◌, ℕ, ◌+◌, ◌≤◌, Bool, true, false, cond, not, List, length, nat_lt, Option, Some, None}
-use Rattle.std.proofs.Common.{IsSome, Result, Ok, Err, refl, ap, ◌∙◌, bytes_eq}
+use Rattle.std.proofs.Common.{IsSome, Result, Ok, Err, refl, ap, ◌∙◌}
 use Rattle.reuse_command.specs.Reading.{get, Files}
 use Rattle.std.proofs.lemmas.Bool.{false≢true}
 use Rattle.reuse_toml.specs.TomlAmending.{toml_amendment_of}
@@ -19,7 +19,7 @@ use Rattle.reuse_plan.specs.Amend.{table_amendment}
 use Rattle.reuse_plan.specs.AmendmentPlan.{Expected, Fits, names_of, amended_by, style_by, beside_by, inside_by}
 use Rattle.reuse_plan.specs.AmendmentPlan.{table_by}
 use Rattle.reuse_plan.specs.Annotate.{neighbour_of}
-use Rattle.reuse_plan.specs.Conversion.{toml_path}
+use Rattle.reuse_plan.specs.Tables.{is_table}
 use Rattle.reuse_command.specs.Covered.{is_covered}
 use Rattle.reuse_plan.specs.Edit.{Edit}
 use Rattle.reuse_plan.specs.Plan.{IsRefusalOf}
@@ -106,17 +106,17 @@ module _ (asked : Amendment) (tree : Files) (path : List ℕ) where
   abbrev covered_by : List ℕ → Option (List ℕ) → Result (Option Edit) Refusal
   covered_by bytes beside = amend_covered asked.amendments.now asked.scope.now (names_of asked) path bytes beside
 
-  -- it is the `REUSE.toml`, or another file
+  -- it is a table, or another file
   abbrev by_file : List ℕ → Bool → Result (Option Edit) Refusal
   by_file bytes table = cond table (amend_table asked.amendments.now path bytes) (cond (not (is_covered path))
       (refused (refusals.NotCovered path)) (covered_by bytes (get tree (neighbour_of path))))
 
-  pub goes_to_table : (bytes : List ℕ) → get tree path ≡ Some bytes → bytes_eq path toml_path ≡ true
+  pub goes_to_table : (bytes : List ℕ) → get tree path ≡ Some bytes → is_table path ≡ true
       → amended_by asked tree path ≡ table_by asked path bytes
   goes_to_table bytes here table =
       ap (amended_where asked.amendments.now asked.scope.now (names_of asked) tree path) here ∙ ap (by_file bytes) table
 
-  pub uncovered_is : (file : Option (List ℕ)) → IsSome file → bytes_eq path toml_path ≡ false → is_covered path ≡ false
+  pub uncovered_is : (file : Option (List ℕ)) → IsSome file → is_table path ≡ false → is_covered path ≡ false
       → amended_where asked.amendments.now asked.scope.now (names_of asked) tree path file ≡ refused
       (refusals.NotCovered path)
   uncovered_is None some other e = absurd (false≢true some)

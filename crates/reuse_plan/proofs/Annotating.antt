@@ -16,7 +16,7 @@ use Rattle.reuse_command.specs.declared.failure.Failure.TheVariants as failures
 use Rattle.reuse_command.specs.declared.reply.Refusal.TheVariants as refusals
 use Rattle.reuse_command.specs.declared.command.Place.TheVariants as place
 use Rattle.reuse_change.specs.Tree.{is_of_tree}
-use Rattle.reuse_command.specs.Covered.{is_in, is_covered}
+use Rattle.reuse_command.specs.Covered.{is_in, is_outside}
 use Rattle.reuse_change.specs.Listing.{is_among, is_folder_of}
 use Rattle.reuse_plan.specs.Outcome.{Edit, edited, tree_after}
 use Rattle.reuse_plan.specs.Amend.{amended_where, amended_at}
@@ -60,22 +60,22 @@ pub both_err : {A : Type 0} (b : Bool) (r s : Refusal) (x : A) → cond b (Err r
 both_err true r s x e = absurd (cc)
 both_err false r s x e = absurd (cc)
 
--- ---- covered paths are of the tree
+-- ---- paths that are in no folder whose files are not covered are of the tree
 
-pub starts_reuse : (path : List ℕ) → is_covered path ≡ true → is_in (codes ".reuse") path ≡ false
+pub starts_reuse : (path : List ℕ) → is_outside path ≡ false → is_in (codes ".reuse") path ≡ false
 starts_reuse path h =
-    of_tests (is_in (codes "LICENSES") path) (is_in (codes ".reuse") path) (is_in (codes ".git") path) _ h
+    of_tests (is_in (codes "LICENSES") path) (is_in (codes ".reuse") path) (is_in (codes ".git") path) h
   where
-    of_tests : (a b c d : Bool) → (not (a || b || c) && d) ≡ true → b ≡ false
-    of_tests a false c d h = refl
-    of_tests true true c d h = absurd (false≢true h)
-    of_tests false true c d h = absurd (false≢true h)
+    of_tests : (a b c : Bool) → (a || b || c) ≡ false → b ≡ false
+    of_tests a false c h = refl
+    of_tests true true c h = absurd (false≢true (sym h))
+    of_tests false true c h = absurd (false≢true (sym h))
 
 pub and_all : (a b c : Bool) → a ≡ false → b ≡ false → c ≡ false → (not a && not b && not c) ≡ true
 and_all a b c e f g = rw (e, f, g)
 
-pub covered_of_tree : (path : List ℕ) → is_covered path ≡ true → is_of_tree path ≡ true
-covered_of_tree path h =
+pub inside_of_tree : (path : List ℕ) → is_outside path ≡ false → is_of_tree path ≡ true
+inside_of_tree path h =
     let out = starts_reuse path h in
     and_all (bytes_eq path (codes ".reuse")) (bytes_eq path journal_folder) (lies_under path journal_folder)
     (false_from_ne_true _

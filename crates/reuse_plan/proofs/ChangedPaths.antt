@@ -31,10 +31,9 @@ use Rattle.reuse_plan.specs.Outcome.{edits_of, with_file, edited, path_edits_of,
 use Rattle.reuse_plan.specs.Reverting.{taken_back_on, taken_back_unless, stands_as_written, is_short, put_back}
 use Rattle.reuse_plan.specs.Reverting.{taken_back}
 use Rattle.reuse_plan.specs.TreeStyles.{OwnNames, styles_in}
-use Rattle.reuse_plan.specs.Selected.{with_table, selected_paths}
+use Rattle.reuse_plan.specs.Selected.{amended_paths, selected_paths}
 use Rattle.reuse_command.specs.declared.command.Command.{Command}
 use Rattle.reuse_command.specs.declared.command.Command.TheVariants.{Annotate, Amend, ConvertDep5, Download, Revert}
-use Rattle.reuse_command.specs.declared.command.Place.{Place}
 use Rattle.reuse_command.specs.declared.command.Place.TheVariants as place
 use Rattle.reuse_command.specs.declared.command.Scope.{Scope}
 use Rattle.reuse_command.specs.declared.licence.LicenceText.{LicenceText}
@@ -177,20 +176,20 @@ module _
             (if_not (not scope.recursive && has_root places) (refusals.IsFolder place.Root)
             (edits_at (annotated_at how scope additions own tree) (selected_paths scope places tree)) edits e)
     each_edit (Amend places amendments scope) edits wanted h =
-        by_styles (with_table scope places tree) (styles_in tree) (sym (of_amendment places amendments scope tree) ∙ h)
+        by_styles (styles_in tree) (sym (of_amendment places amendments scope tree) ∙ h)
       where
         of_amended : (own : OwnNames) (path : List ℕ) (edit : Edit)
             → amended_at amendments scope own tree path ≡ some_edit edit → P edit
         of_amended own path edit e = let h = amends_there amendments scope own tree path edit e in
             there path h.at h.bytes (Ok h.one) edit h.here h.by
 
-        by_styles : (places : List Place) (styles : Result OwnNames Refusal)
+        by_styles : (styles : Result OwnNames Refusal)
             → amendments_by_names places amendments scope tree styles ≡ Ok edits → AllByRecursion P edits
-        by_styles places (Err refusal) e = absurd (cc)
-        by_styles places (Ok own) e =
-            all_edits (amended_at amendments scope own tree) P (of_amended own) (selected_paths scope places tree) edits
+        by_styles (Err refusal) e = absurd (cc)
+        by_styles (Ok own) e =
+            all_edits (amended_at amendments scope own tree) P (of_amended own) (amended_paths scope places tree) edits
             (if_not (not scope.recursive && has_root places) (refusals.IsFolder place.Root)
-            (edits_at (amended_at amendments scope own tree) (selected_paths scope places tree)) edits e)
+            (edits_at (amended_at amendments scope own tree) (amended_paths scope places tree)) edits e)
     each_edit ConvertDep5 edits wanted h = of_converted edits (sym (of_conversion tree) ∙ h)
     each_edit (Download ids texts) edits wanted h = of_downloaded ids texts edits (sym (of_download ids texts tree) ∙ h)
     each_edit (Revert changes touched skip_moved) edits wanted h =

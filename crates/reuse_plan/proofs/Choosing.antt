@@ -18,14 +18,13 @@ use Rattle.reuse_notice.proofs.ClassLemmas.{In-append, In-left, In-right}
 use Rattle.reuse_notice.proofs.SetLemmas.{In, In-from_contains, Contains-from_in, In-set_of, set_of-has, sorted-set_of}
 use Rattle.reuse_change.specs.Path.{lies_under, folders_above}
 use Rattle.reuse_change.specs.Files.{Files, AreFiles}
-use Rattle.reuse_command.specs.Choice.{leaves_out, is_listed, matches_one, is_chosen, is_passed_over, lists_none}
-use Rattle.reuse_command.specs.Choice.{matches_folder}
+use Rattle.reuse_command.specs.Choice.{leaves_out, is_listed, matches_one, is_passed_over, lists_none, matches_folder}
 use Rattle.reuse_plan.specs.Chosen.{IsNamed, StandsBeneath, IsListed, LeavesIn, MatchesNone, IsAskedFor}
 use Rattle.reuse_command.specs.Command.{has_root, paths_among}
 use Rattle.reuse_command.specs.Covered.{is_covered}
 use Rattle.reuse_change.specs.Listing.{ArePaths, is_folder, is_among, is_asked, is_folder_of, is_pruned, is_wanted}
 use Rattle.reuse_change.specs.Listing.{listed_paths}
-use Rattle.reuse_plan.specs.Selected.{expanded, selected_paths}
+use Rattle.reuse_plan.specs.Selected.{is_chosen, expanded, paths_for, selected_paths}
 use Rattle.reuse_command.specs.declared.command.Place.{Place}
 use Rattle.reuse_command.specs.declared.command.Place.TheVariants.{Root, Path}
 use Rattle.reuse_command.specs.declared.command.Scope.{Scope}
@@ -45,7 +44,7 @@ use Rattle.reuse_plan.proofs.ShownLemmas.{asked_one, in_pairs, in_pairs_beside, 
 
 -- ---- what stands in the place of places
 
-module _ (scope : Scope) (tree : Files) (t : List ℕ) where
+module _ (chooses : List ℕ → Bool) (tree : Files) (t : List ℕ) where
   abbrev Named : List Place → Type 0
   Named places = In t (paths_among places) × (is_folder tree t ≡ false)
 
@@ -54,11 +53,11 @@ module _ (scope : Scope) (tree : Files) (t : List ℕ) where
       × ((has_root places ≡ true) ⊎ ((folder : List ℕ) × In folder (paths_among places) × (lies_under t folder ≡ true)))
 
   abbrev Selected : List Place → Type 0
-  Selected places = Named places ⊎ (Beneath places × (is_chosen scope t ≡ true))
+  Selected places = Named places ⊎ (Beneath places × (chooses t ≡ true))
 
   abbrev for_folder : List ℕ → Bool → List (List ℕ)
   for_folder path b =
-      cond b (filter (is_chosen scope) (filter (λ other. lies_under other path) (keys tree))) (path ∷ [])
+      cond b (filter chooses (filter (λ other. lies_under other path) (keys tree))) (path ∷ [])
 
   behind_root : (places : List Place) → Selected places → Selected (Root ∷ places)
   behind_root places (inl named) = inl named
@@ -72,65 +71,65 @@ module _ (scope : Scope) (tree : Files) (t : List ℕ) where
   at_path : (path : List ℕ) (places : List Place) (b : Bool) → is_folder tree path ≡ b → In t (for_folder path b)
       → Selected (Path path ∷ places)
   at_path path places true e h =
-      let f = In-filter (is_chosen scope) t (filter (λ other. lies_under other path) (keys tree)) h in
+      let f = In-filter chooses t (filter (λ other. lies_under other path) (keys tree)) h in
       let g = In-filter (λ other. lies_under other path) t (keys tree) f.0 in
       inr ((g.0, inr (path, inl refl, g.1)), f.1)
   at_path path places false e (inl is) = inl (inl is, ap (is_folder tree) is ∙ e)
   at_path path places false e (inr h) = absurd h
 
-  pub from_expanded : (places : List Place) → In t (flat_map (expanded scope tree) places) → Selected places
+  pub from_expanded : (places : List Place) → In t (flat_map (expanded chooses tree) places) → Selected places
   from_expanded [] h = absurd h
   from_expanded (Root ∷ places) h =
-      elim (In-append (filter (is_chosen scope) (keys tree)) (flat_map (expanded scope tree) places) t h) [
-        | inl k ↦ (let f = In-filter (is_chosen scope) t (keys tree) k in inr ((f.0, inl refl), f.1))
+      elim (In-append (filter chooses (keys tree)) (flat_map (expanded chooses tree) places) t h) [
+        | inl k ↦ (let f = In-filter chooses t (keys tree) k in inr ((f.0, inl refl), f.1))
         | inr k ↦ behind_root places (from_expanded places k)
       ]
   from_expanded (Path path ∷ places) h =
-      elim (In-append (for_folder path (is_folder tree path)) (flat_map (expanded scope tree) places) t h) [
+      elim (In-append (for_folder path (is_folder tree path)) (flat_map (expanded chooses tree) places) t h) [
         | inl k ↦ at_path path places (is_folder tree path) refl k
         | inr k ↦ behind_path path places (from_expanded places k)
       ]
 
   named_expanded : (places : List Place) → In t (paths_among places) → is_folder tree t ≡ false
-      → In t (flat_map (expanded scope tree) places)
+      → In t (flat_map (expanded chooses tree) places)
   named_expanded [] h e = absurd h
-  named_expanded (Root ∷ places) h e = In-right (filter (is_chosen scope) (keys tree))
-      (flat_map (expanded scope tree) places) t (named_expanded places h e)
+  named_expanded (Root ∷ places) h e = In-right (filter chooses (keys tree))
+      (flat_map (expanded chooses tree) places) t (named_expanded places h e)
   named_expanded (Path path ∷ places) (inl is) e =
-      In-left (for_folder path (is_folder tree path)) (flat_map (expanded scope tree) places) t
+      In-left (for_folder path (is_folder tree path)) (flat_map (expanded chooses tree) places) t
       (subst (λ b. In t (for_folder path b)) (sym (ap (is_folder tree) (sym is) ∙ e)) (inl is))
   named_expanded (Path path ∷ places) (inr h) e =
-      In-right (for_folder path (is_folder tree path)) (flat_map (expanded scope tree) places) t
+      In-right (for_folder path (is_folder tree path)) (flat_map (expanded chooses tree) places) t
       (named_expanded places h e)
 
-  root_expanded : (places : List Place) → has_root places ≡ true → In t (keys tree) → is_chosen scope t ≡ true
-      → In t (flat_map (expanded scope tree) places)
+  root_expanded : (places : List Place) → has_root places ≡ true → In t (keys tree) → chooses t ≡ true
+      → In t (flat_map (expanded chooses tree) places)
   root_expanded [] root there chosen = absurd (false≢true root)
   root_expanded (Root ∷ places) root there chosen =
-      In-left (filter (is_chosen scope) (keys tree)) (flat_map (expanded scope tree) places) t
-      (filter-has (is_chosen scope) t (keys tree) there chosen)
+      In-left (filter chooses (keys tree)) (flat_map (expanded chooses tree) places) t
+      (filter-has chooses t (keys tree) there chosen)
   root_expanded (Path path ∷ places) root there chosen =
-      In-right (for_folder path (is_folder tree path)) (flat_map (expanded scope tree) places) t
+      In-right (for_folder path (is_folder tree path)) (flat_map (expanded chooses tree) places) t
       (root_expanded places root there chosen)
 
   beneath_expanded : (places : List Place) (folder : List ℕ) → In folder (paths_among places)
-      → lies_under t folder ≡ true → In t (keys tree) → is_chosen scope t ≡ true
-      → In t (flat_map (expanded scope tree) places)
+      → lies_under t folder ≡ true → In t (keys tree) → chooses t ≡ true
+      → In t (flat_map (expanded chooses tree) places)
   beneath_expanded [] folder h under there chosen = absurd h
   beneath_expanded (Root ∷ places) folder h under there chosen =
-      In-right (filter (is_chosen scope) (keys tree)) (flat_map (expanded scope tree) places) t
+      In-right (filter chooses (keys tree)) (flat_map (expanded chooses tree) places) t
       (beneath_expanded places folder h under there chosen)
   beneath_expanded (Path path ∷ places) folder (inl is) under there chosen =
       let under' : lies_under t path ≡ true = ap (lies_under t) (sym is) ∙ under in
-      In-left (for_folder path (is_folder tree path)) (flat_map (expanded scope tree) places) t
+      In-left (for_folder path (is_folder tree path)) (flat_map (expanded chooses tree) places) t
       (subst (λ b. In t (for_folder path b)) (sym (any_has (λ other. lies_under other path) t (keys tree) there under'))
-      (filter-has (is_chosen scope) t (filter (λ other. lies_under other path) (keys tree))
+      (filter-has chooses t (filter (λ other. lies_under other path) (keys tree))
       (filter-has (λ other. lies_under other path) t (keys tree) there under') chosen))
   beneath_expanded (Path path ∷ places) folder (inr h) under there chosen =
-      In-right (for_folder path (is_folder tree path)) (flat_map (expanded scope tree) places) t
+      In-right (for_folder path (is_folder tree path)) (flat_map (expanded chooses tree) places) t
       (beneath_expanded places folder h under there chosen)
 
-  to_expanded : (places : List Place) → Selected places → In t (flat_map (expanded scope tree) places)
+  to_expanded : (places : List Place) → Selected places → In t (flat_map (expanded chooses tree) places)
   to_expanded places (inl named) = named_expanded places named.0 named.1
   to_expanded places (inr (there, chosen)) = elim there.1 [
     | inl root ↦ root_expanded places root there.0 chosen
@@ -190,17 +189,24 @@ test_from_none (glob ∷ globs) path h =
     test_from_none globs path (λ k d low. h (suc k) d (omega (arith, low))) in
     ap (λ b. not (b || matches_one globs path)) (test_from_in glob path (h 0 glob (omega arith))) ∙ rest
 
-asked_from_test : (scope : Scope) (path : List ℕ) → is_chosen scope path ≡ true → IsAskedFor scope path
-asked_from_test scope path e =
-    let parts = both_parts (is_covered path && is_listed scope.listed path) (not (matches_one scope.excluded path)) e in
-    let first = both_parts (is_covered path) (is_listed scope.listed path) parts.0 in
-    (first.0, listed_from_test scope.listed path first.1, none_from_test scope.excluded path parts.1)
+-- the command works on it, it is listed, and it is not excluded
+abbrev pub IsChosen : (List ℕ → Bool) → Scope → List ℕ → Type 0
+IsChosen works_on scope path =
+    (works_on path ≡ true) × IsListed scope.listed path × MatchesNone scope.excluded path
 
-test_from_asked : (scope : Scope) (path : List ℕ) → IsAskedFor scope path → is_chosen scope path ≡ true
-test_from_asked scope path h =
-    both_true (is_covered path && is_listed scope.listed path) (not (matches_one scope.excluded path))
-    (both_true (is_covered path) (is_listed scope.listed path) h.0 (test_from_listed scope.listed path h.1))
-    (test_from_none scope.excluded path h.2)
+module _ (works_on : List ℕ → Bool) (scope : Scope) (path : List ℕ) where
+  from_chosen_test : is_chosen works_on scope path ≡ true → IsChosen works_on scope path
+  from_chosen_test e =
+      let parts =
+      both_parts (works_on path && is_listed scope.listed path) (not (matches_one scope.excluded path)) e in
+      let first = both_parts (works_on path) (is_listed scope.listed path) parts.0 in
+      (first.0, listed_from_test scope.listed path first.1, none_from_test scope.excluded path parts.1)
+
+  chosen_test_from : IsChosen works_on scope path → is_chosen works_on scope path ≡ true
+  chosen_test_from h =
+      both_true (works_on path && is_listed scope.listed path) (not (matches_one scope.excluded path))
+      (both_true (works_on path) (is_listed scope.listed path) h.0 (test_from_listed scope.listed path h.1))
+      (test_from_none scope.excluded path h.2)
 
 -- ---- laws
 
@@ -210,12 +216,13 @@ under_as : {Root : Type 0} {Under : List ℕ → Type 0} (Has Had : List ℕ →
 under_as Has Had turn (inl root) = inl root
 under_as Has Had turn (inr under) = inr (under.0, turn under.0 under.1, under.2)
 
-module _ (scope : Scope) (places : List Place) (tree : Files) (path : List ℕ) (recursive : scope.recursive ≡ true) where
-  selected_is : selected_paths scope places tree ≡ set_of (flat_map (expanded scope tree) places)
-  selected_is = ap (λ b. set_of (cond b (flat_map (expanded scope tree) places) (paths_among places))) recursive
+module _ (works_on : List ℕ → Bool) (scope : Scope) (places : List Place) (tree : Files) (path : List ℕ)
+    (recursive : scope.recursive ≡ true) where
+  selected_is : paths_for works_on scope places tree ≡ set_of (flat_map (expanded (is_chosen works_on scope) tree) places)
+  selected_is = ap (λ b. set_of (cond b (flat_map (expanded (is_chosen works_on scope) tree) places) (paths_among places))) recursive
 
-  found : Selected scope tree path places
-      → IsNamed places tree path ⊎ (StandsBeneath places tree path × IsAskedFor scope path)
+  found : Selected (is_chosen works_on scope) tree path places
+      → IsNamed places tree path ⊎ (StandsBeneath places tree path × IsChosen works_on scope path)
   found (inl named) = inl (Contains-from_in (paths_among places) path named.0, named.1)
   found (inr (there, chosen)) = inr (
     (
@@ -223,11 +230,11 @@ module _ (scope : Scope) (places : List Place) (tree : Files) (path : List ℕ) 
       under_as (λ p. Contains (paths_among places) p) (λ p. In p (paths_among places))
           (λ p. Contains-from_in (paths_among places) p) there.1,
     ),
-    asked_from_test scope path chosen,
+    from_chosen_test works_on scope path chosen,
   )
 
-  selected_as : IsNamed places tree path ⊎ (StandsBeneath places tree path × IsAskedFor scope path)
-      → Selected scope tree path places
+  selected_as : IsNamed places tree path ⊎ (StandsBeneath places tree path × IsChosen works_on scope path)
+      → Selected (is_chosen works_on scope) tree path places
   selected_as (inl named) = inl (In-from_contains (paths_among places) path named.0, named.1)
   selected_as (inr (there, asked)) = inr (
     (
@@ -235,47 +242,56 @@ module _ (scope : Scope) (places : List Place) (tree : Files) (path : List ℕ) 
       under_as (λ p. In p (paths_among places)) (λ p. Contains (paths_among places) p)
           (λ p. In-from_contains (paths_among places) p) there.1,
     ),
-    test_from_asked scope path asked,
+    chosen_test_from works_on scope path asked,
   )
 
-  pub selected_exactly : Contains (selected_paths scope places tree) path
-      ↔ (IsNamed places tree path ⊎ (StandsBeneath places tree path × IsAskedFor scope path))
-  selected_exactly = (
-    λ h. found (from_expanded scope tree path places (In-set_of (flat_map (expanded scope tree) places) path
-        (In-from_contains (set_of (flat_map (expanded scope tree) places)) path
+  pub chosen_exactly : Contains (paths_for works_on scope places tree) path
+      ↔ (IsNamed places tree path ⊎ (StandsBeneath places tree path × IsChosen works_on scope path))
+  chosen_exactly = (
+    λ h. found (from_expanded (is_chosen works_on scope) tree path places (In-set_of (flat_map (expanded (is_chosen works_on scope) tree) places) path
+        (In-from_contains (set_of (flat_map (expanded (is_chosen works_on scope) tree) places)) path
         (subst (λ ps. Contains ps path) selected_is h)))),
     λ h. subst (λ ps. Contains ps path) (sym selected_is)
-        (Contains-from_in (set_of (flat_map (expanded scope tree) places)) path
-        (set_of-has (flat_map (expanded scope tree) places) path (to_expanded scope tree path places (selected_as h)))),
+        (Contains-from_in (set_of (flat_map (expanded (is_chosen works_on scope) tree) places)) path
+        (set_of-has (flat_map (expanded (is_chosen works_on scope) tree) places) path (to_expanded (is_chosen works_on scope) tree path places (selected_as h)))),
   )
+
+pub selected_exactly : (scope : Scope) (places : List Place) (tree : Files) (path : List ℕ) → scope.recursive ≡ true
+    → Contains (selected_paths scope places tree) path
+    ↔ (IsNamed places tree path ⊎ (StandsBeneath places tree path × IsAskedFor scope path))
+selected_exactly = chosen_exactly is_covered
 
 and_true : (b : Bool) → (b && true) ≡ b
 and_true true = refl
 and_true false = refl
 
-pub all_chosen : (scope : Scope) (path : List ℕ) → scope.listed ≡ None → scope.excluded ≡ []
-    → is_chosen scope path ≡ is_covered path
-all_chosen scope path unlisted none =
-    ap (λ globs. is_covered path && is_listed scope.listed path && not (matches_one globs path)) none
-    ∙ and_true (is_covered path && is_listed scope.listed path)
-    ∙ ap (λ listed. is_covered path && is_listed listed path) unlisted
-    ∙ and_true (is_covered path)
+pub all_chosen : (works_on : List ℕ → Bool) (scope : Scope) (path : List ℕ) → scope.listed ≡ None
+    → scope.excluded ≡ [] → is_chosen works_on scope path ≡ works_on path
+all_chosen works_on scope path unlisted none =
+    ap (λ globs. works_on path && is_listed scope.listed path && not (matches_one globs path)) none
+    ∙ and_true (works_on path && is_listed scope.listed path)
+    ∙ ap (λ listed. works_on path && is_listed listed path) unlisted
+    ∙ and_true (works_on path)
 
 -- without going through folders
-module _ (scope : Scope) (places : List Place) (tree : Files) where
+module _ (works_on : List ℕ → Bool) (scope : Scope) (places : List Place) (tree : Files) where
   pub given_exactly : (path : List ℕ) → scope.recursive ≡ false
-      → Contains (selected_paths scope places tree) path ↔ Contains (paths_among places) path
+      → Contains (paths_for works_on scope places tree) path ↔ Contains (paths_among places) path
   given_exactly path alone =
-      let selected : selected_paths scope places tree ≡ set_of (paths_among places) =
-      ap (λ b. set_of (cond b (flat_map (expanded scope tree) places) (paths_among places))) alone in (
+      let selected : paths_for works_on scope places tree ≡ set_of (paths_among places) =
+      ap (λ b. set_of (cond b (flat_map (expanded (is_chosen works_on scope) tree) places) (paths_among places))) alone in (
         λ h. Contains-from_in (paths_among places) path (In-set_of (paths_among places) path
             (In-from_contains (set_of (paths_among places)) path (subst (λ ps. Contains ps path) selected h))),
         λ h. subst (λ ps. Contains ps path) (sym selected) (Contains-from_in (set_of (paths_among places)) path
             (set_of-has (paths_among places) path (In-from_contains (paths_among places) path h))),
       )
 
-  pub selected_ascend : ArePaths (selected_paths scope places tree)
-  selected_ascend = sorted-set_of (cond scope.recursive (flat_map (expanded scope tree) places) (paths_among places))
+  pub paths_ascend : ArePaths (paths_for works_on scope places tree)
+  paths_ascend = sorted-set_of (cond scope.recursive (flat_map (expanded (is_chosen works_on scope) tree) places) (paths_among places))
+
+pub selected_ascend : (scope : Scope) (places : List Place) (tree : Files)
+    → ArePaths (selected_paths scope places tree)
+selected_ascend = paths_ascend is_covered
 
 -- ---- what a listing shows that passes over the folders beneath which nothing is selected
 
@@ -317,11 +333,11 @@ left_out globs path folder under e =
     ∙ or_right (matches_glob glob (chars path)) true refl) globs e
 
 module _ (scope : Scope) (given : List (List ℕ)) (path : List ℕ) where
-  pub chosen_free : is_chosen scope path ≡ true → is_pruned (is_passed_over scope given) path ≡ false
-  chosen_free chosen = false_from_ne_true (is_pruned (is_passed_over scope given) path) (λ e.
+  pub chosen_free : (works_on : List ℕ → Bool) → is_chosen works_on scope path ≡ true → is_pruned (is_passed_over scope given) path ≡ false
+  chosen_free works_on chosen = false_from_ne_true (is_pruned (is_passed_over scope given) path) (λ e.
       let outer =
-      and_parts (is_covered path && is_listed scope.listed path) (not (matches_one scope.excluded path)) chosen in
-      let inner = and_parts (is_covered path) (is_listed scope.listed path) outer.0 in
+      and_parts (works_on path && is_listed scope.listed path) (not (matches_one scope.excluded path)) chosen in
+      let inner = and_parts (works_on path) (is_listed scope.listed path) outer.0 in
       let found = above_some (is_passed_over scope given) path e in
       let parts = and_parts (lists_none scope.listed found.0 || matches_folder scope.excluded found.0)
       (not (is_folder_of given found.0)) found.2 in
@@ -377,7 +393,7 @@ all_of_in : (P : List ℕ → Type 0) (xs : List (List ℕ)) → ((t : List ℕ)
 all_of_in P [] each = All-nil P
 all_of_in P (x ∷ xs) each = All-cons P x xs (each x (inl refl)) (all_of_in P xs (λ t h. each t (inr h)))
 
-module _ (scope : Scope) (places : List Place) (tree : Files) where
+module _ (works_on : List ℕ → Bool) (scope : Scope) (places : List Place) (tree : Files) where
   abbrev pub given : List (List ℕ)
   given = set_of (paths_among places)
 
@@ -412,21 +428,21 @@ module _ (scope : Scope) (places : List Place) (tree : Files) where
   asked_under path folder h e = asked_at path folder (in_pairs given folder (in_given folder h))
       (ap (λ b. bytes_eq path folder || b) e ∙ or_right (bytes_eq path folder) true refl)
 
-  chosen_wanted : (path : List ℕ) → is_asked folders path ≡ true → is_chosen scope path ≡ true → wanted path ≡ true
-  chosen_wanted path asked chosen = and_from _ _ asked (ap not (chosen_free scope given path chosen))
+  chosen_wanted : (path : List ℕ) → is_asked folders path ≡ true → is_chosen works_on scope path ≡ true → wanted path ≡ true
+  chosen_wanted path asked chosen = and_from _ _ asked (ap not (chosen_free scope given path works_on chosen))
 
   shows_places : (left : List Place) → ((path : List ℕ) → In path (paths_among left) → In path (paths_among places))
-      → (has_root left ≡ true → has_root places ≡ true) → All (ShowsPlace scope listed tree) left
-  shows_places [] within root = All-nil (ShowsPlace scope listed tree)
+      → (has_root left ≡ true → has_root places ≡ true) → All (ShowsPlace (is_chosen works_on scope) listed tree) left
+  shows_places [] within root = All-nil (ShowsPlace (is_chosen works_on scope) listed tree)
   shows_places (Root ∷ left) within root =
-      All-cons (ShowsPlace scope listed tree) Root left
-      (one_kept (is_chosen scope) wanted
+      All-cons (ShowsPlace (is_chosen works_on scope) listed tree) Root left
+      (one_kept (is_chosen works_on scope) wanted
       (λ path chosen. chosen_wanted path (asked_root path (root refl)) chosen) (keys tree))
       (shows_places left within (λ e. root refl))
   shows_places (Path place ∷ left) within root =
-      All-cons (ShowsPlace scope listed tree) (Path place) left
+      All-cons (ShowsPlace (is_chosen works_on scope) listed tree) (Path place) left
       (record {
-        chosen = two_kept (is_chosen scope) (λ other. lies_under other place) wanted (λ path under chosen.
+        chosen = two_kept (is_chosen works_on scope) (λ other. lies_under other place) wanted (λ path under chosen.
             chosen_wanted path (asked_under path place (within place (inl refl)) under) chosen) (keys tree);
         some = λ some. true_or (is_folder tree place) refl some;
       })
@@ -437,7 +453,7 @@ module _ (scope : Scope) (places : List Place) (tree : Files) where
       true_or false e some =
           absurd (false≢true (sym (none_kept (λ other. lies_under other place) wanted (keys tree) e) ∙ some))
 
-  pub shows_each_place : All (ShowsPlace scope listed tree) places
+  pub shows_each_place : All (ShowsPlace (is_chosen works_on scope) listed tree) places
   shows_each_place = shows_places places (λ path h. h) (λ e. e)
 
   pub listed_ascend : ArePaths listed
@@ -449,15 +465,15 @@ module _ (scope : Scope) (places : List Place) (tree : Files) where
       test_from_under (neighbour_of path) folder
       (x.0 ++ codes ".license", ap (λ p. p ++ codes ".license") x.1 ∙ append_assoc folder (47 ∷ x.0) (codes ".license"))
 
-  shows_one : AreFiles tree → (t : List ℕ) → In t (flat_map (expanded scope tree) places) → ShowsPair listed tree t
-  shows_one are t h = elim (from_expanded scope tree t places h) [
+  shows_one : AreFiles tree → (t : List ℕ) → In t (flat_map (expanded (is_chosen works_on scope) tree) places) → ShowsPair listed tree t
+  shows_one are t h = elim (from_expanded (is_chosen works_on scope) tree t places h) [
     | inl named ↦ (
         let here = in_given t named.0 in
         shows_pair tree are folders (is_passed_over scope given) t (asked_itself t (in_pairs given t here))
         (λ fits. asked_itself (neighbour_of t) (in_pairs_beside given t here fits)) (given_free scope given t here)
         (λ absent. none_kept (λ other. lies_under other t) wanted (keys tree) named.1 ∙ sym named.1))
     | inr beneath ↦ (
-        let free = chosen_free scope given t beneath.1 in
+        let free = chosen_free scope given t works_on beneath.1 in
         let there : is_among (keys tree) t ≡ true =
         any_has (λ other. bytes_eq t other) t (keys tree) beneath.0.0 (same_path t) in
         elim beneath.0.1 [
@@ -470,8 +486,8 @@ module _ (scope : Scope) (places : List Place) (tree : Files) where
         ])
   ]
 
-  pub shows_selected : AreFiles tree → ShowsEach (Listed listed) tree (set_of (flat_map (expanded scope tree) places))
+  pub shows_selected : AreFiles tree → ShowsEach (Listed listed) tree (set_of (flat_map (expanded (is_chosen works_on scope) tree) places))
   shows_selected are = record {
-    each = all_of_in (ShowsPair listed tree) (set_of (flat_map (expanded scope tree) places))
-        (λ t h. shows_one are t (In-set_of (flat_map (expanded scope tree) places) t h));
+    each = all_of_in (ShowsPair listed tree) (set_of (flat_map (expanded (is_chosen works_on scope) tree) places))
+        (λ t h. shows_one are t (In-set_of (flat_map (expanded (is_chosen works_on scope) tree) places) t h));
   }

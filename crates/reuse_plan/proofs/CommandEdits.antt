@@ -23,7 +23,7 @@ use Rattle.reuse_plan.specs.PathEdits.{PathEdit, refused_with, refused_alone, al
 use Rattle.reuse_plan.specs.PathEdits.{edits_in}
 use Rattle.reuse_plan.specs.Reverting.{back_or_refused, reverted_at, taken_back_unless}
 use Rattle.reuse_plan.specs.TreeStyles.{OwnNames, styles_in}
-use Rattle.reuse_plan.specs.Selected.{with_table, selected_paths}
+use Rattle.reuse_plan.specs.Selected.{amended_paths, selected_paths}
 use Rattle.reuse_command.specs.declared.command.Command.TheVariants.{Annotate, Amend, ConvertDep5, Download, Revert}
 use Rattle.reuse_command.specs.declared.command.Place.{Place}
 use Rattle.reuse_command.specs.declared.command.Place.TheVariants as place
@@ -39,16 +39,16 @@ abbrev pub edits_at : (List ℕ → Result (Option Edit) Refusal) → List (List
 edits_at at [] = Ok []
 edits_at at (path ∷ paths) = or_first (at path) (edits_at at paths)
 
-abbrev pub edits_at_places : (List ℕ → Result (Option Edit) Refusal) → Scope → List Place → Files
+abbrev pub edits_at_places : (List ℕ → Result (Option Edit) Refusal) → Scope → List Place → List (List ℕ)
     → Result (List Edit) Refusal
-edits_at_places at scope places tree = if not scope.recursive && has_root places then Err (IsFolder place.Root)
-    else edits_at at (selected_paths scope places tree)
+edits_at_places at scope places paths =
+    if not scope.recursive && has_root places then Err (IsFolder place.Root) else edits_at at paths
 
 abbrev pub edits_by_names : List Place → Additions → How → Scope → Files → Result OwnNames Refusal
     → Result (List Edit) Refusal
 edits_by_names places additions how scope tree (Err refusal) = Err refusal
 edits_by_names places additions how scope tree (Ok own) =
-    edits_at_places (annotated_at how scope additions own tree) scope places tree
+    edits_at_places (annotated_at how scope additions own tree) scope places (selected_paths scope places tree)
 
 abbrev pub annotation_edits : List Place → Additions → How → Scope → Files → Result (List Edit) Refusal
 annotation_edits places additions how scope tree = edits_by_names places additions how scope tree (styles_in tree)
@@ -57,11 +57,11 @@ abbrev pub amendments_by_names : List Place → Amendments → Scope → Files �
     → Result (List Edit) Refusal
 amendments_by_names places amendments scope tree (Err refusal) = Err refusal
 amendments_by_names places amendments scope tree (Ok own) =
-    edits_at_places (amended_at amendments scope own tree) scope places tree
+    edits_at_places (amended_at amendments scope own tree) scope places (amended_paths scope places tree)
 
 abbrev pub amendment_edits : List Place → Amendments → Scope → Files → Result (List Edit) Refusal
 amendment_edits places amendments scope tree =
-    amendments_by_names (with_table scope places tree) amendments scope tree (styles_in tree)
+    amendments_by_names places amendments scope tree (styles_in tree)
 
 -- the changes that can't be taken back
 abbrev pub stuck_on : List (List ℕ) → Files → List Change → List Change
@@ -102,13 +102,13 @@ of_annotation places additions how scope tree = by_styles (styles_in tree)
 
 pub of_amendment : (places : List Place) (amendments : Amendments) (scope : Scope) (tree : Files)
     → edits_of (Amend places amendments scope) tree ≡ amendment_edits places amendments scope tree
-of_amendment given amendments scope tree = by_styles (with_table scope given tree) (styles_in tree)
+of_amendment places amendments scope tree = by_styles (styles_in tree)
   where
-    by_styles : (places : List Place) (styles : Result OwnNames Refusal) → edits_in
+    by_styles : (styles : Result OwnNames Refusal) → edits_in
         (amendments_by places amendments scope tree styles) ≡ amendments_by_names places amendments scope tree styles
-    by_styles places (Err refusal) = refl
-    by_styles places (Ok own) = edits_of_places (amendment_at amendments scope own tree)
-        (selected_paths scope places tree) (not scope.recursive && has_root places)
+    by_styles (Err refusal) = refl
+    by_styles (Ok own) = edits_of_places (amendment_at amendments scope own tree)
+        (amended_paths scope places tree) (not scope.recursive && has_root places)
 
 pub of_all_or_none : (given : Result (List Edit) Refusal) → edits_in (all_or_none given) ≡ given
 of_all_or_none (Err refusal) = refl

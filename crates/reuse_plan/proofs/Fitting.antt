@@ -1,8 +1,8 @@
 -- The edits of an annotation: each at a file of the tree or its neighbour, of distinct paths, none a folder of another.
-use Rattle.std.proofs.Common.{◌≡◌, ◌⊎◌, inl, inr, ℕ, ◌+◌, ◌-◌, ◌≤◌, Bool, true, false, cond, not, ◌||◌, ◌&&◌, ◌==◌}
+use Rattle.std.proofs.Common.{◌≡◌, ◌⊎◌, inl, inr, ℕ, ◌+◌, ◌-◌, ◌≤◌, Bool, true, false, not, ◌||◌, ◌&&◌, ◌==◌}
 use Rattle.std.proofs.Common.{nat_eq, nat_lt, List, [], ◌∷◌, ◌++◌, codes, length, reverse, take, drop, Less, Option}
 use Rattle.std.proofs.Common.{Some, None, IsSome, is_some, Result, Ok, Err, refl, sym, ap, ap₂, subst, ◌∙◌, arith}
-use Rattle.std.proofs.Common.{length-append, length-drop, drop_at, flat_map, bytes_eq}
+use Rattle.std.proofs.Common.{length-append, length-drop, drop_at, bytes_eq}
 use Rattle.std.specs.Ordering.{nat_cmp}
 use Rattle.std.specs.Cmp.Lexicographic.{slice_cmp, pointwise}
 use Rattle.std.specs.List.{AllByRecursion, IsDistinct, list_any, ends_with, suffix_len, prefix_len}
@@ -15,7 +15,6 @@ use Rattle.std.proofs.lemmas.Map.Keys.{IsDistinct-cons, sorted_head, sorted_tail
 use Rattle.std.proofs.lemmas.Slice.Eq.{bytes_eq-Decides}
 use Rattle.reuse_notice.specs.declared.adding.Additions.{Additions}
 use Rattle.reuse_amend.specs.declared.amendments.Amendments.{Amendments}
-use Rattle.reuse_notice.proofs.SetLemmas.{sorted-set_of}
 use Rattle.reuse_header.specs.declared.style.Style.{Style}
 use Rattle.reuse_header.specs.declared.annotation.How.{How}
 use Rattle.reuse_header.specs.Annotation as header
@@ -29,25 +28,26 @@ use Rattle.reuse_plan.specs.Annotate.{neighbour_of, neighbour_is_tagged, target_
 use Rattle.reuse_plan.specs.Annotate.{edit_neighbour, edit_of_neighbour, edit_target, annotated_where, annotated_at}
 use Rattle.reuse_plan.specs.Annotations.{Expected}
 use Rattle.reuse_change.specs.Clash.{is_clash}
-use Rattle.reuse_command.specs.Command.{has_root, paths_among, HoldsEntry}
+use Rattle.reuse_command.specs.Command.{has_root, HoldsEntry}
 use Rattle.reuse_command.specs.Covered.{last_part, is_in, is_outside, has_stem, is_covered}
 use Rattle.reuse_change.specs.Listing.{ArePaths, is_among, is_folder}
 use Rattle.reuse_plan.specs.Outcome.{Edit, edits_of}
 use Rattle.reuse_change.specs.Tree.{is_of_tree}
 use Rattle.reuse_plan.specs.TreeStyles.{OwnNames, styles_in}
-use Rattle.reuse_plan.specs.Selected.{expanded, with_table, selected_paths}
+use Rattle.reuse_plan.specs.Selected.{amended_paths, selected_paths}
 use Rattle.reuse_command.specs.declared.command.Command.{Command}
 use Rattle.reuse_command.specs.declared.command.Command.TheVariants.{Annotate, Amend, ConvertDep5, Download, Revert}
-use Rattle.reuse_command.specs.declared.command.Place.{Place}
 use Rattle.reuse_command.specs.declared.command.Place.TheVariants as place
 use Rattle.reuse_command.specs.declared.command.Scope.{Scope}
 use Rattle.reuse_plan.specs.declared.target.Target.{Target}
 use Rattle.reuse_plan.specs.declared.target.Target.TheVariants.{Inside, InNeighbour, Nowhere}
 use Rattle.reuse_command.specs.declared.reply.Refusal.{Refusal}
 use Rattle.reuse_command.specs.declared.reply.Refusal.TheVariants as refusals
+use Rattle.reuse_plan.proofs.AmendedPlaces.{amended_ascend}
 use Rattle.reuse_plan.proofs.Amending.{IsInside, IsBeside, IsTable, AmendsThere, amends_there}
-use Rattle.reuse_plan.proofs.Annotating.{starts_reuse, and_all, covered_of_tree, first_is, no_edits, all_edits}
+use Rattle.reuse_plan.proofs.Annotating.{starts_reuse, and_all, inside_of_tree, first_is, no_edits, all_edits}
 use Rattle.reuse_plan.proofs.Annotating.{both_err, if_not}
+use Rattle.reuse_plan.proofs.Choosing.{selected_ascend}
 use Rattle.reuse_plan.proofs.Converting.{conversion_fits}
 use Rattle.reuse_plan.proofs.Downloading.{download_fits}
 use Rattle.reuse_plan.proofs.EditOrder.{AreFit}
@@ -61,7 +61,7 @@ use Rattle.std.proofs.Math.Seq.{take-append_seam}
 use Rattle.reuse_plan.proofs.Results.{err_or}
 use Rattle.reuse_plan.proofs.CommandEdits.{edits_at, edits_by_names, amendments_by_names, of_annotation, of_amendment}
 use Rattle.reuse_plan.proofs.CommandEdits.{of_conversion, of_download, of_revert}
-use Rattle.reuse_plan.proofs.TableLemmas.{IsWorkable}
+use Rattle.reuse_plan.proofs.TableLemmas.{IsWorkable, workable_within, table_named}
 
 -- ---- names of neighbours
 
@@ -130,39 +130,38 @@ same_file path other e =
     omega (arith, size, length-append path ending, length-append other ending) in
     sym (take-append_seam path ending) ∙ ap₂ take long e ∙ take-append_seam other ending
 
-in_reuse : (path rest : List ℕ) → is_covered path ≡ true → path ++ ending ≡ codes ".reuse" ++ 47 ∷ rest → ⊥
-in_reuse path rest covered e =
+in_reuse : (path rest : List ℕ) → is_outside path ≡ false → path ++ ending ≡ codes ".reuse" ++ 47 ∷ rest → ⊥
+in_reuse path rest inside e =
     let c = cut path (codes ".reuse") rest e in
-    false≢true (sym (starts_reuse path covered) ∙ ap (is_in (codes ".reuse")) c.1 ∙ or_right _ true refl)
+    false≢true (sym (starts_reuse path inside) ∙ ap (is_in (codes ".reuse")) c.1 ∙ or_right _ true refl)
 
--- a covered file's neighbour is of the tree
-pub neighbour_of_tree : (path : List ℕ) → is_covered path ≡ true → is_of_tree (path ++ ending) ≡ true
-neighbour_of_tree path covered =
+-- its neighbour is of the tree
+neighbour_of_tree : (path : List ℕ) → is_outside path ≡ false → is_of_tree (path ++ ending) ≡ true
+neighbour_of_tree path inside =
     and_all (bytes_eq (path ++ ending) (codes ".reuse")) (bytes_eq (path ++ ending) journal_folder)
     (lies_under (path ++ ending) journal_folder)
     (false_from_ne_true _ (λ e. let size = ap length ((bytes_eq-Decides (path ++ ending) (codes ".reuse")).0 e) in
     omega (arith, size, length-append path ending)))
     (false_from_ne_true _
-    (λ e. in_reuse path (codes "undo") covered ((bytes_eq-Decides (path ++ ending) journal_folder).0 e)))
+    (λ e. in_reuse path (codes "undo") inside ((bytes_eq-Decides (path ++ ending) journal_folder).0 e)))
     (false_from_ne_true _ (λ e. let u = under_from_test (path ++ ending) journal_folder e in
-    in_reuse path (codes "undo" ++ 47 ∷ u.0) covered u.1))
+    in_reuse path (codes "undo" ++ 47 ∷ u.0) inside u.1))
 
 -- ---- the paths that are selected
 
 -- they are of the tree, with their neighbours
 workable_of_tree : (path : List ℕ) → IsWorkable path → is_of_tree path ≡ true
-workable_of_tree path (inl covered) = covered_of_tree path covered
-workable_of_tree path (inr table) = ap is_of_tree table
+workable_of_tree path workable = inside_of_tree path (workable_within path workable)
 
-beside_of_tree : (path : List ℕ) → IsWorkable path → is_of_tree (path ++ ending) ≡ true
-beside_of_tree path (inl covered) = neighbour_of_tree path covered
-beside_of_tree path (inr table) = ap (λ p. is_of_tree (p ++ ending)) table
+pub beside_of_tree : (path : List ℕ) → IsWorkable path → is_of_tree (path ++ ending) ≡ true
+beside_of_tree path workable = neighbour_of_tree path (workable_within path workable)
 
 -- and none is a neighbour
 pub no_neighbour : (path other : List ℕ) → IsWorkable path → path ≡ other ++ ending → ⊥
 no_neighbour path other (inl covered) e = false≢true (sym (uncovered_neighbour other) ∙ ap is_covered (sym e) ∙ covered)
 no_neighbour path other (inr table) e =
-    false≢true (ap (λ p. ends_with nat_eq (last_part p) ending) (sym table ∙ e) ∙ name_ends other)
+    false≢true
+    (ap (λ n. ends_with nat_eq n ending) (sym (table_named path table) ∙ ap last_part e) ∙ name_ends other)
 
 -- ---- where an edit is
 
@@ -414,19 +413,19 @@ command_fits (Annotate places additions how scope) tree holds are edits h =
         (λ p e k. is_placed how scope additions tree p e own k) are (selected_paths scope places tree) edits
         (if_not (not scope.recursive && has_root places) (refusals.IsFolder place.Root)
         (edits_at (annotated_at how scope additions own tree) (selected_paths scope places tree)) edits e)
-        (sorted-set_of (cond scope.recursive (flat_map (expanded scope tree) places) (paths_among places)))
+        (selected_ascend scope places tree)
 command_fits (Amend places amendments scope) tree holds are edits h =
-    by_names (with_table scope places tree) (styles_in tree) (sym (of_amendment places amendments scope tree) ∙ h)
+    by_names (styles_in tree) (sym (of_amendment places amendments scope tree) ∙ h)
   where
-    by_names : (places : List Place) (styles : Result OwnNames Refusal)
-        → amendments_by_names places amendments scope tree styles ≡ Ok edits → AreFit tree edits
-    by_names places (Err refusal) e = absurd (cc)
-    by_names places (Ok own) e =
+    by_names : (styles : Result OwnNames Refusal) → amendments_by_names places amendments scope tree styles ≡ Ok edits
+        → AreFit tree edits
+    by_names (Err refusal) e = absurd (cc)
+    by_names (Ok own) e =
         edits_fit (amended_at amendments scope own tree) tree (amendment_placed amendments scope own tree) are
-        (selected_paths scope places tree) edits
+        (amended_paths scope places tree) edits
         (if_not (not scope.recursive && has_root places) (refusals.IsFolder place.Root)
-        (edits_at (amended_at amendments scope own tree) (selected_paths scope places tree)) edits e)
-        (sorted-set_of (cond scope.recursive (flat_map (expanded scope tree) places) (paths_among places)))
+        (edits_at (amended_at amendments scope own tree) (amended_paths scope places tree)) edits e)
+        (amended_ascend scope places tree)
 command_fits ConvertDep5 tree holds are edits h =
     fit_of tree edits (conversion_fits tree edits (sym (of_conversion tree) ∙ h))
 command_fits (Download ids texts) tree holds are edits h =

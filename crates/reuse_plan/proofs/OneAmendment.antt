@@ -16,7 +16,8 @@ use Rattle.reuse_plan.specs.Amended.{IsAmended, Amends}
 use Rattle.reuse_plan.specs.Amend.{amended_table}
 use Rattle.reuse_plan.specs.Annotate.{neighbour_of}
 use Rattle.reuse_plan.specs.Annotated.{IsStyleOf, HasKind, Pair}
-use Rattle.reuse_plan.specs.Conversion.{toml_path}
+use Rattle.reuse_plan.specs.Tables.{is_table}
+use Rattle.reuse_plan.proofs.TableLemmas.{not_table}
 use Rattle.reuse_command.specs.Covered.{is_covered}
 use Rattle.reuse_plan.specs.TreeStyles.{OwnNames}
 use Rattle.reuse_plan.specs.Selected.{amended_paths}
@@ -94,7 +95,7 @@ covered_one amendments scope own path old new other one two =
     becomes_one amendments scope own path one.bytes old new other one.becomes
     (subst (λ bytes. Becomes amendments scope own path bytes old other) same two.becomes)
 
--- the `REUSE.toml`
+-- a table
 both_tables : (amendments : Amendments) (old new other : Pair) → IsTableAmended amendments old new
     → IsTableAmended amendments old other → new ≡ other
 both_tables amendments old new other one two =
@@ -104,8 +105,8 @@ both_tables amendments old new other one two =
     one.holds ∙ ap (λ (m : List ℕ). record { file = Some m; neighbour = old.neighbour }) made ∙ sym two.holds
 
 -- it isn't covered
-not_both : (path : List ℕ) → path ≡ toml_path → is_covered path ≡ true → ⊥
-not_both path table covered = false≢true (ap is_covered (sym table) ∙ covered)
+not_both : (path : List ℕ) → is_table path ≡ true → is_covered path ≡ true → ⊥
+not_both path table covered = false≢true (sym (not_table path covered) ∙ table)
 
 amended_one : (amendments : Amendments) (scope : Scope) (own : OwnNames) (path : List ℕ) (old new other : Pair)
     → IsAmended amendments scope own path old new → IsAmended amendments scope own path old other → new ≡ other

@@ -8,13 +8,11 @@ use Rattle.std.proofs.lemmas.List.{append-nil, take_more}
 use Rattle.std.proofs.lemmas.List.Concat.{flat_map-append}
 use Rattle.std.proofs.lemmas.List.Elements.{filter-append}
 use Rattle.reuse_change.specs.Path.{lies_under}
-use Rattle.reuse_command.specs.Choice.{is_chosen}
 use Rattle.reuse_change.specs.Listing.{is_folder}
 use Rattle.reuse_plan.specs.Shown.{ShowsBeneath}
 use Rattle.reuse_plan.specs.Selected.{expanded}
 use Rattle.reuse_command.specs.declared.command.Place.{Place}
 use Rattle.reuse_command.specs.declared.command.Place.TheVariants.{Path}
-use Rattle.reuse_command.specs.declared.command.Scope.{Scope}
 
 -- what is kept of one more
 pub kept_more : (test : List ℕ → Bool) (xs : List (List ℕ)) (i : ℕ) (d : List ℕ) (start old new : List (List ℕ))
@@ -27,15 +25,15 @@ kept_more test xs i d start old new low so is =
     (sym (filter-append test (take i xs) (get_or xs i d ∷ [])) ∙ ap (filter test) (sym (take_more xs i d low)))
 
 -- what stands for one more
-pub expanded_more : (scope : Scope) (tree : Files) (places : List Place) (i : ℕ) (d : Place) (old new : List (List ℕ))
-    → i < length places → old ≡ flat_map (expanded scope tree) (take i places)
-    → new ≡ old ++ expanded scope tree (get_or places i d) → new ≡ flat_map (expanded scope tree) (take (i + 1) places)
-expanded_more scope tree places i d old new low so is =
-    is ∙ ap (λ ys. ys ++ expanded scope tree (get_or places i d)) so
-    ∙ ap (λ ys. flat_map (expanded scope tree) (take i places) ++ ys)
-    (sym (append-nil (expanded scope tree (get_or places i d))))
-    ∙ sym (flat_map-append (expanded scope tree) (take i places) (get_or places i d ∷ []))
-    ∙ ap (flat_map (expanded scope tree)) (sym (take_more places i d low))
+pub expanded_more : (chooses : List ℕ → Bool) (tree : Files) (places : List Place) (i : ℕ) (d : Place) (old new : List (List ℕ))
+    → i < length places → old ≡ flat_map (expanded chooses tree) (take i places)
+    → new ≡ old ++ expanded chooses tree (get_or places i d) → new ≡ flat_map (expanded chooses tree) (take (i + 1) places)
+expanded_more chooses tree places i d old new low so is =
+    is ∙ ap (λ ys. ys ++ expanded chooses tree (get_or places i d)) so
+    ∙ ap (λ ys. flat_map (expanded chooses tree) (take i places) ++ ys)
+    (sym (append-nil (expanded chooses tree (get_or places i d))))
+    ∙ sym (flat_map-append (expanded chooses tree) (take i places) (get_or places i d ∷ []))
+    ∙ ap (flat_map (expanded chooses tree)) (sym (take_more places i d low))
 
 -- where something is kept, it passes
 one_passes : (test : List ℕ → Bool) (ks : List (List ℕ)) → (length (filter test ks) ≡ 0 → ⊥) → list_any test ks ≡ true
@@ -47,21 +45,21 @@ one_passes test (k ∷ ks) h = of_test (test k) h (one_passes test ks)
     of_test true h rest = refl
     of_test false h rest = rest h
 
-module _ (scope : Scope) (tree : Files) (path : List ℕ) (paths beneath : List (List ℕ))
-    (shows : ShowsBeneath scope paths tree path) (are : beneath ≡ filter (λ other. lies_under other path) paths) where
+module _ (chooses : List ℕ → Bool) (tree : Files) (path : List ℕ) (paths beneath : List (List ℕ))
+    (shows : ShowsBeneath chooses paths tree path) (are : beneath ≡ filter (λ other. lies_under other path) paths) where
   pub some_beneath : (length beneath ≡ 0 → ⊥) → is_folder tree path ≡ true
   some_beneath h = shows.some (one_passes (λ other. lies_under other path) paths (λ e. h (ap length are ∙ e)))
 
   -- a path that is no folder
-  pub stands_alone : is_folder tree path ≡ false → expanded scope tree (Path path) ≡ path ∷ []
+  pub stands_alone : is_folder tree path ≡ false → expanded chooses tree (Path path) ≡ path ∷ []
   stands_alone e =
-      ap (λ b. cond b (filter (is_chosen scope) (filter (λ other. lies_under other path) (keys tree))) (path ∷ [])) e
+      ap (λ b. cond b (filter chooses (filter (λ other. lies_under other path) (keys tree))) (path ∷ [])) e
 
   -- a folder
-  pub stands_for : is_folder tree path ≡ true → expanded scope tree (Path path) ≡ filter (is_chosen scope) beneath
+  pub stands_for : is_folder tree path ≡ true → expanded chooses tree (Path path) ≡ filter chooses beneath
   stands_for e =
-      ap (λ b. cond b (filter (is_chosen scope) (filter (λ other. lies_under other path) (keys tree))) (path ∷ [])) e
-      ∙ sym shows.chosen ∙ ap (filter (is_chosen scope)) (sym are)
+      ap (λ b. cond b (filter chooses (filter (λ other. lies_under other path) (keys tree))) (path ∷ [])) e
+      ∙ sym shows.chosen ∙ ap (filter chooses) (sym are)
 
 pub not_zero : (n : ℕ) → (n == 0) ≡ false → n ≡ 0 → ⊥
 not_zero n h e = absurd (grind (arith, nat_tests))

@@ -1,8 +1,9 @@
--- The `REUSE.toml` at the root: its path, and what amending makes of it.
-use Rattle.std.proofs.Common.{◌≡◌, ◌⊎◌, ℕ, ◌≤◌, true, false, cond, List, [], length, take, drop, Option, Some, None}
-use Rattle.std.proofs.Common.{Result, Ok, Err, refl, sym, ap, ◌∙◌, bytes_eq}
+-- A table, a file `REUSE.toml`: its path, and what amending makes of it.
+use Rattle.std.proofs.Common.{◌≡◌, ◌⊎◌, inl, inr, ℕ, ◌≤◌, Bool, true, false, not, ◌&&◌, ◌||◌, cond, List, [], length, take, drop, Option, Some, None}
+use Rattle.std.proofs.Common.{Result, Ok, Err, refl, sym, ap, ◌∙◌, bytes_eq, codes, nat_eq}
+use Rattle.std.specs.List.{ends_with}
 use Rattle.reuse_command.specs.Reading.{get, Files}
-use Rattle.std.proofs.lemmas.Bool.{false≢true, false_from_ne_true}
+use Rattle.std.proofs.lemmas.Bool.{false≢true, false_from_ne_true, and_parts}
 use Rattle.std.proofs.lemmas.Slice.Eq.{bytes_eq-Decides}
 use Rattle.reuse_text.specs.Text.{spliced}
 use Rattle.reuse_text.specs.declared.TheConstants.{LONGEST_FILE}
@@ -20,7 +21,8 @@ use Rattle.reuse_plan.specs.Amend.{table_refused_by, table_edit, table_amendment
 use Rattle.reuse_plan.specs.AmendmentPlan.{IsWithin}
 use Rattle.reuse_plan.specs.Annotate.{edit_by}
 use Rattle.reuse_plan.specs.Conversion.{toml_path}
-use Rattle.reuse_command.specs.Covered.{is_covered}
+use Rattle.reuse_plan.specs.Tables.{is_table}
+use Rattle.reuse_command.specs.Covered.{last_part, is_outside, has_stem, is_covered}
 use Rattle.reuse_plan.specs.Edit.{Edit}
 use Rattle.reuse_plan.specs.Plan.{IsRefusalOf, MakesEdit}
 use Rattle.reuse_plan.proofs.Outcomes.{no_edit, some_edit, same_edit}
@@ -29,16 +31,39 @@ use Rattle.reuse_plan.proofs.SpliceLemmas.{makes_splice}
 -- ---- its path
 
 -- it isn't covered
-pub not_table : (path : List ℕ) → is_covered path ≡ true → bytes_eq path toml_path ≡ false
-not_table path covered = false_from_ne_true (bytes_eq path toml_path)
-    (λ e. false≢true (ap is_covered (sym ((bytes_eq-Decides path toml_path).0 e)) ∙ covered))
+not_named : (o a b t d e f : Bool) → (not o && not (a || b || t || d || e || f)) ≡ true → t ≡ false
+not_named o a b false d e f h = refl
+not_named true a b true d e f h = absurd (false≢true h)
+not_named false true b true d e f h = absurd (false≢true h)
+not_named false false true true d e f h = absurd (false≢true h)
+not_named false false false true d e f h = absurd (false≢true h)
 
-pub is_table : (path : List ℕ) → path ≡ toml_path → bytes_eq path toml_path ≡ true
-is_table path e = (bytes_eq-Decides path toml_path).1 e
+pub not_table : (path : List ℕ) → is_covered path ≡ true → is_table path ≡ false
+not_table path covered =
+    let name = last_part path in
+    let other = not_named (is_outside path) (ends_with nat_eq name (codes ".license"))
+    (ends_with nat_eq name (codes ".spdx")) (bytes_eq name toml_path) (has_stem (codes "LICENSE") name)
+    (has_stem (codes "LICENCE") name) (has_stem (codes "COPYING") name) covered in
+    false_from_ne_true (is_table path) (λ e.
+    false≢true (sym other ∙ (and_parts (not (is_outside path)) (bytes_eq name toml_path) e).1))
 
--- the path of a file that is selected is covered, or that of the `REUSE.toml`
+-- the path of a file that is selected is covered, or that of a table
 abbrev pub IsWorkable : List ℕ → Type 0
-IsWorkable path = (is_covered path ≡ true) ⊎ (path ≡ toml_path)
+IsWorkable path = (is_covered path ≡ true) ⊎ (is_table path ≡ true)
+
+-- it is in no folder whose files are not covered
+within : (a b : Bool) → (not a && b) ≡ true → a ≡ false
+within true b e = absurd (false≢true e)
+within false b e = refl
+
+pub workable_within : (path : List ℕ) → IsWorkable path → is_outside path ≡ false
+workable_within path (inl covered) = within (is_outside path) _ covered
+workable_within path (inr table) = within (is_outside path) _ table
+
+-- and its name is that of one
+pub table_named : (path : List ℕ) → is_table path ≡ true → last_part path ≡ toml_path
+table_named path table = (bytes_eq-Decides (last_part path) toml_path).0
+    (and_parts (not (is_outside path)) (bytes_eq (last_part path) toml_path) table).1
 
 -- ---- what amending makes of it
 

@@ -1,5 +1,5 @@
 -- What of a choice came to nothing.
-use Rattle.std.proofs.Common.{◌≡◌, Bool, true, false, not, ◌&&◌, List, [], Result, Ok, Err, IfOk, OnOk, refl, sym}
+use Rattle.std.proofs.Common.{◌≡◌, ℕ, Bool, true, false, not, ◌&&◌, List, [], Result, Ok, Err, IfOk, OnOk, refl, sym}
 use Rattle.std.proofs.Common.{subst}
 use Rattle.std.proofs.lemmas.Bool.{false≢true}
 use Rattle.reuse_change.specs.Files.{Files}
@@ -25,16 +25,18 @@ not_recursive scope places given = by_flag scope.recursive given
     by_flag false is = refl
 
 -- nothing is chosen then
-pub unused_none : (scope : Scope) (places : List Place) (tree : Files) (unused : Unused) → scope.recursive ≡ false
-    → unused.names ≡ 0 → unused.globs.items ≡ [] → AreUnusedAt scope places tree unused
-unused_none scope places tree unused alone names globs =
-    subst (λ b. AreUnusedWhere b scope places tree unused) (sym alone) (names, globs)
+pub unused_none : (works_on : List ℕ → Bool) (scope : Scope) (places : List Place) (tree : Files) (unused : Unused)
+    → scope.recursive ≡ false → unused.names ≡ 0 → unused.globs.items ≡ []
+    → AreUnusedAt works_on scope places tree unused
+unused_none works_on scope places tree unused alone names globs =
+    subst (λ b. AreUnusedWhere b works_on scope places tree unused) (sym alone) (names, globs)
 
 -- where the tree's styles are refused, and a walk that goes on reports that, nothing is promised
 pub refused_unused : {A : Type 0} (policy : Policy) (styles : Result OwnNames Refusal) (refusal : Refusal)
-    (scope : Scope) (places : List Place) (tree : Files) (unused : Unused) (result : Result A Refusal)
+    (works_on : List ℕ → Bool) (scope : Scope) (places : List Place) (tree : Files) (unused : Unused)
+    (result : Result A Refusal)
     → IsRefusalOf styles refusal → IfOk result (λ plans. IsNoFailure refusal)
-    → OnOk result (AreUnusedIf styles scope places tree unused)
-refused_unused policy styles refusal scope places tree unused (Err ended) is reported = tt
-refused_unused policy styles refusal scope places tree unused (Ok plans) is reported =
-    subst (λ s. AreUnusedIf s scope places tree unused) (sym (reported_is styles refusal reported is)) tt
+    → OnOk result (AreUnusedIf styles works_on scope places tree unused)
+refused_unused policy styles refusal works_on scope places tree unused (Err ended) is reported = tt
+refused_unused policy styles refusal works_on scope places tree unused (Ok plans) is reported =
+    subst (λ s. AreUnusedIf s works_on scope places tree unused) (sym (reported_is styles refusal reported is)) tt

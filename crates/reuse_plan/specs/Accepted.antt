@@ -24,6 +24,7 @@ use Rattle.reuse_command.specs.Covered.{is_covered}
 use Rattle.reuse_plan.specs.Downloads.{text_for}
 use Rattle.reuse_plan.specs.Licence.{is_id, licence_path}
 use Rattle.reuse_plan.specs.Outcome.{edit_count, edits_of, recorded_size}
+use Rattle.reuse_plan.specs.Tables.{is_table}
 use Rattle.reuse_plan.specs.TreeStyles.{OwnNames, styles_in}
 use Rattle.reuse_plan.specs.Selected.{amended_paths, selected_paths}
 use Rattle.reuse_command.specs.declared.command.Command.{Command}
@@ -134,17 +135,18 @@ pub record CanCoveredBeAmended (amendments : Amendments) (scope : Scope) (own : 
   pub by_file : get tree (neighbour_of path) ≡ None → (style : Style) → IsStyleOf scope own path style
       → CanFileBeAmended amendments style bytes
 
--- the `REUSE.toml` is there and isn't too long, and the rules accept its bytes
-pub record CanTableBeAmended (amendments : Amendments) (tree : Files) : Type 0 where
+-- the path has a table, which isn't too long, and the rules accept its bytes
+pub record CanTableBeAmended (amendments : Amendments) (tree : Files) (path : List ℕ) : Type 0 where
   pub bytes : List ℕ
-  pub there : get tree toml_path ≡ Some bytes
+  pub there : get tree path ≡ Some bytes
+  pub table : is_table path ≡ true
   pub short : length bytes ≤ LONGEST_FILE
   pub accepted : IsOk (amended_table bytes (toml_amendment_of amendments bytes))
 
--- the path is that of the `REUSE.toml` at the root, which can be amended; or it has a covered file that can be
+-- the path has a table that can be amended, or a covered file that can be
 abbrev pub CanBeAmended : Amendments → Scope → OwnNames → Files → List ℕ → Type 0
 CanBeAmended amendments scope own tree path =
-    ((path ≡ toml_path) × CanTableBeAmended amendments tree) ⊎ CanCoveredBeAmended amendments scope own tree path
+    CanTableBeAmended amendments tree path ⊎ CanCoveredBeAmended amendments scope own tree path
 
 -- the tree's own styles are good, the root is given only where folders are gone through, each path that is gone through
 -- can be amended, and one entry holds them all

@@ -1,9 +1,8 @@
 -- What amend does at each path of a tree: the information is amended where it stands, in the neighbour that is there or
--- else in the file's own header block, and in the `REUSE.toml` at the root in its values. Nothing is made, and no file
+-- else in the file's own header block, and in a table, a file `REUSE.toml`, in its values. Nothing is made, and no file
 -- is refused for want of a style (docs/RULES.md, "What amend writes").
 use Rattle.std.specs.Prelude.{ℕ, not, List, length, take, drop, nat_lt, Option, Some, None, Result, Ok, Err}
 use Rattle.std.specs.Prelude.{if◌then◌else◌}
-use Rattle.std.specs.Str.{bytes_eq}
 use Rattle.std.specs.FinMap.{get}
 use Rattle.reuse_text.specs.Text.{spliced}
 use Rattle.reuse_toml.specs.declared.toml_change.TomlSplice.{TomlSplice}
@@ -24,10 +23,10 @@ use Rattle.reuse_header.specs.Neighbour.{is_text}
 use Rattle.reuse_change.specs.Files.{Files}
 use Rattle.reuse_change.specs.Listing.{is_folder}
 use Rattle.reuse_plan.specs.Annotate.{neighbour_of, edit_by}
-use Rattle.reuse_plan.specs.Conversion.{toml_path}
 use Rattle.reuse_command.specs.Covered.{is_covered}
 use Rattle.reuse_plan.specs.Edit.{Edit}
 use Rattle.reuse_plan.specs.HeaderFaults.{refused_by}
+use Rattle.reuse_plan.specs.Tables.{is_table}
 use Rattle.reuse_plan.specs.TreeStyles.{OwnNames}
 use Rattle.reuse_command.specs.declared.amend_fault.AmendFault.TheVariants.{BadExpression, NothingLeft, CannotBeAmended}
 use Rattle.reuse_command.specs.declared.command.Place.TheVariants as place
@@ -89,7 +88,7 @@ abbrev pub amend_covered : Amendments → Scope → OwnNames → List ℕ → Li
 amend_covered amendments scope own path bytes (Some beside) = amend_neighbour amendments path beside
 amend_covered amendments scope own path bytes None = amend_inside amendments path bytes (style_for scope own path)
 
--- ---- the `REUSE.toml`
+-- ---- a table
 
 -- why it can't be amended, as a refusal that names it
 abbrev pub table_refused_by : List ℕ → AmendTomlRefusal → Refusal
@@ -133,7 +132,7 @@ abbrev pub amended_where : Amendments → Scope → OwnNames → Files → List 
 amended_where amendments scope own tree path None =
     if is_folder tree path then Err (IsFolder (place.Path path)) else Err (NoSuchPath path)
 amended_where amendments scope own tree path (Some bytes) =
-    if bytes_eq path toml_path then amend_table amendments path bytes
+    if is_table path then amend_table amendments path bytes
     else if not (is_covered path) then Err (NotCovered path)
     else amend_covered amendments scope own path bytes (get tree (neighbour_of path))
 

@@ -1,5 +1,5 @@
 -- What amend makes of a tree, in other words: each file that is gone through, or its neighbour where that is there,
--- becomes what the rules say of these bytes alone, the `REUSE.toml` what they say of its values, and all else stays.
+-- becomes what the rules say of these bytes alone, a table what they say of its values, and all else stays.
 use Rattle.std.specs.Prelude.{◌≡◌, ◌≢◌, ◌⊎◌, ℕ, true, false, List, Some, None, is_some, Ok}
 use Rattle.std.specs.List.{Contains}
 use Rattle.std.specs.Option.{option_map}
@@ -17,8 +17,8 @@ use Rattle.reuse_change.specs.Files.{Files}
 use Rattle.reuse_plan.specs.Amend.{amended_table}
 use Rattle.reuse_plan.specs.Annotate.{neighbour_of}
 use Rattle.reuse_plan.specs.Annotated.{IsSameAround, IsStyleOf, HasKind, Pair, pair_at}
-use Rattle.reuse_plan.specs.Conversion.{toml_path}
 use Rattle.reuse_command.specs.Covered.{is_covered}
+use Rattle.reuse_plan.specs.Tables.{is_table}
 use Rattle.reuse_plan.specs.TreeStyles.{OwnNames, styles_in}
 use Rattle.reuse_plan.specs.Selected.{amended_paths}
 use Rattle.reuse_command.specs.declared.command.Place.{Place}
@@ -71,7 +71,7 @@ pub record IsCoveredAmended (amendments : Amendments) (scope : Scope) (own : Own
   pub becomes : (HasNoPlace scope own path bytes old × (new ≡ old))
       ⊎ IsFileAmended amendments scope own path bytes old new ⊎ IsNeighbourAmended amendments old new
 
--- ---- the `REUSE.toml`
+-- ---- a table
 
 -- It is there, and holds what the rules make of its own bytes. That is read as the old table with the values of the two
 -- keys amended. It is as it was, or differs in strings and commas alone, so that each comment stays. A neighbour of it
@@ -85,10 +85,10 @@ pub record IsTableAmended (amendments : Amendments) (old new : Pair) : Type 0 wh
   pub reads : IsAmendedText amendments bytes made
   pub keeps : (made ≡ bytes) ⊎ DiffersInStrings bytes made
 
--- the path is that of the `REUSE.toml` at the root, which is amended; or it has a covered file, which is
+-- the path is that of a table, which is amended; or it has a covered file, which is
 abbrev pub IsAmended : Amendments → Scope → OwnNames → List ℕ → Pair → Pair → Type 0
 IsAmended amendments scope own path old new =
-    ((path ≡ toml_path) × IsTableAmended amendments old new) ⊎ IsCoveredAmended amendments scope own path old new
+    ((is_table path ≡ true) × IsTableAmended amendments old new) ⊎ IsCoveredAmended amendments scope own path old new
 
 -- ---- the tree
 

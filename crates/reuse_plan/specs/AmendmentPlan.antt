@@ -44,7 +44,7 @@ beside_by asked path beside = amend_neighbour asked.amendments.now path beside
 abbrev pub inside_by : Amendment → List ℕ → List ℕ → Option Style → Result (Option Edit) Refusal
 inside_by asked path bytes style = amend_inside asked.amendments.now path bytes style
 
--- the `REUSE.toml`, of these bytes
+-- a table, of these bytes
 abbrev pub table_by : Amendment → List ℕ → List ℕ → Result (Option Edit) Refusal
 table_by asked path bytes = amend_table asked.amendments.now path bytes
 

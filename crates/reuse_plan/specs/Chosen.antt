@@ -9,7 +9,7 @@ use Rattle.reuse_toml.specs.GlobMatch.{GlobMatches}
 use Rattle.reuse_change.specs.Path.{lies_under}
 use Rattle.reuse_change.specs.Files.{Files}
 use Rattle.reuse_command.specs.Command.{has_root, paths_among}
-use Rattle.reuse_plan.specs.Conversion.{toml_path}
+use Rattle.reuse_plan.specs.Tables.{is_table}
 use Rattle.reuse_command.specs.Covered.{is_covered}
 use Rattle.reuse_change.specs.Listing.{is_folder}
 use Rattle.reuse_command.specs.declared.command.Place.{Place}
@@ -44,7 +44,7 @@ MatchesNone globs path = All (λ glob. LeavesIn glob path) globs
 abbrev pub IsAskedFor : Scope → List ℕ → Type 0
 IsAskedFor scope path = (is_covered path ≡ true) × IsListed scope.listed path × MatchesNone scope.excluded path
 
--- covered, or the `REUSE.toml` at the root, listed and not excluded
+-- covered or a table, listed and not excluded
 abbrev pub IsAskedToAmend : Scope → List ℕ → Type 0
 IsAskedToAmend scope path =
-    ((is_covered path ≡ true) ⊎ (path ≡ toml_path)) × IsListed scope.listed path × MatchesNone scope.excluded path
+    ((is_covered path ≡ true) ⊎ (is_table path ≡ true)) × IsListed scope.listed path × MatchesNone scope.excluded path

@@ -27,6 +27,7 @@ pub mod Shown
 pub mod Skipped
 pub mod Steps
 pub mod TablePut
+pub mod Tables
 pub mod TextsPut
 pub mod TreeStyles
 pub mod Unused

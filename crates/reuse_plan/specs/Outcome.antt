@@ -18,7 +18,7 @@ use Rattle.reuse_plan.specs.PathEdits.{PathEdit, refused_alone, all_or_none, edi
 use Rattle.reuse_plan.specs.Reverting.{reverted_at}
 use Rattle.reuse_plan.specs.Skipped.{is_skipped}
 use Rattle.reuse_plan.specs.TreeStyles.{OwnNames, styles_in}
-use Rattle.reuse_plan.specs.Selected.{with_table, selected_paths}
+use Rattle.reuse_plan.specs.Selected.{amended_paths, selected_paths}
 use Rattle.reuse_command.specs.declared.command.Command.{Command}
 use Rattle.reuse_command.specs.declared.command.Command.TheVariants.{Annotate, Amend, ConvertDep5, Download, Revert}
 use Rattle.reuse_command.specs.declared.command.Place.{Place}
@@ -61,10 +61,9 @@ edit_count (Ok edits) = length edits
 
 -- one for each path that is gone through, in byte order, without repeats; the root stands alone where folders aren't
 -- gone through, since it is one
-abbrev pub at_places : (List ℕ → PathEdit) → Scope → List Place → Files → List PathEdit
-at_places at scope places tree =
-    if not scope.recursive && has_root places then refused_alone (IsFolder place.Root)
-    else map at (selected_paths scope places tree)
+abbrev pub at_places : (List ℕ → PathEdit) → Scope → List Place → List (List ℕ) → List PathEdit
+at_places at scope places paths =
+    if not scope.recursive && has_root places then refused_alone (IsFolder place.Root) else map at paths
 
 -- what annotate does at a path, where the tree gives these kinds to its own names
 abbrev pub annotation_at : How → Scope → Additions → OwnNames → Files → List ℕ → PathEdit
@@ -79,7 +78,7 @@ annotation_at how scope additions own tree path =
 abbrev pub annotations_by : List Place → Additions → How → Scope → Files → Result OwnNames Refusal → List PathEdit
 annotations_by places additions how scope tree (Err refusal) = refused_alone refusal
 annotations_by places additions how scope tree (Ok own) =
-    at_places (annotation_at how scope additions own tree) scope places tree
+    at_places (annotation_at how scope additions own tree) scope places (selected_paths scope places tree)
 
 -- what amend does at a path: it skips none
 abbrev pub amendment_at : Amendments → Scope → OwnNames → Files → List ℕ → PathEdit
@@ -89,14 +88,14 @@ amendment_at amendments scope own tree path =
 abbrev pub amendments_by : List Place → Amendments → Scope → Files → Result OwnNames Refusal → List PathEdit
 amendments_by places amendments scope tree (Err refusal) = refused_alone refusal
 amendments_by places amendments scope tree (Ok own) =
-    at_places (amendment_at amendments scope own tree) scope places tree
+    at_places (amendment_at amendments scope own tree) scope places (amended_paths scope places tree)
 
 -- what a command does, path by path
 abbrev pub path_edits_of : Command → Files → List PathEdit
 path_edits_of (Annotate places additions how scope) tree =
     annotations_by places additions how scope tree (styles_in tree)
 path_edits_of (Amend places amendments scope) tree =
-    amendments_by (with_table scope places tree) amendments scope tree (styles_in tree)
+    amendments_by places amendments scope tree (styles_in tree)
 path_edits_of ConvertDep5 tree = all_or_none (conversion_edits tree)
 path_edits_of (Download ids texts) tree = downloads_at ids texts tree
 path_edits_of (Revert changes touched skip_moved) tree = map (reverted_at touched skip_moved tree) changes

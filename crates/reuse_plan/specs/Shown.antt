@@ -1,5 +1,5 @@
 -- What a listing of a part of the tree shows of a path.
-use Rattle.std.specs.Prelude.{◌≡◌, ℕ, false, List, [], ◌∷◌, length, nat_lt, filter, flat_map, true, if◌then◌else◌}
+use Rattle.std.specs.Prelude.{◌≡◌, ℕ, Bool, false, List, [], ◌∷◌, length, nat_lt, filter, flat_map, true, if◌then◌else◌}
 use Rattle.std.specs.List.{All}
 use Rattle.std.specs.FinMap.{keys}
 use Rattle.reuse_change.specs.Clash.{is_clash, is_clash_of}
@@ -7,12 +7,10 @@ use Rattle.reuse_change.specs.Files.{Files}
 use Rattle.reuse_change.specs.Listing.{ArePaths, is_among, is_folder, is_folder_of}
 use Rattle.reuse_plan.specs.Annotate.{neighbour_of}
 use Rattle.reuse_change.specs.Path.{lies_under}
-use Rattle.reuse_command.specs.Choice.{is_chosen}
 use Rattle.reuse_command.specs.Command.{has_root}
 use Rattle.reuse_plan.specs.Licence.{licence_path}
 use Rattle.reuse_command.specs.declared.command.Place.{Place}
 use Rattle.reuse_command.specs.declared.command.Place.TheVariants.{Root, Path}
-use Rattle.reuse_command.specs.declared.command.Scope.{Scope}
 use Rattle.reuse_plan.specs.declared.select.Listing.{Listing}
 use Rattle.reuse_plan.specs.declared.select.Listing.TheVariants.{Listed, Alone}
 
@@ -57,13 +55,14 @@ with_neighbours paths = flat_map (λ path. path ∷ neighbours_of path) paths
 abbrev pub folders_for : List Place → List (List ℕ) → List (List ℕ)
 folders_for places given = if has_root places then [] else with_neighbours given
 
--- beneath the folder, these paths have the files that are asked for, and no others than the tree
-pub record ShowsBeneath (scope : Scope) (paths : List (List ℕ)) (tree : Files) (folder : List ℕ) : Type 0 where
-  pub chosen : filter (is_chosen scope) (filter (λ other. lies_under other folder) paths) ≡ filter (is_chosen scope)
+-- beneath the folder, these paths have the files that are chosen, and no others than the tree
+pub record ShowsBeneath (chooses : List ℕ → Bool) (paths : List (List ℕ)) (tree : Files)
+    (folder : List ℕ) : Type 0 where
+  pub chosen : filter chooses (filter (λ other. lies_under other folder) paths) ≡ filter chooses
       (filter (λ other. lies_under other folder) (keys tree))
   pub some : is_folder_of paths folder ≡ true → is_folder tree folder ≡ true
 
 -- so they do beneath the place
-abbrev pub ShowsPlace : Scope → List (List ℕ) → Files → Place → Type 0
-ShowsPlace scope paths tree Root = filter (is_chosen scope) paths ≡ filter (is_chosen scope) (keys tree)
-ShowsPlace scope paths tree (Path folder) = ShowsBeneath scope paths tree folder
+abbrev pub ShowsPlace : (List ℕ → Bool) → List (List ℕ) → Files → Place → Type 0
+ShowsPlace chooses paths tree Root = filter chooses paths ≡ filter chooses (keys tree)
+ShowsPlace chooses paths tree (Path folder) = ShowsBeneath chooses paths tree folder

@@ -1,18 +1,16 @@
-//! What amend does at a path. What it works on is the `REUSE.toml` at the root, or the neighbour of
+//! What amend does at a path. What it works on is a table, a file `REUSE.toml`, or the neighbour of
 //! a file where that is there, else the header block of the file itself. It makes nothing.
 ghost use Rattle.std.specs.Prelude.{◌≡◌, ℕ, List, IfErr, Some, length, nat_lt, false};
-ghost use Rattle.std.specs.Str.{bytes_eq};
 ghost use Rattle.reuse_command.specs.Reading.{get, reading_of, tree_of, Files, IsOfPlan, ReadsAlone};
 ghost use Rattle.reuse_plan.specs.Amend.{style_of_kind};
 ghost use Rattle.reuse_plan.specs.AmendmentPlan.{amended_by, beside_by, inside_by, style_by, table_by};
 ghost use Rattle.reuse_plan.specs.Annotate.{neighbour_of};
-ghost use Rattle.reuse_plan.specs.Conversion.{toml_path};
 ghost use Rattle.reuse_plan.specs.Plan.{AnswersEdit};
 ghost use Rattle.reuse_command.specs.Refused.{IsNoFault};
 ghost use Rattle.reuse_plan.specs.Shown.{ShowsPair};
 
 use crate::annotation::Amendment;
-use crate::covered::is_covered;
+use crate::covered::{is_covered, is_table};
 use crate::edit::{amendment_by, table_change_by};
 use crate::place::{absent_refusal, neighbour_path, short_bytes};
 use crate::target_choice::neighbour_of;
@@ -39,7 +37,7 @@ pub(crate) fn plan_amended<S: Store>(
     if !is_among(paths, path.as_bytes()) {
         return Err(absent_refusal(alloc, paths, path)?);
     }
-    if is_table(path) {
+    if is_table(path.as_bytes()) {
         return plan_table(alloc, store, path, asked);
     }
     if !is_covered(path.as_bytes()) {
@@ -55,14 +53,7 @@ pub(crate) fn plan_amended<S: Store>(
     }
 }
 
-// Whether the path is that of the `REUSE.toml` at the root.
-fn is_table(path: &PathText) -> bool
-    ensures { result ≡ bytes_eq path.now toml_path }
-{
-    path.as_bytes() == b"REUSE.toml".as_slice()
-}
-
-// The change of the `REUSE.toml`, which is there.
+// The change of a table, which is there.
 fn plan_table<S: Store>(
     alloc: Global,
     store: &mut S,
@@ -77,7 +68,7 @@ fn plan_table<S: Store>(
     plan_table_text(alloc, path, asked, reading)
 }
 
-// The change of the `REUSE.toml`, by what was read of it.
+// The change of a table, by what was read of it.
 fn plan_table_text(
     alloc: Global,
     path: &PathText,

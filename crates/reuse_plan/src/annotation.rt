@@ -1,8 +1,10 @@
 //! What is asked of the files that a command goes through.
 ghost use Rattle.std.specs.Prelude.{◌≡◌};
-ghost use Rattle.reuse_plan.specs.FileTask.{scope_of};
+ghost use Rattle.reuse_plan.specs.FileTask.{scope_of, works_on};
 
+use crate::covered::{is_amendable, is_covered};
 use reuse_amend::Amendments;
+use reuse_change::PathText;
 use reuse_command::command::Scope;
 use reuse_header::{How, StyleTable};
 use reuse_notice::Additions;
@@ -39,6 +41,16 @@ impl<'a> FileTask<'a> {
         match self {
             FileTask::Annotation(asked) => asked.scope,
             FileTask::Amendment(asked) => asked.scope,
+        }
+    }
+
+    /// Whether it works on a file of this path.
+    pub(crate) fn works_on(&self, path: &PathText) -> bool
+        ensures { result ≡ works_on self.now path.now }
+    {
+        match self {
+            FileTask::Annotation(_) => is_covered(path.as_bytes()),
+            FileTask::Amendment(_) => is_amendable(path.as_bytes()),
         }
     }
 }

@@ -35,10 +35,7 @@ pub(crate) fn plan_conversion<S: Store>(
 }
 
 // The paths of the tree at `REUSE.toml` and beneath it: no other is looked at.
-pub(crate) fn toml_paths<S: Store>(
-    alloc: Global,
-    store: &mut S,
-) -> Result<Vec<PathText>, StoreFault>
+fn toml_paths<S: Store>(alloc: Global, store: &mut S) -> Result<Vec<PathText>, StoreFault>
     ensures paths { S.honest store.new
         → IfOk result (λ paths. Shows paths.items (tree_of (S.files store.old)) toml_path) }
     ensures fails { FailsAsRead S.Store store.old store.new result }

@@ -95,8 +95,7 @@ pub(crate) fn amendment_by(
     }
 }
 
-/// The change of the `REUSE.toml`, which is there and has these bytes, by what an amendment makes
-/// of it.
+/// The change of a table, which is there and has these bytes, by what an amendment makes of it.
 pub(crate) fn table_change_by(
     alloc: Global,
     path: &PathText,
@@ -134,7 +133,7 @@ fn table_change(
     Ok(Change::sealed_splice(path, file, splice.at, removed, splice.new))
 }
 
-// The refusal of an amended `REUSE.toml`, with its path.
+// The refusal of an amended table, with its path.
 fn table_refused_by(
     alloc: Global,
     path: &PathText,

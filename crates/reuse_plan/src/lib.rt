@@ -7,7 +7,6 @@
 #![tactic(auto)]
 
 mod amend;
-mod amended_places;
 mod annotate;
 mod annotation;
 mod convert;

@@ -6,15 +6,16 @@ ghost use Rattle.reuse_change.specs.Listing.{ArePaths, is_folder, listed_paths};
 ghost use Rattle.reuse_command.specs.Answer.{IsEarlyFailure};
 ghost use Rattle.reuse_command.specs.Reading.{tree_of, OnlyReads, ReadsAlone};
 ghost use Rattle.reuse_plan.specs.Shown.{folders_for, ShowsEach, ShowsPlace};
-ghost use Rattle.reuse_command.specs.Choice.{is_chosen, is_listed, is_passed_over};
+ghost use Rattle.reuse_command.specs.Choice.{is_listed, is_passed_over};
+ghost use Rattle.reuse_plan.specs.FileTask.{chooses, paths_of, scope_of, works_on};
 ghost use Rattle.reuse_plan.specs.Unused.{AreUnusedAt};
-ghost use Rattle.reuse_plan.specs.Selected.{expanded, selected_paths};
+ghost use Rattle.reuse_plan.specs.Selected.{expanded};
 ghost use Rattle.reuse_command.specs.declared.command.Place.TheVariants as place;
 ghost use Rattle.std.specs.Option.{option_to_list};
 ghost use Rattle.reuse_command.specs.Command.{has_root, path_in, paths_among};
 ghost use Rattle.reuse_command.specs.declared.failure.Failure.TheVariants as failures;
 
-use crate::covered::is_covered;
+use crate::annotation::FileTask;
 use crate::skipped_folders::SkippedFolders;
 use crate::tree_paths::{is_folder_alone, tree_paths, with_neighbours};
 use crate::unused::Unused;
@@ -32,7 +33,7 @@ pub(crate) fn gives_root(places: &[Place], scope: &Scope) -> bool
     !scope.recursive && has_root(places)
 }
 
-pub(crate) fn has_root(places: &[Place]) -> bool
+fn has_root(places: &[Place]) -> bool
     ensures { result ≡ has_root places.now }
 {
     places.iter().any(|place| matches!(place, Place::Root))
@@ -56,24 +57,26 @@ pub(crate) struct Selected {
 }
 
 /// The paths that a command goes through: those among the places, and, where folders are gone
-/// through, the covered files beneath a folder that are asked for in its place. Nothing is listed
-/// where no folders are gone through. It notes what of the choice came to nothing.
+/// through, the files beneath a folder that are chosen in its place. Nothing is listed where no
+/// folders are gone through. It notes what of the choice came to nothing.
 pub(crate) fn find_selected<S: Store>(
     alloc: Global,
     store: &mut S,
     places: &[Place],
-    scope: &Scope,
+    asked: &FileTask<'_>,
     unused: &mut Unused,
 ) -> Result<Selected, Refusal>
     ensures paths { S.honest store.new → IfOk result
-        (λ selected. selected.paths.items ≡ selected_paths scope.now places.now (tree_of (S.files store.old))) }
+        (λ selected. selected.paths.items ≡ paths_of asked.now places.now (tree_of (S.files store.old))) }
     ensures shown { S.honest store.new
         → IfOk result (λ selected. ShowsEach selected.listing (tree_of (S.files store.old)) selected.paths.items) }
     ensures unused { S.honest store.new
-        → OnOk result (AreUnusedAt scope.now places.now (tree_of (S.files store.old)) unused.new) }
+        → OnOk result (AreUnusedAt (works_on asked.now) (scope_of asked.now) places.now (tree_of (S.files store.old))
+        unused.new) }
     ensures asks { ReadsAlone S.Store IsEarlyFailure store.old store.new result }
 {
     let given = sorted(paths_among(alloc, places)?);
+    let scope = asked.scope();
     if !scope.recursive {
         *unused = Unused::none(alloc);
         return Ok(Selected {
@@ -82,8 +85,8 @@ pub(crate) fn find_selected<S: Store>(
         });
     }
     let listed = list_selected(alloc, store, places, &given, scope)?;
-    let paths = sorted(expanded(alloc, store, &listed, places, scope)?);
-    *unused = Unused::of(alloc, scope, &paths, &listed)?;
+    let paths = sorted(expanded(alloc, store, &listed, places, asked)?);
+    *unused = Unused::of(alloc, asked, &paths, &listed)?;
     Ok(Selected {
         paths,
         listing: Listing::Listed(FixedList::new(listed)),
@@ -123,53 +126,53 @@ fn folders_for(
     with_neighbours(alloc, given)
 }
 
-// The paths among the places, with the covered files beneath a folder that are asked for in its
-// place. `paths` show what is beneath.
+// The paths among the places, with the files beneath a folder that are chosen in its place. `paths`
+// show what is beneath.
 fn expanded<S: Store>(
     alloc: Global,
     store: &mut S,
     paths: &[PathText],
     places: &[Place],
-    scope: &Scope,
+    asked: &FileTask<'_>,
 ) -> Result<Vec<PathText>, StoreFault>
     ensures found { S.honest store.new → ArePaths paths.now
-        → All (ShowsPlace scope.now paths.now (tree_of (S.files store.old))) places.now
-        → IfOk result (λ found. found.items ≡ flat_map (expanded scope.now (tree_of (S.files store.old))) places.now) }
+        → All (ShowsPlace (chooses asked.now) paths.now (tree_of (S.files store.old))) places.now → IfOk result
+        (λ found. found.items ≡ flat_map (expanded (chooses asked.now) (tree_of (S.files store.old))) places.now) }
     ensures fails { FailsAsRead S.Store store.old store.new result }
     ensures reads { OnlyReads S.Store store.old store.new }
 {
     let mut found = Vec::new(alloc);
     for place in places {
-        push_expanded(alloc, store, &mut found, paths, place, scope)?;
+        push_expanded(alloc, store, &mut found, paths, place, asked)?;
     }
     Ok(found)
 }
 
-// Adds what stands in the place of a place: the path, or the covered files beneath it that are
-// asked for where it is a folder.
+// Adds what stands in the place of a place: the path, or the files beneath it that are chosen where
+// it is a folder.
 fn push_expanded<S: Store>(
     alloc: Global,
     store: &mut S,
     found: &mut Vec<PathText>,
     paths: &[PathText],
     place: &Place,
-    scope: &Scope,
+    asked: &FileTask<'_>,
 ) -> Result<(), StoreFault>
     ensures adds { S.honest store.new → ArePaths paths.now
-        → ShowsPlace scope.now paths.now (tree_of (S.files store.old)) place.now
+        → ShowsPlace (chooses asked.now) paths.now (tree_of (S.files store.old)) place.now
         → OnOk result
-        (found.new.items ≡ found.old.items ++ expanded scope.now (tree_of (S.files store.old)) place.now) }
+        (found.new.items ≡ found.old.items ++ expanded (chooses asked.now) (tree_of (S.files store.old)) place.now) }
     ensures fails { FailsAsRead S.Store store.old store.new result }
     ensures reads { OnlyReads S.Store store.old store.new }
 {
     let Place::Path(path) = place else {
-        return Ok(push_chosen(alloc, found, paths, scope)?);
+        return Ok(push_chosen(alloc, found, paths, asked)?);
     };
     let beneath = paths_beneath(alloc, paths, path)?;
     if stands_alone(alloc, store, beneath, path)? {
         return Ok(push_copy(alloc, found, path)?);
     }
-    Ok(push_chosen(alloc, found, beneath, scope)?)
+    Ok(push_chosen(alloc, found, beneath, asked)?)
 }
 
 fn push_copy(alloc: Global, found: &mut Vec<PathText>, path: &PathText) -> Result<(), AllocError>
@@ -199,17 +202,17 @@ fn stands_alone<S: Store>(
     Ok(!is_folder_alone(alloc, store, path)?)
 }
 
-// Adds the ones that are asked for.
+// Adds the ones that are chosen.
 fn push_chosen(
     alloc: Global,
     found: &mut Vec<PathText>,
     paths: &[PathText],
-    scope: &Scope,
+    asked: &FileTask<'_>,
 ) -> Result<(), AllocError>
-    ensures { OnOk result (found.new.items ≡ found.old.items ++ filter (is_chosen scope.now) paths.now) }
+    ensures { OnOk result (found.new.items ≡ found.old.items ++ filter (chooses asked.now) paths.now) }
 {
     for path in paths {
-        push_if_chosen(alloc, found, path, scope)?;
+        push_if_chosen(alloc, found, path, asked)?;
     }
     Ok(())
 }
@@ -218,11 +221,11 @@ fn push_if_chosen(
     alloc: Global,
     found: &mut Vec<PathText>,
     path: &PathText,
-    scope: &Scope,
+    asked: &FileTask<'_>,
 ) -> Result<(), AllocError>
-    ensures { OnOk result (found.new.items ≡ found.old.items ++ filter (is_chosen scope.now) (path.now ∷ [])) }
+    ensures { OnOk result (found.new.items ≡ found.old.items ++ filter (chooses asked.now) (path.now ∷ [])) }
 {
-    if is_chosen(scope, path) {
+    if is_chosen(asked, path) {
         found.push(path.try_clone(alloc)?)?;
     }
     Ok(())
@@ -251,11 +254,12 @@ fn push_path(alloc: Global, paths: &mut Vec<PathText>, place: &Place) -> Result<
     }
 }
 
-// Whether a file beneath a folder is selected.
-fn is_chosen(scope: &Scope, path: &PathText) -> bool
-    ensures { result ≡ is_chosen scope.now path.now }
+// Whether a file beneath a folder is chosen.
+fn is_chosen(asked: &FileTask<'_>, path: &PathText) -> bool
+    ensures { result ≡ chooses asked.now path.now }
 {
-    is_covered(path.as_bytes()) && is_listed(scope, path) && !matches_one(&scope.excluded, path)
+    let scope = asked.scope();
+    asked.works_on(path) && is_listed(scope, path) && !matches_one(&scope.excluded, path)
 }
 
 // Whether the path is listed, where there is a list.

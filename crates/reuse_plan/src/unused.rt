@@ -1,11 +1,12 @@
 //! What of a command's choice of the files beneath folders came to nothing: globs that left nothing
-//! out, and listed paths that are no covered file beneath a place. It is found by what the walk
-//! listed anyway. `tests/notes.sh` shows what is reported of it.
+//! out, and listed paths that are no file beneath a place on which the command works. It is found by
+//! what the walk listed anyway. `tests/notes.sh` shows what is reported of it.
 ghost use Rattle.std.specs.Prelude.{◌≡◌, [], IfOk, map};
 ghost use Rattle.reuse_change.specs.Listing.{ArePaths};
+ghost use Rattle.reuse_plan.specs.FileTask.{scope_of, works_on};
 ghost use Rattle.reuse_plan.specs.Unused.{is_left_out_by, is_unmet, leaves_none_out, unmet_count};
 
-use crate::covered::is_covered;
+use crate::annotation::FileTask;
 use crate::select::is_listed;
 use reuse_change::{PathText, is_among};
 use reuse_command::choice::{leaves_out, matches_one};
@@ -16,7 +17,8 @@ use std::alloc::{AllocError, Global};
 /// What of a choice came to nothing.
 #[derive(Debug, Drop)]
 pub struct Unused {
-    /// How many paths of the list are no covered file beneath a place, and left out by no glob.
+    /// How many paths of the list are no file beneath a place on which the command works, and left
+    /// out by no glob.
     pub names: usize,
     /// Of each glob, in their order, whether it left none of the files out that were found. A file
     /// beneath a folder that is passed over isn't found.
@@ -35,21 +37,22 @@ impl Unused {
         }
     }
 
-    /// Of the scope's, where these paths were found, and those of them are selected.
+    /// Of the one that is asked for, where these paths were found, and those of them are selected.
     pub(crate) fn of(
         alloc: Global,
-        scope: &Scope,
+        asked: &FileTask<'_>,
         selected: &[PathText],
         found: &[PathText],
     ) -> Result<Unused, AllocError>
         requires { ArePaths selected.now }
-        ensures names { IfOk result (λ unused. unused.names ≡ unmet_count scope.now selected.now scope.now.listed) }
-        ensures globs { IfOk result
-            (λ unused. unused.globs.items ≡ map (leaves_none_out scope.now selected.now found.now) scope.now.excluded) }
+        ensures names { IfOk result (λ unused. unused.names ≡ unmet_count (scope_of asked.now) selected.now
+            (scope_of asked.now).listed) }
+        ensures globs { IfOk result (λ unused. unused.globs.items ≡ map (leaves_none_out (works_on asked.now)
+            (scope_of asked.now) selected.now found.now) (scope_of asked.now).excluded) }
     {
         Ok(Unused {
-            names: unmet_count(scope, selected),
-            globs: idle_globs(alloc, scope, selected, found)?,
+            names: unmet_count(asked.scope(), selected),
+            globs: idle_globs(alloc, asked, selected, found)?,
         })
     }
 }
@@ -78,37 +81,43 @@ fn is_unmet(scope: &Scope, selected: &[PathText], path: &PathText) -> bool
 // Of each glob whether it left none out.
 fn idle_globs(
     alloc: Global,
-    scope: &Scope,
+    asked: &FileTask<'_>,
     selected: &[PathText],
     found: &[PathText],
 ) -> Result<Vec<bool>, AllocError>
     requires { ArePaths selected.now }
-    ensures { IfOk result
-        (λ idle. idle.items ≡ map (leaves_none_out scope.now selected.now found.now) scope.now.excluded) }
+    ensures { IfOk result (λ idle. idle.items ≡ map (leaves_none_out (works_on asked.now) (scope_of asked.now)
+        selected.now found.now) (scope_of asked.now).excluded) }
 {
-    scope
+    asked
+        .scope()
         .excluded
         .as_slice()
         .iter()
-        .map(|glob| leaves_none_out(scope, selected, found, glob))
+        .map(|glob| leaves_none_out(asked, selected, found, glob))
         .collect(alloc)
 }
 
-fn leaves_none_out(scope: &Scope, selected: &[PathText], found: &[PathText], glob: &Glob) -> bool
+fn leaves_none_out(
+    asked: &FileTask<'_>,
+    selected: &[PathText],
+    found: &[PathText],
+    glob: &Glob,
+) -> bool
     requires { ArePaths selected.now }
-    ensures { result ≡ leaves_none_out scope.now selected.now found.now glob.now }
+    ensures { result ≡ leaves_none_out (works_on asked.now) (scope_of asked.now) selected.now found.now glob.now }
 {
     !found
         .iter()
-        .any(|path| is_left_out_by(scope, selected, glob, path))
+        .any(|path| is_left_out_by(asked, selected, glob, path))
 }
 
-fn is_left_out_by(scope: &Scope, selected: &[PathText], glob: &Glob, path: &PathText) -> bool
+fn is_left_out_by(asked: &FileTask<'_>, selected: &[PathText], glob: &Glob, path: &PathText) -> bool
     requires { ArePaths selected.now }
-    ensures { result ≡ is_left_out_by scope.now selected.now glob.now path.now }
+    ensures { result ≡ is_left_out_by (works_on asked.now) (scope_of asked.now) selected.now glob.now path.now }
 {
     leaves_out(glob, path)
-        && is_covered(path.as_bytes())
-        && is_listed(scope, path)
+        && asked.works_on(path)
+        && is_listed(asked.scope(), path)
         && !is_among(selected, path.as_bytes())
 }

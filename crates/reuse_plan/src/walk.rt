@@ -1,19 +1,18 @@
 //! Plans a command: finds what it would do at each path, and makes no change. One walk serves runs
 //! and previews.
 ghost use Rattle.std.specs.Prelude.{map, OnOk};
-ghost use Rattle.reuse_plan.specs.FileTask.{at_by, at_places_by, scope_of};
+ghost use Rattle.reuse_plan.specs.FileTask.{at_by, at_places_by, scope_of, works_on};
 ghost use Rattle.reuse_command.specs.Command.{HoldsEntry};
 ghost use Rattle.reuse_plan.specs.Outcome.{path_edits_of, amendments_by};
 ghost use Rattle.reuse_plan.specs.PathPlans.{AnswersPlan, AnswersPlans, EndsWalk};
 ghost use Rattle.reuse_command.specs.Reading.{tree_of, IsOfPlan, ReadsAlone};
 ghost use Rattle.reuse_plan.specs.Shown.{ShowsEach, ShowsOne, ShowsPair};
+ghost use Rattle.reuse_plan.specs.Tables.{is_amendable};
 ghost use Rattle.reuse_plan.specs.TreeStyles.{styles_in};
 ghost use Rattle.reuse_plan.specs.Unused.{AreUnusedAt, AreUnusedBy, AreUnusedIf};
-ghost use Rattle.reuse_plan.specs.Selected.{with_table};
 ghost use Rattle.reuse_plan.specs.declared.path_plan.Policy.TheVariants.{Stop};
 
 use crate::amend::plan_amended;
-use crate::amended_places::with_table;
 use crate::annotate::plan_annotated;
 use crate::annotation::{Amendment, Annotation, FileTask};
 use crate::convert::plan_conversion;
@@ -113,12 +112,11 @@ fn plan_amendment<S: Store>(
     unused: &mut Unused,
 ) -> Result<Vec<PathPlan>, Refusal>
     ensures plans { S.honest store.new → AnswersPlans policy (tree_of (S.files store.old))
-        (amendments_by (with_table amending.now.scope.now amending.now.places.now (tree_of (S.files store.old)))
-        amending.now.amendments.now amending.now.scope.now (tree_of (S.files store.old))
-        (styles_in (tree_of (S.files store.old)))) result }
+        (amendments_by amending.now.places.now amending.now.amendments.now amending.now.scope.now
+        (tree_of (S.files store.old)) (styles_in (tree_of (S.files store.old)))) result }
     ensures unused { S.honest store.new → OnOk result
-        (AreUnusedIf (styles_in (tree_of (S.files store.old))) amending.now.scope.now (with_table amending.now.scope.now
-        amending.now.places.now (tree_of (S.files store.old))) (tree_of (S.files store.old)) unused.new) }
+        (AreUnusedIf (styles_in (tree_of (S.files store.old))) is_amendable amending.now.scope.now
+        amending.now.places.now (tree_of (S.files store.old)) unused.new) }
     ensures asks { ReadsAlone S.Store (EndsWalk policy) store.old store.new result }
 {
     match read_styles(alloc, store) {
@@ -128,10 +126,7 @@ fn plan_amendment<S: Store>(
                 scope: amending.scope,
                 styles: &styles,
             });
-            match with_table(alloc, store, amending.places, amending.scope) {
-                Ok(places) => plan_places(alloc, store, &places, &asked, policy, unused),
-                Err(refusal) => Err(refusal),
-            }
+            plan_places(alloc, store, amending.places, &asked, policy, unused)
         }
         Err(refusal) => policy.refused_alone(alloc, refusal),
     }
@@ -149,14 +144,14 @@ fn plan_places<S: Store>(
     ensures plans { S.honest store.new → AnswersPlans policy (tree_of (S.files store.old))
         (at_places_by asked.now (tree_of (S.files store.old)) places.now) result }
     ensures unused { S.honest store.new
-        → OnOk result (AreUnusedAt (scope_of asked.now) places.now (tree_of (S.files store.old)) unused.new) }
+        → OnOk result (AreUnusedAt (works_on asked.now) (scope_of asked.now) places.now (tree_of (S.files store.old)) unused.new) }
     ensures asks { ReadsAlone S.Store (EndsWalk policy) store.old store.new result }
 {
     if gives_root(places, asked.scope()) {
         *unused = Unused::none(alloc);
         return policy.refused_alone(alloc, Refusal::IsFolder(Place::Root));
     }
-    match find_selected(alloc, store, places, asked.scope(), unused) {
+    match find_selected(alloc, store, places, asked, unused) {
         Ok(selected) => plan_paths(
             alloc,
             store,

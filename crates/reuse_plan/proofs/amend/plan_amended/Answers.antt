@@ -6,6 +6,7 @@ use Rattle.reuse_plan.specs.Annotate.{neighbour_of}
 use Rattle.reuse_command.specs.Covered.{is_covered}
 use Rattle.reuse_plan.specs.Plan.{AnswersEdit}
 use Rattle.reuse_plan.specs.Shown.{ShowsPair}
+use Rattle.reuse_plan.specs.Tables.{is_table}
 use Rattle.reuse_command.specs.declared.reply.Refusal.TheVariants as refusals
 use Rattle.reuse_plan.proofs.AmendmentEdits.{uncovered_is, goes_to_neighbour, goes_inside, goes_to_table}
 use Rattle.reuse_plan.proofs.Annotating.{is_absent, some_file}
@@ -32,7 +33,8 @@ returns-then-is_table-clause-edit g c honest are =
     ∙ c.if-not-is_among.false in
     let file = some_bytes (get tree path) (some_file tree path c.args.paths.now are.there there) in
     subst (λ r. AnswersEdit tree r c.plan_table.result)
-    (sym (goes_to_table c.args.asked.now tree path file.0 file.1 (sym c.is_table.ensures ∙ c.if-is_table.true)))
+    (sym (goes_to_table c.args.asked.now tree path file.0 file.1
+    (ap is_table (sym c.as_bytes-2.ensures.bytes) ∙ sym c.is_table.ensures ∙ c.if-is_table.true)))
     (c.plan_table.ensures.edit honest file.0 file.1)
 
 -- the tree has a file at the path where it is among those of the tree
@@ -48,14 +50,15 @@ module _ (g : Over) (c : After-is_covered g)
   found = some_bytes (get (tree_of (g.S.Store.files c.args.store.now)) c.args.path.now) some
 
   covered : is_covered c.args.path.now ≡ c.is_covered.result
-  covered = ap is_covered (sym c.as_bytes-2.ensures.bytes) ∙ sym c.is_covered.ensures
+  covered = ap is_covered (sym c.as_bytes-3.ensures.bytes) ∙ sym c.is_covered.ensures
 
 pub returns-then-not-is_covered-clause-edit : goal.returns-then-not-is_covered-clause-edit
 returns-then-not-is_covered-clause-edit g c honest are =
     let at = (goal.at.returns-then-not-is_covered-clause-edit g c).After-is_covered in
     let tree = tree_of (g.S.Store.files c.args.store.now) in
     uncovered_is c.args.asked.now tree c.args.path.now (get tree c.args.path.now) (some g at are)
-    (sym c.is_table.ensures ∙ c.if-is_table.false) (covered g at are ∙ c.if-not-is_covered.true)
+    (ap is_table (sym c.as_bytes-2.ensures.bytes) ∙ sym c.is_table.ensures ∙ c.if-is_table.false)
+    (covered g at are ∙ c.if-not-is_covered.true)
     ∙ ap (λ p. Err (refusals.NotCovered p)) (sym c.in_ok-try_clone.ensures)
 
 pub returns-then-is_among-clause-edit : goal.returns-then-is_among-clause-edit

@@ -1,4 +1,4 @@
-use Rattle.std.proofs.Common.{◌≡◌, ◌∙◌, true, Err, sym, ap}
+use Rattle.std.proofs.Common.{◌≡◌, inl, ◌∙◌, true, Err, sym, ap}
 use Rattle.reuse_plan.proofs.Annotating.{reported_as}
 use Rattle.reuse_change.specs.Clash.{is_clash}
 use Rattle.reuse_command.specs.Reading.{tree_of, IsOfPlan}
@@ -7,13 +7,13 @@ use Rattle.reuse_command.specs.declared.reply.Refusal.TheVariants as refusals
 use Rattle.reuse_command.proofs.Asking.{no_fault, failed, plan_faults}
 use Rattle.reuse_plan.proofs.AtTree.{clash_of_tree}
 use Rattle.reuse_plan.proofs.EditLemmas.{new_clashes}
-use Rattle.reuse_plan.proofs.Fitting.{neighbour_of_tree}
+use Rattle.reuse_plan.proofs.Fitting.{beside_of_tree}
 use Rattle.reuse_plan.proofs.place.plan_new_neighbour.Goals as goal
 
 pub returns-then-branch-clause-edit : goal.returns-then-branch-clause-edit
 returns-then-branch-clause-edit g c honest covered is none =
     let files = g.S.Store.files c.args.store.now in
-    let of_tree : is_of_tree c.args.neighbour ≡ true = ap is_of_tree is ∙ neighbour_of_tree c.args.path.now covered in
+    let of_tree : is_of_tree c.args.neighbour ≡ true = ap is_of_tree is ∙ beside_of_tree c.args.path.now (inl covered) in
     new_clashes c.args.asked.now (tree_of files) c.args.path.now
     (ap (is_clash (tree_of files)) (sym is) ∙ sym (clash_of_tree files c.args.neighbour of_tree)
     ∙ sym (c.in_ok-is_clash_at.ensures.clash honest) ∙ c.if-branch.true)
@@ -22,7 +22,7 @@ returns-then-branch-clause-edit g c honest covered is none =
 pub returns-clause-edit : goal.returns-clause-edit
 returns-clause-edit g c honest covered is none =
     let files = g.S.Store.files c.args.store.now in
-    let of_tree : is_of_tree c.args.neighbour ≡ true = ap is_of_tree is ∙ neighbour_of_tree c.args.path.now covered in
+    let of_tree : is_of_tree c.args.neighbour ≡ true = ap is_of_tree is ∙ beside_of_tree c.args.path.now (inl covered) in
     c.make_neighbour.ensures.edit (tree_of files) is none
     (sym (clash_of_tree files c.args.neighbour of_tree) ∙ sym (c.in_ok-is_clash_at.ensures.clash honest)
     ∙ c.if-branch.false)

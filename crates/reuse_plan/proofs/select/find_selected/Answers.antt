@@ -1,15 +1,17 @@
-use Rattle.std.proofs.Common.{◌≡◌, ◌∙◌, cond, Ok, map, sym, ap, ap₂, subst, flat_map, All}
+use Rattle.std.proofs.Common.{◌≡◌, ◌∙◌, true, cond, Ok, map, sym, ap, ap₂, subst, flat_map, All}
 use Rattle.reuse_notice.specs.Sets.{set_of}
 use Rattle.reuse_notice.proofs.SetLemmas.{sorted-set_of}
 use Rattle.reuse_change.specs.Files.{tree_of}
 use Rattle.reuse_change.specs.Listing.{ArePaths, listed_paths}
 use Rattle.reuse_store.proofs.TreeLemmas.{tree_are_files}
 use Rattle.reuse_command.specs.Choice.{is_passed_over}
+use Rattle.reuse_plan.specs.FileTask.{chooses, paths_of, scope_of, works_on}
 use Rattle.reuse_plan.specs.Shown.{folders_for, ShowsEach, ShowsPlace}
 use Rattle.reuse_command.specs.Command.{paths_among}
 use Rattle.reuse_plan.specs.Unused.{leaves_none_out, unmet_count, AreUnusedWhere}
-use Rattle.reuse_plan.specs.Selected.{expanded, selected_paths}
+use Rattle.reuse_plan.specs.Selected.{expanded}
 use Rattle.reuse_plan.specs.declared.select.Listing.TheVariants.{Listed}
+use Rattle.reuse_command.specs.declared.command.Scope.{Scope}
 use Rattle.reuse_plan.proofs.Annotating.{reported_as}
 use Rattle.reuse_store.proofs.AskedLemmas.{reads_more}
 use Rattle.reuse_command.specs.Answer.{IsEarlyFailure}
@@ -23,36 +25,43 @@ module _ (g : Over) (c : In_ok-expanded g) (honest : g.S.Store.honest c.expanded
   before : g.S.Store.honest c.list_selected.new.store
   before = c.expanded.ensures.reads.was_honest honest
 
-  listed_is : c.in_ok-listed.listed.items ≡ listed c.args.scope.now c.args.places.now
-      (tree_of (g.S.Store.files c.args.store.now))
+  recursive : (scope_of c.args.asked.now).recursive ≡ true
+  recursive = ap (λ (s : Scope). s.recursive) (sym c.scope-scope.ensures) ∙ c.if-not-scope.false
+
+  listed_is : c.in_ok-listed.listed.items ≡ listed (works_on c.args.asked.now) (scope_of c.args.asked.now)
+      c.args.places.now (tree_of (g.S.Store.files c.args.store.now))
   listed_is =
       c.in_ok-listed.ensures.listed before
-      ∙ ap (λ given. listed_paths (tree_of (g.S.Store.files c.args.store.now)) (folders_for c.args.places.now given)
-      (is_passed_over c.args.scope.now given))
+      ∙ ap₂ (λ scope given. listed_paths (tree_of (g.S.Store.files c.args.store.now))
+      (folders_for c.args.places.now given) (is_passed_over scope given)) c.scope-scope.ensures
       (c.deref.ensures.value ∙ c.sorted-given.ensures ∙ ap set_of c.in_ok-paths_among.ensures)
 
   found : c.in_ok-expanded.field-0.items ≡ flat_map
-      (expanded c.args.scope.now (tree_of (g.S.Store.files c.args.store.now))) c.args.places.now
+      (expanded (chooses c.args.asked.now) (tree_of (g.S.Store.files c.args.store.now))) c.args.places.now
   found =
-      let scope = c.args.scope.now in
+      let asked = c.args.asked.now in
       let places = c.args.places.now in
       let tree = tree_of (g.S.Store.files c.args.store.now) in
+      let all = listed (works_on asked) (scope_of asked) places tree in
       let same = c.list_selected.ensures.asks.reads.files before in
-      let is : c.deref-2.result.now ≡ listed scope places tree = c.deref-2.ensures.value ∙ listed_is in
-      let sorted : ArePaths c.deref-2.result.now = subst ArePaths (sym is) (listed_ascend scope places tree) in
-      let each : All (ShowsPlace scope c.deref-2.result.now tree) places =
-      subst (λ ps. All (ShowsPlace scope ps tree) places) (sym is) (shows_each_place scope places tree) in
-      subst
-      (λ f. c.in_ok-expanded.field-0.items ≡ flat_map (expanded c.args.scope.now (tree_of f)) c.args.places.now) same
+      let is : c.deref-2.result.now ≡ all = c.deref-2.ensures.value ∙ listed_is in
+      let sorted : ArePaths c.deref-2.result.now =
+      subst ArePaths (sym is) (listed_ascend (works_on asked) (scope_of asked) places tree) in
+      let each : All (ShowsPlace (chooses asked) c.deref-2.result.now tree) places =
+      subst (λ ps. All (ShowsPlace (chooses asked) ps tree) places) (sym is)
+      (shows_each_place (works_on asked) (scope_of asked) places tree) in
+      subst (λ f. c.in_ok-expanded.field-0.items ≡ flat_map (expanded (chooses c.args.asked.now) (tree_of f))
+      c.args.places.now) same
       (c.in_ok-expanded.ensures.found honest sorted
-      (subst (λ f. All (ShowsPlace scope c.deref-2.result.now (tree_of f)) places) (sym same) each))
+      (subst (λ f. All (ShowsPlace (chooses asked) c.deref-2.result.now (tree_of f)) places) (sym same) each))
 
   -- where folders are gone through, these are selected
-  selected : set_of
-      (flat_map (expanded c.args.scope.now (tree_of (g.S.Store.files c.args.store.now))) c.args.places.now)
-      ≡ selected_paths c.args.scope.now c.args.places.now (tree_of (g.S.Store.files c.args.store.now))
-  selected = ap (λ b. set_of (cond b (flat_map (expanded c.args.scope.now (tree_of (g.S.Store.files c.args.store.now)))
-      c.args.places.now) (paths_among c.args.places.now))) (sym c.if-not-scope.false)
+  selected : set_of (flat_map (expanded (chooses c.args.asked.now) (tree_of (g.S.Store.files c.args.store.now)))
+      c.args.places.now) ≡ paths_of c.args.asked.now c.args.places.now (tree_of (g.S.Store.files c.args.store.now))
+  selected =
+      ap (λ b. set_of (cond b
+      (flat_map (expanded (chooses c.args.asked.now) (tree_of (g.S.Store.files c.args.store.now))) c.args.places.now)
+      (paths_among c.args.places.now))) (sym recursive)
 
 pub returns-clause-paths : goal.returns-clause-paths
 returns-clause-paths g c honest =
@@ -64,13 +73,14 @@ returns-clause-shown g c honest =
     let at = (goal.at.returns-clause-shown g c).In_ok-expanded in
     let files = g.S.Store.files c.args.store.now in
     let tree = tree_of files in
-    let scope = c.args.scope.now in
+    let asked = c.args.asked.now in
     let places = c.args.places.now in
     let start = c.list_selected.ensures.asks.reads.was_honest (before g at honest) in
     subst (λ ps. ShowsEach (Listed ps) tree c.sorted-paths.result.items) (sym (c.new.ensures ∙ listed_is g at honest))
-    (subst (ShowsEach (Listed (listed scope places tree)) tree)
+    (subst (ShowsEach (Listed (listed (works_on asked) (scope_of asked) places tree)) tree)
     (sym (c.sorted-paths.ensures ∙ ap set_of (found g at honest)))
-    (shows_selected scope places tree (tree_are_files files (g.met.S.Store.are_files c.args.store.now start))))
+    (shows_selected (works_on asked) (scope_of asked) places tree
+    (tree_are_files files (g.met.S.Store.are_files c.args.store.now start))))
 
 pub returns-clause-asks : goal.returns-clause-asks
 returns-clause-asks g c = reported g.S.Store IsEarlyFailure _ _ (Ok _) tt tt
@@ -90,16 +100,17 @@ of-requires g c = subst ArePaths (sym (c.deref-3.ensures.value ∙ c.sorted-path
 pub returns-clause-unused : goal.returns-clause-unused
 returns-clause-unused g c honest =
     let at = (goal.at.returns-clause-unused g c).In_ok-expanded in
-    let scope = c.args.scope.now in
+    let works = works_on c.args.asked.now in
+    let scope = scope_of c.args.asked.now in
     let places = c.args.places.now in
     let tree = tree_of (g.S.Store.files c.args.store.now) in
     let chosen =
     c.deref-3.ensures.value ∙ c.sorted-paths.ensures ∙ ap set_of (found g at honest) ∙ selected g at honest in
     let beneath = c.deref-4.ensures.value ∙ listed_is g at honest in
-    subst (λ b. AreUnusedWhere b scope places tree c.in_ok-unused.field-0) (sym c.if-not-scope.false) (record {
+    subst (λ b. AreUnusedWhere b works scope places tree c.in_ok-unused.field-0) (sym (recursive g at honest)) (record {
       names = c.in_ok-unused.ensures.names ∙ ap (λ ps. unmet_count scope ps scope.listed) chosen;
-      globs =
-          c.in_ok-unused.ensures.globs ∙ ap₂ (λ ps fs. map (leaves_none_out scope ps fs) scope.excluded) chosen beneath;
+      globs = c.in_ok-unused.ensures.globs
+          ∙ ap₂ (λ ps fs. map (leaves_none_out works scope ps fs) scope.excluded) chosen beneath;
     })
 
 pub returns-in_err-unused-clause-asks : goal.returns-in_err-unused-clause-asks

@@ -1,6 +1,7 @@
 use Rattle.std.proofs.Common.{Ok, OnOk, sym, ap, subst}
 use Rattle.reuse_header.specs.Names.{lookup}
 use Rattle.reuse_change.specs.Files.{tree_of}
+use Rattle.reuse_command.specs.Covered.{is_covered}
 use Rattle.reuse_plan.specs.Conversion.{conversion_edits}
 use Rattle.reuse_plan.specs.Outcome.{annotations_by, path_edits_of}
 use Rattle.reuse_plan.specs.PathPlans.{AnswersPlans}
@@ -50,10 +51,10 @@ returns-in-Ok-clause-unused g c honest =
     let it = c.in-Annotate in
     let unused = c.plan_places.new.unused in
     subst (λ k. OnOk c.plan_places.result (AreUnusedBy k tree unused)) (sym it.is)
-    (subst (λ given. OnOk c.plan_places.result (AreUnusedIf given it.scope it.places tree unused))
+    (subst (λ given. OnOk c.plan_places.result (AreUnusedIf given is_covered it.scope it.places tree unused))
     (sym (c.in-Ok.ensures.styles before))
-    (subst (λ f. OnOk c.plan_places.result (AreUnusedAt it.scope it.places (tree_of f) unused)) same
-    (subst (λ ps. OnOk c.plan_places.result (AreUnusedAt it.scope ps (tree_of (g.S.Store.files c.read_styles.new.store))
+    (subst (λ f. OnOk c.plan_places.result (AreUnusedAt is_covered it.scope it.places (tree_of f) unused)) same
+    (subst (λ ps. OnOk c.plan_places.result (AreUnusedAt is_covered it.scope ps (tree_of (g.S.Store.files c.read_styles.new.store))
     unused)) c.as_slice.ensures (c.plan_places.ensures.unused honest))))
 
 pub returns-in-Err-clause-unused : goal.returns-in-Err-clause-unused
@@ -61,5 +62,5 @@ returns-in-Err-clause-unused g c honest =
     let tree = tree_of (g.S.Store.files c.args.store.now) in
     let it = c.in-Annotate in
     subst (λ k. OnOk c.refused_alone.result (AreUnusedBy k tree c.args.unused.now)) (sym it.is)
-    (refused_unused c.args.policy (styles_in tree) c.in-Err.refusal it.scope it.places tree c.args.unused.now
+    (refused_unused c.args.policy (styles_in tree) c.in-Err.refusal is_covered it.scope it.places tree c.args.unused.now
     c.refused_alone.result (c.in-Err.ensures.refusal honest) c.refused_alone.ensures.reported)
