@@ -40,7 +40,7 @@ pub const AFTER_AMEND: &str = "\
 PATHs, FILE and GLOB are as those of annotate. No header is made: a PATH without one is unchanged,
 and so is one whose header has nothing of what is named. If one file is refused, none is changed.
 
-DIR/REUSE.toml is amended if it is a PATH, or if `.` is one with --recursive. The values of
+A REUSE.toml is amended if it is a PATH, or lies beneath one with --recursive. The values of
 SPDX-License-Identifier and SPDX-FileCopyrightText in its [[annotations]] change, and all else stays.
 
 Texts are compared byte for byte, without their outer spaces. If OLD is an identifier such as

@@ -19,10 +19,8 @@ ghost use Rattle.reuse_text.specs.declared.TheConstants.{LONGEST_FILE};
 ghost use Rattle.reuse_plan.specs.Accepted.{CanAmend, CanAnnotate, CanConvert, CanDownload};
 ghost use Rattle.reuse_plan.specs.Amended.{Amends, HaveSamePaths};
 ghost use Rattle.reuse_plan.specs.Annotated.{Annotates, IsSkippedAt, StaysOrIsText, pair_at};
-ghost use Rattle.reuse_command.specs.Choice.{is_chosen};
 ghost use Rattle.reuse_plan.specs.Chosen.{IsNamed, StandsBeneath, IsAskedFor, IsAskedToAmend};
 ghost use Rattle.reuse_command.specs.Command.{HoldsEntry, paths_among};
-ghost use Rattle.reuse_command.specs.Covered.{is_covered};
 ghost use Rattle.reuse_plan.specs.Edit.{Edit};
 ghost use Rattle.reuse_plan.specs.EditBytes.{TakesAndWrites};
 ghost use Rattle.reuse_change.specs.Entry.{touches, CanBeMade, IsEntry, IsFirstStuck, LeadsAll, LeadsBy, AreAllSealed};
@@ -47,7 +45,7 @@ ghost use Rattle.reuse_plan.specs.TablePut.{PutsTable};
 ghost use Rattle.reuse_plan.specs.TextsPut.{PutsTexts};
 ghost use Rattle.reuse_change.specs.Tree.{changed_paths, undo_folder_of};
 ghost use Rattle.reuse_plan.specs.TreeStyles.{OwnNames, styles_in};
-ghost use Rattle.reuse_plan.specs.Selected.{amended_paths, selected_paths};
+ghost use Rattle.reuse_plan.specs.Selected.{amended_paths, is_chosen, selected_paths};
 ghost use Rattle.reuse_command.specs.declared.command.Command.{Command};
 ghost use Rattle.reuse_change.specs.Listing.{is_among};
 ghost use Rattle.reuse_command.specs.declared.command.Command.TheVariants.{Amend, Annotate, ConvertDep5, Download};
@@ -143,13 +141,13 @@ pub fn annotations_change_chosen_places_alone()
 /// What amend does on a tree, in other words. Where it isn't refused, each file that is gone
 /// through has a neighbour, which holds what the rules make of its own bytes; or, where it has
 /// none, it is text of some style and holds what the rules make of its own bytes in that style; or
-/// it is neither, and stays. Every byte outside the header block stays. The `REUSE.toml` at the
-/// root, where it is gone through, is read as the table that was there with the values of the two
-/// keys amended, and differs in strings and commas alone. Every other path stays as it is. These
-/// words leave one tree. No file is made and none is removed. A run that isn't refused leaves that
-/// tree. It isn't refused exactly where the tree's own styles are good, the root is given only
-/// where folders are gone through, each path that is gone through can be amended by itself, and one
-/// entry holds them all.
+/// it is neither, and stays. Every byte outside the header block stays. Each `REUSE.toml` that is
+/// gone through is read as the table that was there with the values of the two keys amended, and
+/// differs in strings and commas alone. Every other path stays as it is. These words leave one
+/// tree. No file is made and none is removed. A run that isn't refused leaves that tree. It isn't
+/// refused exactly where the tree's own styles are good, the root is given only where folders are
+/// gone through, each path that is gone through can be amended by itself, and one entry holds them
+/// all.
 pub fn amendments_change_selected_places_alone()
     ensures accepted { (places : List Place) (amendments : Amendments) (scope : Scope) (tree : Files)
         → ((after : Files) × (outcome_of (Amend places amendments scope) tree ≡ Ok after))
@@ -221,10 +219,10 @@ pub fn seals_are_of_whole_files()
 
 /// If folders are gone through, a path is selected exactly where it is given and no folder, or is
 /// a file beneath a folder that is given, and is covered, listed, where there is a list, and
-/// matched by no glob that is excluded. Without a list and globs all covered files are chosen.
-/// If folders aren't gone through, a path is selected exactly where it is given. The paths are
-/// selected in byte order, and none twice. Amend, and no other command, selects the `REUSE.toml`
-/// at the root like a covered file.
+/// matched by no glob that is excluded. Without a list and globs a command chooses all files that
+/// it works on. If folders aren't gone through, a path is selected exactly where it is given. The
+/// paths are selected in byte order, and none twice. Amend, and no other command, works on tables,
+/// the files `REUSE.toml`, like on covered files.
 pub fn selected_paths_are_asked_for()
     ensures asked { (scope : Scope) (places : List Place) (tree : Files) (path : List ℕ) → scope.recursive ≡ true
         → Contains (selected_paths scope places tree) path
@@ -233,10 +231,9 @@ pub fn selected_paths_are_asked_for()
         → Contains (selected_paths scope places tree) path ↔ Contains (paths_among places) path }
     ensures ascend { (scope : Scope) (places : List Place) (tree : Files)
         → IsStrictlySortedBy (slice_cmp nat_cmp) (selected_paths scope places tree) }
-    ensures all { (scope : Scope) (path : List ℕ) → scope.listed ≡ None → scope.excluded ≡ []
-        → is_chosen scope path ≡ is_covered path }
-    ensures amended { (scope : Scope) (places : List Place) (tree : Files) (path : List ℕ) → AreFiles tree
-        → scope.recursive ≡ true
+    ensures all { (works_on : List ℕ → Bool) (scope : Scope) (path : List ℕ) → scope.listed ≡ None
+        → scope.excluded ≡ [] → is_chosen works_on scope path ≡ works_on path }
+    ensures amended { (scope : Scope) (places : List Place) (tree : Files) (path : List ℕ) → scope.recursive ≡ true
         → Contains (amended_paths scope places tree) path
         ↔ (IsNamed places tree path ⊎ (StandsBeneath places tree path × IsAskedToAmend scope path)) }
     ensures amended_given { (scope : Scope) (places : List Place) (tree : Files) (path : List ℕ)
