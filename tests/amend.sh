@@ -126,7 +126,9 @@ tables() {
   files REUSE.toml "$table" src/REUSE.toml "$table"
   is "$("$program" --root "$tree" annotate -l MIT REUSE.toml 2>&1)" \
     'reuse-undo: REUSE.toml: not covered' 'annotate of a table'
-  is "$(told "${change[@]}" -r REUSE.toml)" $'nothing changed\nstatus 0' 'a table with --recursive'
+  is "$(told "${change[@]}" -r REUSE.toml)" \
+    $'changed REUSE.toml\nstatus 0' 'a table with --recursive'
+  holds src/REUSE.toml "$table"
   # What can't be amended leaves all as it is.
   files src/REUSE.toml 'x\n' a.py "$mit"
   is "$(told "${change[@]}" -r .)" \
