@@ -248,14 +248,14 @@ mounted_and_killed() {
     return
   fi
   for call in log recover 'recover --skip-moved' 'log --no-sync'; do
-    for k in 1 2 3 4 5 6; do kill_below_mount "$k" "$call" ''; done
+    for k in 1 2 3 4 5; do kill_below_mount "$k" "$call" ''; done
   done
   for command in 'ln -sf a.py' 'rm "$1"; mkdir' 'rm "$1"; mkfifo'; do
-    kill_below_mount 5 log "$command \"\$1\""
+    kill_below_mount 4 log "$command \"\$1\""
   done
   as_nobody
-  for k in 1 2 3 4 5 6; do kill_below_mount "$k" log ''; done
-  kill_below_mount 5 log 'chmod 555 .'
+  for k in 1 2 3 4 5; do kill_below_mount "$k" log ''; done
+  kill_below_mount 4 log 'chmod 555 .'
   as=()
   ((lefts == 9)) || fail "killed below a mount: a file was left $lefts times"
 }
