@@ -5,7 +5,7 @@
 # 2 where the work is linear.
 # usage: bench/hostile_headers.sh
 set -euo pipefail
-. "$(dirname "$0")/build.sh" hostile_headers reuse_text reuse_notice reuse_amend reuse_header
+. "$(dirname "$0")/build.sh" hostile_headers reuse_text reuse_notice reuse_amend reuse_style reuse_header
 
 "$program" 8388608 16777216 |
   awk '{ print $1 ", " $2 " bytes: found " $3 ", written " $4 ": find " $5 " s, annotate " $6 " s" }

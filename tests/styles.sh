@@ -12,7 +12,7 @@ plain=$room/plain
 tree=$room/tree
 
 # The names: those of the sources, and those of the table for everybody
-known() { sed -nE 's/^    \(b"([^"]+)", Kind::.*/\1/p' "$top/crates/reuse_header/src/style.rt"; }
+known() { sed -nE 's/^    \(b"([^"]+)", TableKind::.*/\1/p' "$top/crates/reuse_style/src/table.rt"; }
 own() { sed -nE 's/^"([^"]+)" *= *"[a-z]+".*/\1/p' "$top/share/styles.toml"; }
 
 # Puts a file of each name from standard input into a folder of its own, so that names that differ

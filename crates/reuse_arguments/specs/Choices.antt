@@ -1,8 +1,8 @@
 -- What flags choose (docs/REFERENCE.md).
 use Rattle.std.specs.Prelude.{Bool, false, not, ◌||◌, Option, None, Some, codes, if◌then◌else◌}
 use Rattle.reuse_header.specs.declared.annotation.How.{How}
-use Rattle.reuse_header.specs.declared.style.Form.{Form}
-use Rattle.reuse_header.specs.declared.style.Form.TheVariants as forms
+use Rattle.reuse_style.specs.declared.marks.Form.{Form}
+use Rattle.reuse_style.specs.declared.marks.Form.TheVariants as forms
 use Rattle.reuse_command.specs.declared.command.Unknown.{Unknown}
 use Rattle.reuse_command.specs.declared.command.Unknown.TheVariants as unknowns
 use Rattle.reuse_arguments.specs.Found.{Rows, flag}

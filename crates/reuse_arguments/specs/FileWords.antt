@@ -1,8 +1,8 @@
 -- Which files the words of a command line name, and what else they name one by one (docs/REFERENCE.md).
 use Rattle.std.specs.Prelude.{ℕ, List, Option, None, Some, Result, Ok, codes, option_and_then, if◌then◌else◌, unwrap_or}
 use Rattle.reuse_toml.specs.declared.glob.GlobPiece.{GlobPiece}
-use Rattle.reuse_header.specs.Styles.{style_named}
-use Rattle.reuse_header.specs.declared.style.Style.{Style}
+use Rattle.reuse_style.specs.Styles.{style_named}
+use Rattle.reuse_style.specs.declared.style.Style.{Style}
 use Rattle.reuse_command.specs.declared.command.Place.{Place}
 use Rattle.reuse_arguments.specs.Found.{Rows, flag, number, number_of, value, values}
 use Rattle.reuse_arguments.specs.Globs.{globs_of_word}

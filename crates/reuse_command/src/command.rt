@@ -63,7 +63,7 @@ pub struct Scope {
     /// In place of a folder, the covered files beneath it that are asked for.
     pub recursive: bool,
     /// The style of all files, in place of that of their names.
-    pub style: Option<Style>,
+    pub style: Option<Style<'static>>,
     /// Neighbours (`NAME.license`) alone.
     pub force_dot_license: bool,
     /// What is done where the name has no style.

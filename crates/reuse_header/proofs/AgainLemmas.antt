@@ -2,7 +2,7 @@
 use Rattle.std.proofs.Common.{◌≡◌, ℕ, zero, suc, ◌+◌, ◌<◌, ◌≤◌, Bool, true, false, List, [], ◌∷◌, ◌++◌, length}
 use Rattle.std.proofs.Common.{length-append, append_assoc, take, drop, map, length-take, Option, None, Some, refl, sym}
 use Rattle.std.proofs.Common.{ap, subst, ◌∙◌, inl, inr, arith}
-use Rattle.std.specs.Prelude.{◌==◌, ◌&&◌, All, MatchOption}
+use Rattle.std.specs.Prelude.{◌==◌, ◌&&◌, All, unwrap_or}
 use Rattle.std.specs.Option.{option_map, option_map_or, option_to_list}
 use Rattle.std.proofs.lemmas.Bool.{false≢true, eqb-true}
 use Rattle.std.proofs.Math.Seq.{drop-append_seam, take-append_seam}
@@ -11,12 +11,13 @@ use Rattle.std.proofs.Common.{length-drop}
 use Rattle.reuse_text.specs.declared.LineKind.{LineKind}
 use Rattle.reuse_text.specs.Text.{TextLine, AreLines, IsLine, line_bytes, text_of, lines_of, placed, file_lines}
 use Rattle.reuse_text.specs.Text.{after_mark, mark_len_of, ending_bytes}
-use Rattle.reuse_header.specs.declared.style.Style.{Style}
-use Rattle.reuse_header.specs.declared.style.Style.TheVariants.{Python, C, Css, Html, Haskell, Tex, Lisp, Semicolon, Ml}
-use Rattle.reuse_header.specs.declared.style.Style.TheVariants.{Vim}
-use Rattle.reuse_header.specs.declared.style.Form.{Form}
-use Rattle.reuse_header.specs.declared.style.Form.TheVariants.{Single, Multi}
+use Rattle.reuse_style.specs.declared.style.Style.{Style}
+use Rattle.reuse_style.specs.declared.marks.Form.{Form}
+use Rattle.reuse_style.specs.declared.marks.Form.TheVariants.{Single, Multi}
 use Rattle.reuse_header.specs.declared.blocks.BlockSize.{BlockSize}
+use Rattle.reuse_style.specs.Marks.{LineForm, BlockForm}
+use Rattle.reuse_style.specs.Styles.{line_comment_of, block_comment_of, punctuation_of}
+use Rattle.reuse_style.proofs.GoodLemmas.{IsGoodLine, IsLineGood, line_good}
 use Rattle.reuse_header.specs.Marks.{LineMarks, marks_of}
 use Rattle.reuse_header.specs.Blocks.{multi_count, multi_lines, marked_lines, block_of, block_at, contents_of}
 use Rattle.reuse_header.specs.Body.{PlacedLines, is_barrier, open_contents, body_lines}
@@ -24,7 +25,7 @@ use Rattle.reuse_header.specs.Header.{Header, HeaderSpan, lines_inside, span_in,
 use Rattle.reuse_header.specs.Split.{IsHeaderAt, begins_in, size_of, bytes_of}
 use Rattle.reuse_header.specs.Annotation.{Edit, edited, text_start, text_end, stands_at}
 use Rattle.reuse_notice.specs.declared.infos.Info.{Info}
-use Rattle.reuse_notice.specs.Tags.{drop_end}
+use Rattle.reuse_notice.specs.Tags.{is_blank, drop_end}
 use Rattle.reuse_header.specs.Writing.{ended_by, contributor_text, licence_text, joined, set_off, separator_of}
 use Rattle.reuse_header.specs.Writing.{holder_lines, licence_lines, free_lines, inner_lines, block_lines}
 use Rattle.std.proofs.lemmas.Bool.{cases_Bool as truth}
@@ -33,6 +34,7 @@ use Rattle.reuse_header.proofs.CountLemmas.{block_at-within}
 use Rattle.reuse_header.proofs.ClosingLemmas.{open_contents-drop}
 use Rattle.reuse_header.proofs.CutLemmas.{before_body}
 use Rattle.reuse_header.proofs.SayableLemmas.{Each, each_both}
+use Rattle.reuse_header.proofs.MarkLemmas.{whole_mark, no_multi_behind, no_run_behind}
 
 -- ---- where the block stands
 
@@ -194,69 +196,66 @@ form_single None (suc n) size none e = sym (ap (λ (b : BlockSize). b.form) (sam
     same_size : (a b : BlockSize) → Some a ≡ Some b → a ≡ b
     same_size a b e = cc
 
--- a line that begins with the marker begins no multi-line block, and the opener no run
-no_multi_at : (style : Style) (line : List ℕ) (lines : List (List ℕ))
-    → MatchOption (marks_of style Single) (Unit {0}) (λ m. multi_lines style ((m.mark ++ line) ∷ lines) ≡ None)
-unfolding multi_lines multi_count
-no_multi_at Python line lines = refl
-no_multi_at C line lines = refl
-no_multi_at Css line lines = tt
-no_multi_at Html line lines = tt
-no_multi_at Haskell line lines = refl
-no_multi_at Tex line lines = refl
-no_multi_at Lisp line lines = refl
-no_multi_at Semicolon line lines = refl
-no_multi_at Ml line lines = tt
-no_multi_at Vim line lines = refl
+-- the marks of a form are those of its comments
+record MarksOfLine (style : Style) (marks : LineMarks) : Type 0 where
+  form : LineForm
+  has : line_comment_of style ≡ Some form
+  are : ◌≡◌ {A = LineMarks}
+      (record { lead = form.lead; mark = form.marker; first = None; last = None; closer = None }) marks
+  good : IsGoodLine (punctuation_of style) form
 
-no_run_at : (style : Style) (lines : List (List ℕ)) → MatchOption (marks_of style Multi) (Unit {0})
-    (λ m. MatchOption m.first (Unit {0}) (λ first. marked_lines style (first ∷ lines) ≡ 0))
-unfolding marked_lines
-no_run_at Python lines = tt
-no_run_at C lines = refl
-no_run_at Css lines = refl
-no_run_at Html lines = refl
-no_run_at Haskell lines = tt
-no_run_at Tex lines = tt
-no_run_at Lisp lines = tt
-no_run_at Semicolon lines = tt
-no_run_at Ml lines = refl
-no_run_at Vim lines = tt
+line_marks : (style : Style) (marks : LineMarks) → marks_of style Single ≡ Some marks → MarksOfLine style marks
+line_marks style marks e = by (line_comment_of style) refl (line_good style) e
+  where
+    by : (o : Option LineForm) → line_comment_of style ≡ o → IsLineGood (punctuation_of style) o
+        → option_map (λ (form : LineForm).
+        record { lead = form.lead; mark = form.marker; first = None; last = None; closer = None }) o ≡ Some marks
+        → MarksOfLine style marks
+    by None is good f = absurd (let none : ⊥ = cc f in none)
+    by (Some form) is good f = record { form = form; has = is; are = cc f; good = good }
 
--- the lead begins with the marker
-lead_at : (style : Style)
-    → MatchOption (marks_of style Single) (Unit {0}) (λ m. (more : List ℕ) × (m.lead ≡ m.mark ++ more))
-lead_at Python = (32 ∷ [], refl)
-lead_at C = (32 ∷ [], refl)
-lead_at Css = tt
-lead_at Html = tt
-lead_at Haskell = (32 ∷ [], refl)
-lead_at Tex = (32 ∷ [], refl)
-lead_at Lisp = (59 ∷ 32 ∷ [], refl)
-lead_at Semicolon = (32 ∷ [], refl)
-lead_at Ml = tt
-lead_at Vim = (32 ∷ [], refl)
+opener_of : (style : Style) (marks : LineMarks) → marks_of style Multi ≡ Some marks
+    → (form : BlockForm) × (block_comment_of style ≡ Some form) × (marks.first ≡ Some form.opener)
+opener_of style marks e = by (block_comment_of style) refl e
+  where
+    by : (o : Option BlockForm) → block_comment_of style ≡ o
+        → option_map (λ (form : BlockForm). record {
+          lead = form.lead;
+          mark = unwrap_or form.middle [];
+          first = Some form.opener;
+          last = Some form.last_line;
+          closer = Some form.closer;
+        }) o ≡ Some marks
+        → (form : BlockForm) × (block_comment_of style ≡ Some form) × (marks.first ≡ Some form.opener)
+    by None is f = absurd (let none : ⊥ = cc f in none)
+    by (Some form) is f =
+        let same : ◌≡◌ {A = LineMarks} (record {
+          lead = form.lead;
+          mark = unwrap_or form.middle [];
+          first = Some form.opener;
+          last = Some form.last_line;
+          closer = Some form.closer;
+        }) marks = cc f in
+        (form, is, ap (λ (m : LineMarks). m.first) (sym same))
 
 single_form : (style : Style) (marks : LineMarks) (line : List ℕ) (lines : List (List ℕ)) (size : BlockSize)
     → marks_of style Single ≡ Some marks
     → block_at style ((marks.mark ++ line) ∷ lines) ≡ Some size → size.form ≡ Single
 unfolding block_at
 single_form style marks line lines size is e =
-    let none = subst (λ (o : Option LineMarks). MatchOption o (Unit {0})
-    (λ m. multi_lines style ((m.mark ++ line) ∷ lines) ≡ None)) is (no_multi_at style line lines) in
+    let m = line_marks style marks is in
+    let none = subst (λ (ms : LineMarks). multi_lines style ((ms.mark ++ line) ∷ lines) ≡ None) m.are
+    (no_multi_behind style m.form line lines m.has) in
     form_single (multi_lines style ((marks.mark ++ line) ∷ lines))
     (marked_lines style ((marks.mark ++ line) ∷ lines)) size none e
 
-multi_form : (style : Style) (marks : LineMarks) (first : List ℕ) (lines : List (List ℕ)) (size : BlockSize)
-    → marks_of style Multi ≡ Some marks → marks.first ≡ Some first
-    → block_at style (first ∷ lines) ≡ Some size → size.form ≡ Multi
+multi_form : (style : Style) (form : BlockForm) (lines : List (List ℕ)) (size : BlockSize)
+    → block_comment_of style ≡ Some form
+    → block_at style (form.opener ∷ lines) ≡ Some size → size.form ≡ Multi
 unfolding block_at
-multi_form style marks first lines size is opens e =
-    let run = subst (λ (o : Option LineMarks). MatchOption o (Unit {0})
-    (λ m. MatchOption m.first (Unit {0}) (λ f. marked_lines style (f ∷ lines) ≡ 0))) is (no_run_at style lines) in
-    let zero =
-    subst (λ (o : Option (List ℕ)). MatchOption o (Unit {0}) (λ f. marked_lines style (f ∷ lines) ≡ 0)) opens run in
-    form_multi (multi_lines style (first ∷ lines)) (marked_lines style (first ∷ lines)) size zero e
+multi_form style form lines size has e =
+    form_multi (multi_lines style (form.opener ∷ lines)) (marked_lines style (form.opener ∷ lines)) size
+    (no_run_behind style form lines has) e
 
 the_size : Form → ℕ → BlockSize
 the_size form count = record { form = form; count = count }
@@ -359,45 +358,6 @@ module _ (P : List ℕ → Type 0) where
       (each-set_off (separator_of marks) (free_lines marks info) p
       (each-map (λ c. marks.mark ++ c) info.free (λ c. marked c)))
 
-separator_at : (style : Style)
-    → MatchOption (marks_of style Single) (Unit {0}) (λ m. (more : List ℕ) × (separator_of m ≡ m.mark ++ more))
-unfolding drop_end
-separator_at Python = ([], refl)
-separator_at C = ([], refl)
-separator_at Css = tt
-separator_at Html = tt
-separator_at Haskell = ([], refl)
-separator_at Tex = ([], refl)
-separator_at Lisp = (59 ∷ [], refl)
-separator_at Semicolon = ([], refl)
-separator_at Ml = tt
-separator_at Vim = ([], refl)
-
-no_frame_at : (style : Style) → MatchOption (marks_of style Single) (Unit {0}) (λ m. (m.first ≡ None) × (m.last ≡ None))
-no_frame_at Python = (refl, refl)
-no_frame_at C = (refl, refl)
-no_frame_at Css = tt
-no_frame_at Html = tt
-no_frame_at Haskell = (refl, refl)
-no_frame_at Tex = (refl, refl)
-no_frame_at Lisp = (refl, refl)
-no_frame_at Semicolon = (refl, refl)
-no_frame_at Ml = tt
-no_frame_at Vim = (refl, refl)
-
-opener_at : (style : Style)
-    → MatchOption (marks_of style Multi) (Unit {0}) (λ m. (first : List ℕ) × (m.first ≡ Some first))
-opener_at Python = tt
-opener_at C = (_, refl)
-opener_at Css = (_, refl)
-opener_at Html = (_, refl)
-opener_at Haskell = tt
-opener_at Tex = tt
-opener_at Lisp = tt
-opener_at Semicolon = tt
-opener_at Ml = (_, refl)
-opener_at Vim = tt
-
 -- a line that begins with the marker
 Marked : LineMarks → List ℕ → Type 0
 Marked marks line = (more : List ℕ) × (line ≡ marks.mark ++ more)
@@ -406,14 +366,21 @@ single_lines : (style : Style) (marks : LineMarks) (info : Info) → marks_of st
     → Each (Marked marks) (inner_lines marks info)
 unfolding Marked
 single_lines style marks info is =
-    let lead =
-    subst (λ (o : Option LineMarks). MatchOption o (Unit {0}) (λ m. (more : List ℕ) × (m.lead ≡ m.mark ++ more))) is
-    (lead_at style) in
-    let sep = subst (λ (o : Option LineMarks). MatchOption o (Unit {0})
-    (λ m. (more : List ℕ) × (separator_of m ≡ m.mark ++ more))) is (separator_at style) in
-    each-inner (Marked marks) marks info sep
-    (λ t. (lead.0 ++ t, ap (λ (l : List ℕ). l ++ t) lead.1 ∙ append_assoc marks.mark lead.0 t))
-    (λ c. (c, refl))
+    let m = line_marks style marks is in
+    let follows = m.good.lead in
+    let written : LineMarks = record {
+      lead = m.form.lead;
+      mark = m.form.marker;
+      first = None;
+      last = None;
+      closer = None;
+    } in
+    let separated : separator_of written ≡ written.mark ++ drop_end is_blank follows.rest =
+    ap (drop_end is_blank) follows.is ∙ whole_mark m.form.marker follows.rest m.good.marker in
+    subst (λ (ms : LineMarks). Each (Marked ms) (inner_lines ms info)) m.are
+    (each-inner (Marked written) written info (drop_end is_blank follows.rest, separated)
+    (λ t. (follows.rest ++ t, ap (λ (l : List ℕ). l ++ t) follows.is ∙ append_assoc written.mark follows.rest t))
+    (λ c. (c, refl)))
 
 -- the form of the block that begins with written lines
 pub form_again : (style : Style) (form : Form) (marks : LineMarks) (info : Info) (rest : List (List ℕ))
@@ -422,8 +389,8 @@ pub form_again : (style : Style) (form : Form) (marks : LineMarks) (info : Info)
     → size.form ≡ form
 unfolding block_lines Each Marked
 form_again style Single marks info rest size is e n =
-    let frame = subst (λ (o : Option LineMarks). MatchOption o (Unit {0}) (λ m. (m.first ≡ None) × (m.last ≡ None))) is
-    (no_frame_at style) in
+    let frame =
+    subst (λ (ms : LineMarks). (ms.first ≡ None) × (ms.last ≡ None)) (line_marks style marks is).are (refl, refl) in
     let plain : block_lines marks info ≡ inner_lines marks info =
     ap (λ (o : Option (List ℕ)). option_to_list o ++ inner_lines marks info ++ option_to_list marks.last) frame.0
     ∙ ap (λ (o : Option (List ℕ)). inner_lines marks info ++ option_to_list o) frame.1
@@ -443,9 +410,9 @@ form_again style Single marks info rest size is e n =
     by_lines [] h e some = absurd (omega arith)
     by_lines (line ∷ lines) h e some = first_line line lines h.0.0 h.0.1 e
 form_again style Multi marks info rest size is e n =
-    let opens =
-    subst (λ (o : Option LineMarks). MatchOption o (Unit {0}) (λ m. (first : List ℕ) × (m.first ≡ Some first))) is
-    (opener_at style) in
-    multi_form style marks opens.0 ((inner_lines marks info ++ option_to_list marks.last) ++ rest) size is opens.1
-    (ap (λ (o : Option (List ℕ)). block_at style
-    ((option_to_list o ++ inner_lines marks info ++ option_to_list marks.last) ++ rest)) (sym opens.1) ∙ e)
+    let opens = opener_of style marks is in
+    let lines = (inner_lines marks info ++ option_to_list marks.last) ++ rest in
+    let begun : block_at style (opens.0.opener ∷ lines) ≡ Some size =
+    ap (λ (o : Option (List ℕ)). block_at style
+    ((option_to_list o ++ inner_lines marks info ++ option_to_list marks.last) ++ rest)) (sym opens.2) ∙ e in
+    multi_form style opens.0 lines size opens.1 begun

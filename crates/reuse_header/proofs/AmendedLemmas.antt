@@ -27,9 +27,9 @@ use Rattle.reuse_amend.proofs.JoinedLemmas.{parts_whole}
 use Rattle.reuse_amend.proofs.InPlaceLemmas.{becomes}
 use Rattle.reuse_amend.proofs.ShapedLemmas.{begin_kept, end_kept}
 use Rattle.reuse_amend.proofs.AbsentLemmas.{absent_amended}
-use Rattle.reuse_header.specs.declared.style.Style.{Style}
-use Rattle.reuse_header.specs.declared.style.Form.{Form}
-use Rattle.reuse_header.specs.Styles.{punctuation_of}
+use Rattle.reuse_style.specs.declared.style.Style.{Style}
+use Rattle.reuse_style.specs.declared.marks.Form.{Form}
+use Rattle.reuse_style.specs.Styles.{punctuation_of}
 use Rattle.reuse_header.specs.Marks.{LineMarks, marks_of}
 use Rattle.reuse_header.specs.Blocks.{without_returns}
 use Rattle.reuse_header.specs.Header.{HeaderSpan, span_in, header_of, neighbour_contents}

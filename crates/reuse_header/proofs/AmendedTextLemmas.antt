@@ -17,10 +17,10 @@ use Rattle.reuse_notice.proofs.SoundLemmas.{IsSound, sound_append}
 use Rattle.reuse_amend.proofs.ShapeLemmas.{plain_sound, sound_kept}
 use Rattle.reuse_amend.proofs.InPlaceLemmas.{becomes}
 use Rattle.reuse_amend.proofs.AbsentLemmas.{sound_amended}
-use Rattle.reuse_header.specs.declared.style.Style.{Style}
+use Rattle.reuse_style.specs.declared.style.Style.{Style}
 use Rattle.reuse_header.specs.declared.annotation.HeaderRefusal.TheVariants.{NotText}
 use Rattle.reuse_header.specs.declared.amendment.AmendHeaderRefusal.TheVariants.{Header as HeaderRefused}
-use Rattle.reuse_header.specs.Styles.{punctuation_of}
+use Rattle.reuse_style.specs.Styles.{punctuation_of}
 use Rattle.reuse_header.specs.Header.{HeaderSpan, span_in, header_of, neighbour_contents}
 use Rattle.reuse_header.specs.Writing.{block_text, block_lines, neighbour_marks, ended_by}
 use Rattle.reuse_header.specs.Annotation.{Edit, edited, kind_of_file}
@@ -33,7 +33,8 @@ use Rattle.reuse_header.proofs.LineSoundLemmas.{mark_sound}
 use Rattle.reuse_header.proofs.InfoSoundLemmas.{IsSoundInfo, info_sound}
 use Rattle.reuse_header.proofs.MadeTextLemmas.{block_sound, ended_sound, no_punctuation, no_marks, text_is, text_made}
 use Rattle.reuse_header.proofs.MadeTextLemmas.{contents_are, behind_end}
-use Rattle.reuse_header.proofs.FileTextLemmas.{marks_sound, low_filler, low_punctuation, span_sound}
+use Rattle.reuse_header.proofs.FileTextLemmas.{marks_sound, low_filler, span_sound}
+use Rattle.reuse_header.proofs.MarkLemmas.{low_punctuation}
 use Rattle.reuse_header.proofs.AmendmentLawLemmas.{amendment_ok, amending_replaces, none_stays, neighbour_amendment_ok}
 use Rattle.reuse_header.proofs.AmendmentLawLemmas.{amending_replaces_neighbour}
 use Rattle.reuse_header.proofs.AmendedLemmas.{text_kept_by, Turns, turned}

@@ -10,8 +10,8 @@ use Rattle.reuse_header.specs.declared.amendment.AmendHeaderRefusal.{AmendHeader
 use Rattle.reuse_header.specs.declared.amendment.AmendHeaderRefusal.TheVariants.{BadExpression, NothingLeft, Header}
 use Rattle.reuse_amend.specs.declared.amendments.Amendments.{Amendments}
 use Rattle.reuse_notice.specs.Infos.{info_of}
-use Rattle.reuse_header.specs.declared.style.Style.{Style}
-use Rattle.reuse_header.specs.Styles.{punctuation_of}
+use Rattle.reuse_style.specs.declared.style.Style.{Style}
+use Rattle.reuse_style.specs.Styles.{punctuation_of}
 use Rattle.reuse_header.specs.Marks.{LineMarks, marks_of}
 use Rattle.reuse_header.specs.Header.{HeaderSpan}
 use Rattle.reuse_header.specs.Neighbour.{is_text, replaced_contents, neighbour_written}

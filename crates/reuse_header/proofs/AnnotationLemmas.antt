@@ -5,7 +5,7 @@ use Rattle.std.specs.Prelude.{Err, MatchOption}
 use Rattle.std.specs.Option.{option_map}
 use Rattle.reuse_notice.specs.declared.infos.Info.{Info}
 use Rattle.reuse_notice.specs.declared.adding.Additions.{Additions}
-use Rattle.reuse_header.specs.declared.style.Style.{Style}
+use Rattle.reuse_style.specs.declared.style.Style.{Style}
 use Rattle.reuse_header.specs.declared.finder.Block.{Block}
 use Rattle.reuse_header.specs.declared.annotation.How.{How}
 use Rattle.reuse_header.specs.declared.annotation.HeaderRefusal.TheVariants.{NoSuchForm}

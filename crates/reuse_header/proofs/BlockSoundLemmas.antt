@@ -10,21 +10,21 @@ use Rattle.std.proofs.lemmas.Bool.Decides.{Decides-eqb}
 use Rattle.std.proofs.lemmas.List.{take-append-drop}
 use Rattle.std.proofs.lemmas.Slice.Eq.{starts_is}
 use Rattle.reuse_notice.specs.Tags.{is_blank, drop_front, drop_end}
-use Rattle.reuse_notice.proofs.SoundLemmas.{IsSound, is_low, is_nul, sound_low, sound_to_low, sound_after, sound_front}
-use Rattle.reuse_notice.proofs.SoundLemmas.{sound_end}
+use Rattle.reuse_notice.proofs.SoundLemmas.{IsSound, is_low, low_is, sound_to_low, sound_after, sound_front, sound_end}
 use Rattle.reuse_header.specs.declared.blocks.BlockSize.{BlockSize}
-use Rattle.reuse_header.specs.declared.style.Style.{Style}
-use Rattle.reuse_header.specs.declared.style.Style.TheVariants.{Python, C, Css, Html, Haskell, Tex, Lisp, Semicolon, Ml}
-use Rattle.reuse_header.specs.declared.style.Style.TheVariants.{Vim}
-use Rattle.reuse_header.specs.declared.style.Form.TheVariants.{Single, Multi}
-use Rattle.reuse_header.specs.Search.{place_of, is_return, is_indent}
-use Rattle.reuse_header.specs.Styles.{LineForm, BlockForm, c_block, html_block, ml_block, line_comment_of}
-use Rattle.reuse_header.specs.Styles.{block_comment_of}
+use Rattle.reuse_style.specs.declared.style.Style.{Style}
+use Rattle.reuse_style.specs.declared.marks.Form.TheVariants.{Single, Multi}
+use Rattle.reuse_style.specs.Search.{place_of}
+use Rattle.reuse_header.specs.Ends.{is_return, is_indent}
+use Rattle.reuse_style.specs.Marks.{LineForm, BlockForm, is_plain}
+use Rattle.reuse_style.specs.Styles.{line_comment_of, block_comment_of, punctuation_of}
+use Rattle.reuse_style.proofs.GoodLemmas.{IsLineGood, IsBlockGood, AreGoodMiddle, line_good, block_good}
 use Rattle.reuse_header.specs.Blocks.{count_to_closer, multi_count, multi_lines, marked_lines, block_of, block_at}
-use Rattle.reuse_header.specs.Blocks.{without_star, between_marks, is_blank_content, single_content, multi_content}
+use Rattle.reuse_header.specs.Blocks.{without_middle, between_marks, is_blank_content, single_content, multi_content}
 use Rattle.reuse_header.specs.Blocks.{without_returns, contents_from, contents_of}
 use Rattle.reuse_header.proofs.SayableLemmas.{Each, each_both, of_picked}
 use Rattle.reuse_header.proofs.LineSoundLemmas.{blank_low, return_low}
+use Rattle.reuse_header.proofs.MarkLemmas.{plain_is_low, plain_sound, lead_plain}
 
 -- ---- the marks of the styles
 
@@ -34,21 +34,19 @@ AreLineMarks None = Unit {0}
 AreLineMarks (Some comment) = IsSound comment.marker × IsSound comment.lead
 
 pub line_marks : (style : Style) → AreLineMarks (line_comment_of style)
-line_marks Python = (sound_low _ refl refl, sound_low _ refl refl)
-line_marks C = (sound_low _ refl refl, sound_low _ refl refl)
-line_marks Css = tt
-line_marks Html = tt
-line_marks Haskell = (sound_low _ refl refl, sound_low _ refl refl)
-line_marks Tex = (sound_low _ refl refl, sound_low _ refl refl)
-line_marks Lisp = (sound_low _ refl refl, sound_low _ refl refl)
-line_marks Semicolon = (sound_low _ refl refl, sound_low _ refl refl)
-line_marks Ml = tt
-line_marks Vim = (sound_low _ refl refl, sound_low _ refl refl)
+line_marks style = by (line_comment_of style) (line_good style)
+  where
+    by : (o : Option LineForm) → IsLineGood (punctuation_of style) o → AreLineMarks o
+    by None good = tt
+    by (Some form) good = (
+      plain_sound form.marker good.marker.plain,
+      plain_sound form.lead (lead_plain style form.marker form.lead good.marker.plain good.lead),
+    )
 
 -- the marks of a block's comment, whose closer begins with an ASCII byte
 pub record IsBlockMarks (comment : BlockForm) : Type 0 where
   pub opener : IsSound comment.opener
-  pub middle : IsSound comment.middle
+  pub middle : Each IsSound (option_to_list comment.middle)
   pub last_line : IsSound comment.last_line
   pub lead : IsSound comment.lead
   pub first : ℕ
@@ -60,47 +58,41 @@ abbrev pub AreBlockMarks : Option BlockForm → Type 0
 AreBlockMarks None = Unit {0}
 AreBlockMarks (Some comment) = IsBlockMarks comment
 
-abbrev are_low : List ℕ → Bool
-are_low bytes = list_all is_low bytes && not (list_any is_nul bytes)
-
-low_sound : (bytes : List ℕ) → are_low bytes ≡ true → IsSound bytes
-low_sound bytes e = let both = and_parts (list_all is_low bytes) (not (list_any is_nul bytes)) e in
-    sound_low bytes both.0 (grind (arith, both.1))
-
--- each mark is ASCII without a NUL byte
-abbrev is_plain_form : BlockForm → Bool
-is_plain_form comment =
-    are_low comment.opener && are_low comment.middle && are_low comment.last_line && are_low comment.lead
-
-plain_marks : (comment : BlockForm) (first : ℕ) (rest : List ℕ) → is_plain_form comment ≡ true
-    → comment.closer ≡ first ∷ rest → first < 128 → IsBlockMarks comment
-plain_marks comment first rest plain closer low =
-    let four = and_parts (are_low comment.opener && are_low comment.middle && are_low comment.last_line)
-    (are_low comment.lead) plain in
-    let three = and_parts (are_low comment.opener && are_low comment.middle) (are_low comment.last_line) four.0 in
-    let two = and_parts (are_low comment.opener) (are_low comment.middle) three.0 in
-    record {
-      opener = low_sound comment.opener two.0;
-      middle = low_sound comment.middle two.1;
-      last_line = low_sound comment.last_line three.1;
-      lead = low_sound comment.lead four.1;
-      first = first;
-      rest = rest;
-      closer = closer;
-      low = low;
-    }
-
 pub block_marks : (style : Style) → AreBlockMarks (block_comment_of style)
-block_marks Python = tt
-block_marks C = plain_marks c_block 42 (codes "/") refl refl (omega arith)
-block_marks Css = plain_marks c_block 42 (codes "/") refl refl (omega arith)
-block_marks Html = plain_marks html_block 45 (codes "->") refl refl (omega arith)
-block_marks Haskell = tt
-block_marks Tex = tt
-block_marks Lisp = tt
-block_marks Semicolon = tt
-block_marks Ml = plain_marks ml_block 42 (codes ")") refl refl (omega arith)
-block_marks Vim = tt
+unfolding Each
+block_marks style = by (block_comment_of style) (block_good style)
+  where
+    middle_plain : (middle : Option (List ℕ)) → AreGoodMiddle middle → list_all is_plain (unwrap_or middle []) ≡ true
+    middle_plain None good = refl
+    middle_plain (Some middle) good = good.0.plain
+
+    middle_sound : (middle : Option (List ℕ)) → AreGoodMiddle middle → Each IsSound (option_to_list middle)
+    middle_sound None good = tt
+    middle_sound (Some middle) good = (plain_sound middle good.0.plain, tt)
+
+    -- a mark has a first byte
+    first_of : (mark front : List ℕ) (last : ℕ) → mark ≡ front ++ last ∷ []
+        → (first : ℕ) × (rest : List ℕ) × (mark ≡ first ∷ rest)
+    first_of mark [] last e = (last, [], e)
+    first_of mark (x ∷ front) last e = (x, front ++ last ∷ [], e)
+
+    by : (o : Option BlockForm) → IsBlockGood (punctuation_of style) o → AreBlockMarks o
+    by None good = tt
+    by (Some form) good =
+        let f = first_of form.closer good.closer.front good.closer.last good.closer.is in
+        let low : is_plain f.0 ≡ true =
+        (and_parts (is_plain f.0) (list_all is_plain f.1) (ap (list_all is_plain) (sym f.2) ∙ good.closer.plain)).0 in
+        record {
+          opener = plain_sound form.opener good.opener.plain;
+          middle = middle_sound form.middle good.middle;
+          last_line = plain_sound form.last_line good.last_line.plain;
+          lead = plain_sound form.lead
+              (lead_plain style (unwrap_or form.middle []) form.lead (middle_plain form.middle good.middle) good.lead);
+          first = f.0;
+          rest = f.1;
+          closer = f.2;
+          low = low_is f.0 (plain_is_low f.0 low);
+        }
 
 -- ---- the closer
 
@@ -159,13 +151,18 @@ indent_low b e = by (b == 32) (b == 9) refl refl e
     by false true p q h = ap is_low (eqb-true b 9 q)
     by false false p q h = absurd (false≢true h)
 
-star_sound : (content : List ℕ) → IsSound content → IsSound (without_star content)
-unfolding without_star
-star_sound content s = by (starts_with nat_eq (drop_front is_indent content) (42 ∷ [])) refl
+middle_dropped : (middle : Option (List ℕ)) (content : List ℕ) → Each IsSound (option_to_list middle) → IsSound content
+    → IsSound (without_middle middle content)
+unfolding Each without_middle
+middle_dropped None content m s = s
+middle_dropped (Some middle) content m s = by (starts_with nat_eq (drop_front is_indent content) sign) refl
   where
-    by : (b : Bool) → starts_with nat_eq (drop_front is_indent content) (42 ∷ []) ≡ b
-        → IsSound (cond b (drop 1 (drop_front is_indent content)) content)
-    by true e = sound_after (drop_front is_indent content) (42 ∷ []) e (sound_low (42 ∷ []) refl refl).utf8
+    sign : List ℕ
+    sign = drop_front is_indent middle
+
+    by : (b : Bool) → starts_with nat_eq (drop_front is_indent content) sign ≡ b
+        → IsSound (cond b (drop (length sign) (drop_front is_indent content)) content)
+    by true e = sound_after (drop_front is_indent content) sign e (sound_front is_indent indent_low middle m.0).utf8
         (sound_front is_indent indent_low content s)
     by false e = s
 
@@ -173,7 +170,7 @@ between_sound : (comment : BlockForm) → IsBlockMarks comment → (is_first is_
     → (is_first ≡ true → starts_with nat_eq content comment.opener ≡ true) → IsSound content
     → IsSound (between_marks comment is_first is_last content)
 unfolding between_marks
-between_sound comment marks is_first is_last content begins s = star _ (closed is_last _ (opened is_first refl))
+between_sound comment marks is_first is_last content begins s = behind _ (closed is_last _ (opened is_first refl))
   where
     opened : (first : Bool) → is_first ≡ first
         → IsSound (if first then drop (length comment.opener) content else content)
@@ -185,10 +182,10 @@ between_sound comment marks is_first is_last content begins s = star _ (closed i
     closed true bytes f = sound_end is_blank blank_low _ (before_closer comment marks bytes f)
     closed false bytes f = f
 
-    star : (bytes : List ℕ) → IsSound bytes
-        → IsSound (if is_first || not (list_any (λ b. b == 42) comment.middle) then bytes else without_star bytes)
-    star bytes f = of_picked IsSound (is_first || not (list_any (λ b. b == 42) comment.middle)) bytes
-        (without_star bytes) f (star_sound bytes f)
+    behind : (bytes : List ℕ) → IsSound bytes
+        → IsSound (if is_first then bytes else without_middle comment.middle bytes)
+    behind bytes f = of_picked IsSound is_first bytes (without_middle comment.middle bytes) f
+        (middle_dropped comment.middle bytes marks.middle f)
 
 -- a line of a block begins with its marker, and the first line of a block over several lines with its opener
 abbrev BeginsMarked : Option LineForm → List ℕ → Type 0

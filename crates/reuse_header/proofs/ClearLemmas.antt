@@ -7,8 +7,8 @@ use Rattle.std.proofs.lemmas.List.{take-append-drop}
 use Rattle.std.proofs.lemmas.List.Elements.{All-weaker}
 use Rattle.std.proofs.lemmas.List.Folds.{list_any_none, list_any-append}
 use Rattle.reuse_text.specs.Text.{TextLine, StandsIn, file_lines, line_bytes, ending_bytes}
-use Rattle.reuse_header.specs.declared.style.Style.{Style}
-use Rattle.reuse_header.specs.Search.{place_of, holds}
+use Rattle.reuse_style.specs.declared.style.Style.{Style}
+use Rattle.reuse_style.specs.Search.{place_of, holds}
 use Rattle.reuse_header.specs.Body.{PlacedLines, is_barrier, has_barrier, body_lines, open_contents}
 use Rattle.reuse_header.specs.Header.{header_in}
 use Rattle.std.proofs.lemmas.Bool.{cases_Bool as truth}

@@ -8,9 +8,9 @@ use Rattle.std.specs.Option.{option_map}
 use Rattle.std.proofs.lemmas.Bool.{false≢true}
 use Rattle.std.proofs.lemmas.List.{drop-drop}
 use Rattle.reuse_notice.specs.Tags.{all_blank}
-use Rattle.reuse_header.specs.declared.style.Style.{Style}
-use Rattle.reuse_header.specs.Styles.{BlockForm}
-use Rattle.reuse_header.specs.Search.{place_of}
+use Rattle.reuse_style.specs.declared.style.Style.{Style}
+use Rattle.reuse_style.specs.Marks.{BlockForm}
+use Rattle.reuse_style.specs.Search.{place_of}
 use Rattle.reuse_header.specs.Body.{PlacedLines, is_barrier, open_contents}
 use Rattle.reuse_header.specs.Header.{header_in}
 use Rattle.reuse_header.specs.Blocks.{ends_block, count_from, count_to_closer, multi_count, multi_lines, HasNoCount}

@@ -1,77 +1,41 @@
 -- The contents that the lines of a written block are read as, and the tag of each.
-use Rattle.std.proofs.Common.{◌≡◌, ℕ, suc, Bool, true, false, List, [], ◌∷◌, ◌++◌, length, length-append, append_assoc}
-use Rattle.std.proofs.Common.{map, nat_eq, Option, None, Some, refl, sym, ap, subst, ◌∙◌, inl, inr, arith}
-use Rattle.std.specs.Prelude.{◌||◌, ◌==◌, MatchOption}
+use Rattle.std.proofs.Common.{◌≡◌, ℕ, suc, Bool, true, false, List, [], ◌∷◌, ◌++◌, length, length-append, take, drop}
+use Rattle.std.proofs.Common.{append_assoc, map, nat_eq, Option, None, Some, refl, sym, ap, subst, ◌∙◌, inl, inr, arith}
+use Rattle.std.specs.Prelude.{◌&&◌, ◌||◌, ◌==◌, unwrap_or, if◌then◌else◌}
 use Rattle.std.specs.List.{list_all, list_any}
-use Rattle.std.specs.Option.{option_map_or, option_to_list}
-use Rattle.std.proofs.lemmas.Bool.{false≢true, eqb-true}
+use Rattle.std.specs.Option.{option_map, option_map_or, option_to_list}
+use Rattle.std.proofs.Math.Seq.{drop-length}
+use Rattle.std.proofs.lemmas.Bool.{eqb-true}
 use Rattle.std.proofs.lemmas.List.{append-nil}
 use Rattle.reuse_notice.specs.declared.infos.Info.{Info}
 use Rattle.reuse_notice.specs.Tags.{is_blank, is_filler, drop_front, drop_end, stripped, tag_in, tag_of}
 use Rattle.reuse_notice.specs.Contents.{is_blank_content}
-use Rattle.reuse_header.specs.declared.style.Style.{Style}
-use Rattle.reuse_header.specs.declared.style.Style.TheVariants.{Python, C, Css, Html, Haskell, Tex, Lisp, Semicolon, Ml}
-use Rattle.reuse_header.specs.declared.style.Style.TheVariants.{Vim}
-use Rattle.reuse_header.specs.declared.style.Form.{Form}
-use Rattle.reuse_header.specs.declared.style.Form.TheVariants.{Single, Multi}
-use Rattle.reuse_header.specs.Search.{is_return, place_of}
-use Rattle.reuse_header.specs.Styles.{punctuation_of, block_comment_of}
+use Rattle.reuse_style.specs.declared.style.Style.{Style}
+use Rattle.reuse_style.specs.declared.marks.Form.{Form}
+use Rattle.reuse_style.specs.declared.marks.Form.TheVariants.{Single, Multi}
+use Rattle.reuse_style.specs.Search.{place_of}
+use Rattle.reuse_header.specs.Ends.{is_return}
+use Rattle.reuse_style.specs.Marks.{LineForm, BlockForm}
+use Rattle.reuse_style.specs.Styles.{punctuation_of, line_comment_of, block_comment_of}
+use Rattle.reuse_style.proofs.GoodLemmas.{IsLineGood, IsBlockGood, IsGoodBlock, line_good, block_good}
 use Rattle.reuse_header.specs.Marks.{LineMarks, marks_of}
-use Rattle.reuse_header.specs.Blocks.{without_returns, without_star, between_marks, single_content, multi_content}
+use Rattle.reuse_header.specs.Blocks.{without_returns, without_middle, between_marks, single_content, multi_content}
 use Rattle.reuse_header.specs.Blocks.{contents_from, contents_of}
 use Rattle.reuse_header.specs.Writing.{neighbour_marks, separator_of, inner_lines, block_lines}
 use Rattle.std.proofs.lemmas.Bool.{cases_Bool as truth}
 use Rattle.reuse_notice.proofs.BlankLemmas.{drop_end-all, dropped_end}
+use Rattle.reuse_header.proofs.PartLemmas.{IsOfParts, of_middle}
+use Rattle.reuse_header.proofs.MarkLemmas.{IsReader, or_true, first_or, all-weaker, all-front, all-back, all-ended}
+use Rattle.reuse_header.proofs.MarkLemmas.{drop_front-all, drop_front-every, fillings_are_fillers, reads_line}
+use Rattle.reuse_header.proofs.MarkLemmas.{reads_block}
 
--- ---- bytes without those at their ends
-
-module _ (test : ℕ → Bool) where
-  all-append : (xs ys : List ℕ) → list_all test xs ≡ true → list_all test ys ≡ true → list_all test (xs ++ ys) ≡ true
-  all-append [] ys p q = q
-  all-append (x ∷ xs) ys p q = elim (truth (test x)) [
-    | inl e ↦ (let h = rw e at p in rw e (all-append xs ys h q))
-    | inr e ↦ (let h = rw e at p in absurd (false≢true h))
-  ]
-
-  drop_front-all : (xs ys : List ℕ) → list_all test xs ≡ true → drop_front test (xs ++ ys) ≡ drop_front test ys
-  unfolding drop_front
-  drop_front-all [] ys p = refl
-  drop_front-all (x ∷ xs) ys p = elim (truth (test x)) [
-    | inl e ↦ (let h = rw e at p in rw e (drop_front-all xs ys h))
-    | inr e ↦ (let h = rw e at p in absurd (false≢true h))
-  ]
-
-  drop_front-none : (xs : List ℕ) → list_all test xs ≡ true → drop_front test xs ≡ []
-  unfolding drop_front
-  drop_front-none [] p = refl
-  drop_front-none (x ∷ xs) p = elim (truth (test x)) [
-    | inl e ↦ (let h = rw e at p in rw e (drop_front-none xs h))
-    | inr e ↦ (let h = rw e at p in absurd (false≢true h))
-  ]
-
-all-weaker : (p q : ℕ → Bool) → ((b : ℕ) → p b ≡ true → q b ≡ true) → (xs : List ℕ) → list_all p xs ≡ true
-    → list_all q xs ≡ true
-all-weaker p q w [] h = refl
-all-weaker p q w (x ∷ xs) h = elim (truth (p x)) [
-  | inl e ↦ (let k = rw e at h in rw (w x e) (all-weaker p q w xs k))
-  | inr e ↦ (let k = rw e at h in absurd (false≢true k))
-]
-
-or_true : (a b : Bool) → b ≡ true → (a || b) ≡ true
-or_true true b e = refl
-or_true false b e = e
-
-first_or : (a b : Bool) → a ≡ true → (a || b) ≡ true
-first_or true b e = refl
-first_or false b e = absurd (false≢true e)
+-- ---- the tag of a content
 
 return_is_blank : (b : ℕ) → is_return b ≡ true → is_blank b ≡ true
 return_is_blank b e = or_true (b == 32 || b == 9) (b == 13) e
 
 blank_is_filler : (punct : List ℕ) (b : ℕ) → is_blank b ≡ true → is_filler punct b ≡ true
 blank_is_filler punct b e = first_or (is_blank b) (list_any (λ p. nat_eq p b) punct) e
-
--- ---- the tag of a content
 
 -- a tag is the same behind blank bytes and punctuation
 pub tag_of-led : (punct lead text : List ℕ) → list_all (is_filler punct) lead ≡ true
@@ -84,7 +48,7 @@ stripped-blank : (punct content tail : List ℕ) → list_all is_blank tail ≡ 
     → stripped punct (content ++ tail) ≡ stripped punct content
 unfolding drop_front
 stripped-blank punct [] tail h =
-    ap (drop_end is_blank) (drop_front-none (is_filler punct) tail
+    ap (drop_end is_blank) (drop_front-every (is_filler punct) tail
     (all-weaker is_blank (is_filler punct) (λ b e. blank_is_filler punct b e) tail h))
 stripped-blank punct (c ∷ content) tail h = elim (truth (is_filler punct c)) [
   | inl e ↦ rw e (stripped-blank punct content tail h)
@@ -105,121 +69,45 @@ inner_content style Single line = single_content style line
 inner_content style Multi line =
     without_returns (option_map_or (λ comment. between_marks comment false false line) (block_comment_of style) line)
 
--- what a reading of lines makes of those that are written by some marks: of a tag, of a free content, and of
--- a separator, where `punct` are the punctuation
-pub record IsReader (punct : List ℕ) (inner : List ℕ → List ℕ) (marks : LineMarks) : Type 0 where
-  pub rest : List ℕ
-  pub rest_blank : list_all (is_filler punct) rest ≡ true
-  pub lead : (text : List ℕ) → inner (marks.lead ++ text) ≡ without_returns (rest ++ text)
-  pub mark : (text : List ℕ) → inner (marks.mark ++ text) ≡ without_returns text
-  pub separator_blank : is_blank_content punct (inner (separator_of marks)) ≡ true
-  pub separator_tag : tag_of punct (inner (separator_of marks)) ≡ None
+reads_by : (o : Option LineForm) (punct : List ℕ) (marks : LineMarks) → IsLineGood punct o
+    → option_map (λ (form : LineForm).
+    record { lead = form.lead; mark = form.marker; first = None; last = None; closer = None }) o ≡ Some marks
+    → IsReader punct (λ line. without_returns (drop (option_map_or (λ form. length form.marker) o 0) line)) marks
+reads_by None punct marks good e = absurd (let none : ⊥ = cc e in none)
+reads_by (Some form) punct marks good e =
+    let same : ◌≡◌ {A = LineMarks}
+    (record { lead = form.lead; mark = form.marker; first = None; last = None; closer = None }) marks = cc e in
+    subst (IsReader punct (λ line. without_returns (drop (length form.marker) line))) same
+    (reads_line punct form None None None good)
 
-reader : (style : Style) (form : Form) → MatchOption (marks_of style form) (Unit {0})
-    (λ marks. IsReader (punctuation_of style) (inner_content style form) marks)
-unfolding inner_content single_content between_marks without_star drop_front drop_end
-reader Python Single = record {
-  rest = 32 ∷ [];
-  rest_blank = refl;
-  lead = λ text. refl;
-  mark = λ text. refl;
-  separator_blank = refl;
-  separator_tag = refl;
-}
-reader C Single = record {
-  rest = 32 ∷ [];
-  rest_blank = refl;
-  lead = λ text. refl;
-  mark = λ text. refl;
-  separator_blank = refl;
-  separator_tag = refl;
-}
-reader Css Single = tt
-reader Html Single = tt
-reader Haskell Single = record {
-  rest = 32 ∷ [];
-  rest_blank = refl;
-  lead = λ text. refl;
-  mark = λ text. refl;
-  separator_blank = refl;
-  separator_tag = refl;
-}
-reader Tex Single = record {
-  rest = 32 ∷ [];
-  rest_blank = refl;
-  lead = λ text. refl;
-  mark = λ text. refl;
-  separator_blank = refl;
-  separator_tag = refl;
-}
-reader Lisp Single = record {
-  rest = 59 ∷ 32 ∷ [];
-  rest_blank = refl;
-  lead = λ text. refl;
-  mark = λ text. refl;
-  separator_blank = refl;
-  separator_tag = refl;
-}
-reader Semicolon Single = record {
-  rest = 32 ∷ [];
-  rest_blank = refl;
-  lead = λ text. refl;
-  mark = λ text. refl;
-  separator_blank = refl;
-  separator_tag = refl;
-}
-reader Ml Single = tt
-reader Vim Single = record {
-  rest = 32 ∷ [];
-  rest_blank = refl;
-  lead = λ text. refl;
-  mark = λ text. refl;
-  separator_blank = refl;
-  separator_tag = refl;
-}
-reader Python Multi = tt
-reader C Multi = record {
-  rest = 32 ∷ [];
-  rest_blank = refl;
-  lead = λ text. refl;
-  mark = λ text. refl;
-  separator_blank = refl;
-  separator_tag = refl;
-}
-reader Css Multi = record {
-  rest = 32 ∷ [];
-  rest_blank = refl;
-  lead = λ text. refl;
-  mark = λ text. refl;
-  separator_blank = refl;
-  separator_tag = refl;
-}
-reader Html Multi = record {
-  rest = [];
-  rest_blank = refl;
-  lead = λ text. refl;
-  mark = λ text. refl;
-  separator_blank = refl;
-  separator_tag = refl;
-}
-reader Haskell Multi = tt
-reader Tex Multi = tt
-reader Lisp Multi = tt
-reader Semicolon Multi = tt
-reader Ml Multi = record {
-  rest = 32 ∷ [];
-  rest_blank = refl;
-  lead = λ text. refl;
-  mark = λ text. refl;
-  separator_blank = refl;
-  separator_tag = refl;
-}
-reader Vim Multi = tt
+reads_within : (o : Option BlockForm) (punct : List ℕ) (marks : LineMarks) → IsBlockGood punct o
+    → option_map (λ (form : BlockForm). record {
+      lead = form.lead;
+      mark = unwrap_or form.middle [];
+      first = Some form.opener;
+      last = Some form.last_line;
+      closer = Some form.closer;
+    }) o ≡ Some marks
+    → IsReader punct
+    (λ line. without_returns (option_map_or (λ form. between_marks form false false line) o line)) marks
+unfolding between_marks
+reads_within None punct marks good e = absurd (let none : ⊥ = cc e in none)
+reads_within (Some form) punct marks good e =
+    let same : ◌≡◌ {A = LineMarks} (record {
+      lead = form.lead;
+      mark = unwrap_or form.middle [];
+      first = Some form.opener;
+      last = Some form.last_line;
+      closer = Some form.closer;
+    }) marks = cc e in
+    subst (IsReader punct (λ line. without_returns (without_middle form.middle line))) same
+    (reads_block punct form (Some form.opener) (Some form.last_line) (Some form.closer) good)
 
 pub the_reader : (style : Style) (form : Form) (marks : LineMarks) → marks_of style form ≡ Some marks
     → IsReader (punctuation_of style) (inner_content style form) marks
-the_reader style form marks e = subst (λ (o : Option LineMarks). MatchOption o (Unit {0})
-    (λ m. IsReader (punctuation_of style) (inner_content style form) m)) e (reader style form)
+unfolding inner_content single_content
+the_reader style Single marks e = reads_by (line_comment_of style) (punctuation_of style) marks (line_good style) e
+the_reader style Multi marks e = reads_within (block_comment_of style) (punctuation_of style) marks (block_good style) e
 
 -- a neighbour's lines
 pub neighbour_reader : IsReader [] (λ line. without_returns line) neighbour_marks
@@ -266,33 +154,85 @@ Framed style Multi marks =
     (first : List ℕ) × (last : List ℕ) × (marks.first ≡ Some first) × (marks.last ≡ Some last)
     × (multi_content style true false first ≡ None) × (multi_content style false true last ≡ None)
 
-framed : (style : Style) (form : Form) → MatchOption (marks_of style form) (Unit {0}) (λ marks. Framed style form marks)
-unfolding Framed multi_content between_marks without_star drop_front drop_end place_of
-framed Python Single = (refl, refl)
-framed C Single = (refl, refl)
-framed Css Single = tt
-framed Html Single = tt
-framed Haskell Single = (refl, refl)
-framed Tex Single = (refl, refl)
-framed Lisp Single = (refl, refl)
-framed Semicolon Single = (refl, refl)
-framed Ml Single = tt
-framed Vim Single = (refl, refl)
-framed Python Multi = tt
-framed C Multi = (_, _, refl, refl, refl, refl)
-framed Css Multi = (_, _, refl, refl, refl, refl)
-framed Html Multi = (_, _, refl, refl, refl, refl)
-framed Haskell Multi = tt
-framed Tex Multi = tt
-framed Lisp Multi = tt
-framed Semicolon Multi = tt
-framed Ml Multi = (_, _, refl, refl, refl, refl)
-framed Vim Multi = tt
+-- what a line of a block says, as its comment reads it
+read_by : List ℕ → Option BlockForm → Bool → Bool → List ℕ → Option (List ℕ)
+read_by punct o is_first is_last line =
+    let inner = without_returns (option_map_or (λ form. between_marks form is_first is_last line) o line) in
+    if (is_first || is_last) && list_all (is_filler punct) inner then None else Some inner
+
+-- the opener alone says nothing, nor does the last line
+opener_says_nothing : (punct : List ℕ) (form : BlockForm) → read_by punct (Some form) true false form.opener ≡ None
+unfolding read_by between_marks drop_end
+opener_says_nothing punct form =
+    ap (λ (rest : List ℕ). if list_all (is_filler punct) (without_returns rest) then None
+    else Some (without_returns rest)) (drop-length form.opener)
+
+all_of_parts : (test : ℕ → Bool) → IsOfParts (λ xs. list_all test xs ≡ true)
+all_of_parts test = record { front = λ n xs e. all-front test n xs e; back = λ n xs e. all-back test n xs e }
+
+last_says_nothing : (punct : List ℕ) (form : BlockForm) → IsGoodBlock punct form
+    → read_by punct (Some form) false true form.last_line ≡ None
+unfolding read_by between_marks
+last_says_nothing punct form good =
+    let ends = good.ends in
+    let fillers = fillings_are_fillers punct (take ends.place form.last_line) ends.filled in
+    let before = all-ended (is_filler punct) is_blank (take ends.place form.last_line) fillers in
+    let inner = all-ended (is_filler punct) is_return _
+    (of_middle (λ xs. list_all (is_filler punct) xs ≡ true) (all_of_parts (is_filler punct)) form.middle _ before) in
+    let read = λ (o : Option ℕ). without_returns
+    (without_middle form.middle (drop_end is_blank (take (unwrap_or o (length form.last_line)) form.last_line))) in
+    ap (λ (o : Option ℕ). if list_all (is_filler punct) (read o) then None else Some (read o)) ends.found
+    ∙ ap (λ (t : Bool). if t then None else Some (read (Some ends.place))) inner
+
+nothing_read : (style : Style) (o : Option BlockForm) → block_comment_of style ≡ o
+    → (is_first is_last : Bool) (line : List ℕ) → read_by (punctuation_of style) o is_first is_last line ≡ None
+    → multi_content style is_first is_last line ≡ None
+unfolding multi_content read_by
+nothing_read style o is is_first is_last line none =
+    subst (λ (p : Option BlockForm). read_by (punctuation_of style) p is_first is_last line ≡ None) (sym is) none
 
 the_frame : (style : Style) (form : Form) (marks : LineMarks) → marks_of style form ≡ Some marks
     → Framed style form marks
-the_frame style form marks e =
-    subst (λ (o : Option LineMarks). MatchOption o (Unit {0}) (λ m. Framed style form m)) e (framed style form)
+unfolding Framed
+the_frame style Single marks e = by (line_comment_of style) e
+  where
+    by : (o : Option LineForm) → option_map (λ (form : LineForm).
+        record { lead = form.lead; mark = form.marker; first = None; last = None; closer = None }) o ≡ Some marks
+        → (marks.first ≡ None) × (marks.last ≡ None)
+    by None f = absurd (let none : ⊥ = cc f in none)
+    by (Some form) f =
+        let same : ◌≡◌ {A = LineMarks}
+        (record { lead = form.lead; mark = form.marker; first = None; last = None; closer = None }) marks = cc f in
+        subst (λ (m : LineMarks). (m.first ≡ None) × (m.last ≡ None)) same (refl, refl)
+the_frame style Multi marks e = by (block_comment_of style) refl (block_good style) e
+  where
+    by : (o : Option BlockForm) → block_comment_of style ≡ o → IsBlockGood (punctuation_of style) o
+        → option_map (λ (form : BlockForm). record {
+          lead = form.lead;
+          mark = unwrap_or form.middle [];
+          first = Some form.opener;
+          last = Some form.last_line;
+          closer = Some form.closer;
+        }) o ≡ Some marks
+        → (first : List ℕ) × (last : List ℕ) × (marks.first ≡ Some first) × (marks.last ≡ Some last)
+        × (multi_content style true false first ≡ None) × (multi_content style false true last ≡ None)
+    by None is good f = absurd (let none : ⊥ = cc f in none)
+    by (Some form) is good f =
+        let same : ◌≡◌ {A = LineMarks} (record {
+          lead = form.lead;
+          mark = unwrap_or form.middle [];
+          first = Some form.opener;
+          last = Some form.last_line;
+          closer = Some form.closer;
+        }) marks = cc f in (
+          form.opener,
+          form.last_line,
+          ap (λ (m : LineMarks). m.first) (sym same),
+          ap (λ (m : LineMarks). m.last) (sym same),
+          nothing_read style (Some form) is true false form.opener (opener_says_nothing (punctuation_of style) form),
+          nothing_read style (Some form) is false true form.last_line
+              (last_says_nothing (punctuation_of style) form good),
+        )
 
 framed_contents : (style : Style) (first : List ℕ) (lines : List (List ℕ)) (last : List ℕ) (rest : List (List ℕ))
     → multi_content style true false first ≡ None → multi_content style false true last ≡ None

@@ -5,9 +5,10 @@ use Rattle.std.specs.Prelude.{if◌then◌else◌, option_and_then}
 use Rattle.std.specs.List.{starts_with, prefix_len}
 use Rattle.std.specs.Option.{option_map_or}
 use Rattle.std.proofs.lemmas.List.Sums.{prefix_len-le-length}
-use Rattle.reuse_header.specs.declared.style.Style.{Style}
+use Rattle.reuse_style.specs.declared.style.Style.{Style}
 use Rattle.reuse_header.specs.declared.blocks.BlockSize.{BlockSize}
-use Rattle.reuse_header.specs.Styles.{LineForm, BlockForm, line_comment_of, block_comment_of}
+use Rattle.reuse_style.specs.Marks.{LineForm, BlockForm}
+use Rattle.reuse_style.specs.Styles.{line_comment_of, block_comment_of}
 use Rattle.reuse_header.specs.Blocks.{ends_block, count_from, count_to_closer, multi_count, multi_lines, marked_lines}
 use Rattle.reuse_header.specs.Blocks.{block_of, block_at}
 

@@ -8,7 +8,7 @@ use Rattle.std.proofs.lemmas.List.{take-append-drop}
 use Rattle.std.proofs.Common.{length-take}
 use Rattle.reuse_text.specs.Text.{TextLine, line_bytes, text_of, lines_of, placed, file_lines, after_mark, mark_len_of}
 use Rattle.reuse_text.specs.Text.{byte_order_mark}
-use Rattle.reuse_header.specs.declared.style.Style.{Style}
+use Rattle.reuse_style.specs.declared.style.Style.{Style}
 use Rattle.reuse_header.specs.declared.finder.Block.{Block}
 use Rattle.reuse_header.specs.Body.{PlacedLines, is_shebang, is_declaration, without_first, body_lines, open_contents}
 use Rattle.reuse_header.specs.Body.{place_in}
@@ -16,7 +16,7 @@ use Rattle.reuse_header.specs.Header.{Header, HeaderSpan, span_in, header_of}
 use Rattle.reuse_header.specs.Split.{IsSplit, IsHeaderBlock, HasNoHeader, bytes_of, size_of}
 use Rattle.reuse_header.specs.Found.{block_view}
 use Rattle.std.proofs.lemmas.Bool.{cases_Bool as truth}
-use Rattle.reuse_header.proofs.PlaceLemmas.{front_occurs}
+use Rattle.reuse_style.proofs.PlaceLemmas.{front_occurs}
 use Rattle.reuse_header.proofs.SplitLemmas.{begins_in-within, split_found, split_only}
 
 -- ---- the bytes of lines

@@ -22,8 +22,8 @@ use Rattle.reuse_notice.specs.Plain.{IsPlain, ArePlain}
 use Rattle.reuse_notice.proofs.NoneLemmas.{or_none, none_append, none_drop, none_take, none_front, none_end}
 use Rattle.reuse_notice.proofs.NoneLemmas.{none_trimmed, none_weaker}
 use Rattle.reuse_notice.specs.Infos.{info_of}
-use Rattle.reuse_header.specs.declared.style.Style.{Style}
-use Rattle.reuse_header.specs.Search.{is_return}
+use Rattle.reuse_style.specs.declared.style.Style.{Style}
+use Rattle.reuse_header.specs.Ends.{is_return}
 use Rattle.reuse_header.specs.Body.{body_lines, open_contents}
 use Rattle.reuse_header.specs.Blocks.{without_returns}
 use Rattle.reuse_header.specs.Header.{Header, HeaderSpan, span_in, header_of, neighbour_contents}

@@ -1,9 +1,9 @@
 -- What annotating makes of a file that is text is text.
 use Rattle.std.proofs.Common.{◌≡◌, ℕ, zero, suc, Bool, true, false, List, [], ◌∷◌, ◌++◌, length, length-append}
 use Rattle.std.proofs.Common.{append_assoc, take, drop, Option, None, Some, refl, sym, ap, subst, ◌∙◌, inl, inr, arith}
-use Rattle.std.specs.Prelude.{Result, Ok, Err, ◌||◌, nat_eq, ◌⊎◌}
+use Rattle.std.specs.Prelude.{Result, Ok, Err, ◌||◌, nat_eq, unwrap_or, ◌⊎◌}
 use Rattle.std.specs.List.{list_all, list_any}
-use Rattle.std.specs.Option.{option_map}
+use Rattle.std.specs.Option.{option_map, option_to_list}
 use Rattle.std.proofs.Math.Seq.{drop-append_seam, take-append_seam}
 use Rattle.std.proofs.lemmas.Bool.{false≢true, and_parts}
 use Rattle.std.proofs.lemmas.Bool.Decides.{nat_tests}
@@ -11,16 +11,15 @@ use Rattle.reuse_text.specs.Text.{AreLines, lines_of, text_of, file_lines, after
 use Rattle.reuse_notice.specs.declared.adding.Additions.{Additions}
 use Rattle.reuse_notice.specs.Tags.{is_blank}
 use Rattle.reuse_notice.specs.Plain.{ArePlain, AreUtf8}
-use Rattle.reuse_notice.proofs.SoundLemmas.{IsSound, is_low, sound_append, sound_before}
+use Rattle.reuse_notice.proofs.SoundLemmas.{IsSound, is_low, sound_nil, sound_append, sound_before}
 use Rattle.reuse_header.specs.declared.blocks.BlockSize.{BlockSize}
-use Rattle.reuse_header.specs.declared.style.Style.{Style}
-use Rattle.reuse_header.specs.declared.style.Style.TheVariants.{Python, C, Css, Html, Haskell, Tex, Lisp, Semicolon, Ml}
-use Rattle.reuse_header.specs.declared.style.Style.TheVariants.{Vim}
-use Rattle.reuse_header.specs.declared.style.Form.{Form}
-use Rattle.reuse_header.specs.declared.style.Form.TheVariants.{Single, Multi}
+use Rattle.reuse_style.specs.declared.style.Style.{Style}
+use Rattle.reuse_style.specs.declared.marks.Form.{Form}
+use Rattle.reuse_style.specs.declared.marks.Form.TheVariants.{Single, Multi}
 use Rattle.reuse_header.specs.declared.annotation.How.{How}
 use Rattle.reuse_header.specs.declared.annotation.HeaderRefusal.{HeaderRefusal}
-use Rattle.reuse_header.specs.Styles.{LineForm, BlockForm, line_comment_of, block_comment_of, punctuation_of}
+use Rattle.reuse_style.specs.Marks.{LineForm, BlockForm}
+use Rattle.reuse_style.specs.Styles.{line_comment_of, block_comment_of, punctuation_of}
 use Rattle.reuse_header.specs.Marks.{LineMarks, marks_of}
 use Rattle.reuse_header.specs.Body.{PlacedLines, body_lines, open_contents, place_in}
 use Rattle.reuse_header.specs.Blocks.{block_at}
@@ -43,6 +42,7 @@ use Rattle.reuse_header.proofs.LineSoundLemmas.{each_parts, cut_at_line}
 use Rattle.reuse_header.proofs.InfoSoundLemmas.{AreLow, AreSound, new_sound, additions_sound}
 use Rattle.reuse_header.proofs.BlockSoundLemmas.{AreLineMarks, line_marks, AreBlockMarks, block_marks}
 use Rattle.reuse_header.proofs.BlockSoundLemmas.{block_contents_sound}
+use Rattle.reuse_header.proofs.MarkLemmas.{low_punctuation}
 use Rattle.reuse_header.proofs.MadeTextLemmas.{AreSoundMarks, block_sound, ended_sound, insertion_sound, text_is}
 use Rattle.reuse_header.proofs.MadeTextLemmas.{text_made}
 
@@ -65,10 +65,14 @@ marks_sound style Single marks e = by (line_comment_of style) (line_marks style)
         subst AreSoundMarks same (record { lead = are.1; mark = are.0; first = tt; last = tt })
 marks_sound style Multi marks e = by (block_comment_of style) (block_marks style) e
   where
+    middle_or_none : (middle : Option (List ℕ)) → Each IsSound (option_to_list middle) → IsSound (unwrap_or middle [])
+    middle_or_none None m = sound_nil
+    middle_or_none (Some middle) m = m.0
+
     by : (o : Option BlockForm) → AreBlockMarks o
         → option_map (λ (comment : BlockForm). record {
           lead = comment.lead;
-          mark = comment.middle;
+          mark = unwrap_or comment.middle [];
           first = Some comment.opener;
           last = Some comment.last_line;
           closer = Some comment.closer;
@@ -77,13 +81,17 @@ marks_sound style Multi marks e = by (block_comment_of style) (block_marks style
     by (Some comment) are f =
         let same : ◌≡◌ {A = LineMarks} (record {
           lead = comment.lead;
-          mark = comment.middle;
+          mark = unwrap_or comment.middle [];
           first = Some comment.opener;
           last = Some comment.last_line;
           closer = Some comment.closer;
         }) marks = cc f in
-        subst AreSoundMarks same
-        (record { lead = are.lead; mark = are.middle; first = (are.opener, tt); last = (are.last_line, tt) })
+        subst AreSoundMarks same (record {
+          lead = are.lead;
+          mark = middle_or_none comment.middle are.middle;
+          first = (are.opener, tt);
+          last = (are.last_line, tt);
+        })
 
 low_among : (punct : List ℕ) → list_all is_low punct ≡ true → (b : ℕ) → list_any (λ p. nat_eq p b) punct ≡ true
     → is_low b ≡ true
@@ -107,18 +115,6 @@ low_filler punct low b e = by (is_blank b) refl e
     by : (t : Bool) → is_blank b ≡ t → (t || list_any (λ p. nat_eq p b) punct) ≡ true → is_low b ≡ true
     by true is f = blank_low b is
     by false is f = low_among punct low b f
-
-pub low_punctuation : (style : Style) → list_all is_low (punctuation_of style) ≡ true
-low_punctuation Python = refl
-low_punctuation C = refl
-low_punctuation Css = refl
-low_punctuation Html = refl
-low_punctuation Haskell = refl
-low_punctuation Tex = refl
-low_punctuation Lisp = refl
-low_punctuation Semicolon = refl
-low_punctuation Ml = refl
-low_punctuation Vim = refl
 
 -- ---- the block that is found
 

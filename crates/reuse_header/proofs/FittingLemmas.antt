@@ -8,9 +8,9 @@ use Rattle.reuse_text.specs.declared.TheConstants.{LONGEST_FILE}
 use Rattle.reuse_text.specs.Text.{lines_of, after_mark, text_of}
 use Rattle.reuse_notice.specs.declared.adding.Additions.{Additions}
 use Rattle.reuse_amend.specs.declared.amendments.Amendments.{Amendments}
-use Rattle.reuse_header.specs.declared.style.Style.{Style}
+use Rattle.reuse_style.specs.declared.style.Style.{Style}
 use Rattle.reuse_header.specs.declared.annotation.How.{How}
-use Rattle.reuse_header.specs.Styles.{punctuation_of}
+use Rattle.reuse_style.specs.Styles.{punctuation_of}
 use Rattle.reuse_header.specs.Header.{HeaderSpan, span_in, header_of}
 use Rattle.reuse_header.specs.Writing.{new_info, block_text, neighbour_marks}
 use Rattle.reuse_header.specs.Annotation.{Edit, edited, replaced_block, old_contents, edit_of, kind_of_file}

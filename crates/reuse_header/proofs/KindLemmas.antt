@@ -14,7 +14,7 @@ use Rattle.reuse_text.specs.declared.LineKind.TheVariants.{Lf, Crlf}
 use Rattle.reuse_text.specs.Text.{TextLine, AreLines, line_bytes, text_of, ending_bytes, is_line_feed, is_empty}
 use Rattle.reuse_text.specs.Text.{onto_first, lines_of, placed, kind_of, file_lines, after_mark, mark_len_of}
 use Rattle.reuse_text.specs.Text.{byte_order_mark, ends_in_return}
-use Rattle.reuse_header.specs.declared.style.Style.{Style}
+use Rattle.reuse_style.specs.declared.style.Style.{Style}
 use Rattle.reuse_header.specs.Body.{PlacedLines, is_shebang, is_declaration, without_first, body_lines, place_in}
 use Rattle.reuse_header.specs.Body.{open_contents}
 use Rattle.reuse_header.specs.Header.{Header, HeaderSpan, span_in, header_of}
@@ -23,7 +23,7 @@ use Rattle.reuse_header.specs.Writing.{ended_by}
 use Rattle.reuse_header.specs.Annotation.{Edit, new_bytes, edited, ending_if, first_if, prefix_lines, kind_of_file}
 use Rattle.reuse_header.specs.Laws.{AreContents, EndsPlainly}
 use Rattle.std.proofs.lemmas.Bool.{cases_Bool as truth}
-use Rattle.reuse_header.proofs.PlaceLemmas.{front_occurs}
+use Rattle.reuse_style.proofs.PlaceLemmas.{front_occurs}
 use Rattle.reuse_header.proofs.SplitLemmas.{begins_in-within, split_found}
 use Rattle.reuse_header.proofs.CutLemmas.{bytes_of-append, bytes_of-placed, place_behind, file_size, before_body}
 use Rattle.reuse_header.proofs.CutLemmas.{mark_within}

@@ -15,10 +15,10 @@ use Rattle.reuse_notice.specs.Prefixes.{prefix_text, copyright_sign, longest_fir
 use Rattle.reuse_notice.specs.Tags.{TagText, is_blank, is_filler, stripped, value_after, licence_lead, contributor_lead}
 use Rattle.reuse_notice.specs.Tags.{leaves_value, prefix_of, tag_in}
 use Rattle.reuse_notice.proofs.NoneLemmas.{or_none}
-use Rattle.reuse_header.specs.declared.style.Style.{Style}
+use Rattle.reuse_style.specs.declared.style.Style.{Style}
 use Rattle.reuse_header.specs.declared.blocks.BlockSize.{BlockSize}
-use Rattle.reuse_header.specs.Styles.{punctuation_of}
-use Rattle.reuse_header.specs.Search.{place_of, holds}
+use Rattle.reuse_style.specs.Styles.{punctuation_of}
+use Rattle.reuse_style.specs.Search.{place_of, holds}
 use Rattle.reuse_header.specs.Tagged.{has_tag, holds_lead}
 use Rattle.reuse_header.specs.Body.{PlacedLines, is_barrier, body_lines, open_contents}
 use Rattle.reuse_header.specs.Blocks.{block_at}

@@ -3,9 +3,9 @@ use Rattle.std.proofs.Common.{◌≡◌, ℕ, ◌+◌, ◌≤◌, Bool, true, fa
 use Rattle.std.specs.Prelude.{◌||◌, drop}
 use Rattle.memchr.specs.Find.{Nowhere, OccursAt, Passes, is_byte3}
 use Rattle.reuse_notice.specs.Prefixes.{copyright_sign}
-use Rattle.reuse_header.specs.Search.{holds}
+use Rattle.reuse_style.specs.Search.{holds}
 use Rattle.reuse_header.specs.Tagged.{begins_with_lead, holds_lead}
-use Rattle.reuse_header.proofs.PlaceLemmas.{held_where_it_stands, not_held_nowhere, nowhere_by, nowhere_past, stands_at}
+use Rattle.reuse_style.proofs.PlaceLemmas.{held_where_it_stands, not_held_nowhere, nowhere_by, nowhere_past, stands_at}
 
 -- none of the three texts stands before the place
 pub record NoLeadBefore (file : List ℕ) (place : ℕ) : Type 0 where

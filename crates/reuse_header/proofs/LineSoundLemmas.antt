@@ -19,7 +19,7 @@ use Rattle.reuse_text.specs.Text.{after_mark, mark_len_of, byte_order_mark}
 use Rattle.reuse_notice.specs.Tags.{is_blank}
 use Rattle.reuse_notice.proofs.SoundLemmas.{IsSound, is_low, sound_nil, sound_low, sound_append, sound_behind}
 use Rattle.reuse_notice.proofs.SoundLemmas.{sound_to_low, sound_after, sound_end}
-use Rattle.reuse_header.specs.Search.{is_return}
+use Rattle.reuse_header.specs.Ends.{is_return}
 use Rattle.reuse_header.specs.Body.{PlacedLines, is_barrier, open_contents}
 use Rattle.reuse_header.specs.Blocks.{without_returns}
 use Rattle.reuse_header.specs.Split.{bytes_of}

@@ -1,7 +1,7 @@
 -- The lines of a written block are contents.
 use Rattle.std.proofs.Common.{◌≡◌, ℕ, Bool, true, false, List, [], ◌∷◌, ◌++◌, map, Option, None, Some, refl, sym, ap}
 use Rattle.std.proofs.Common.{subst, ◌∙◌, inl, inr}
-use Rattle.std.specs.Prelude.{◌==◌, All, MatchOption, codes}
+use Rattle.std.specs.Prelude.{◌==◌, All, unwrap_or, codes}
 use Rattle.std.specs.List.{list_all}
 use Rattle.std.specs.Option.{option_map, option_to_list}
 use Rattle.std.proofs.lemmas.Bool.{eqb-true}
@@ -13,14 +13,14 @@ use Rattle.reuse_notice.specs.Contents.{notice_text, contributor_value, licence_
 use Rattle.reuse_notice.specs.Adding.{Arguments, additions_of}
 use Rattle.reuse_notice.specs.Plain.{ArePlain}
 use Rattle.reuse_notice.specs.Infos.{info_of, union_of}
-use Rattle.reuse_header.specs.declared.style.Style.{Style}
-use Rattle.reuse_header.specs.declared.style.Style.TheVariants.{Python, C, Css, Html, Haskell, Tex, Lisp, Semicolon, Ml}
-use Rattle.reuse_header.specs.declared.style.Style.TheVariants.{Vim}
-use Rattle.reuse_header.specs.declared.style.Form.{Form}
-use Rattle.reuse_header.specs.declared.style.Form.TheVariants.{Single, Multi}
+use Rattle.reuse_style.specs.declared.style.Style.{Style}
+use Rattle.reuse_style.specs.declared.marks.Form.{Form}
+use Rattle.reuse_style.specs.declared.marks.Form.TheVariants.{Single, Multi}
 use Rattle.reuse_header.specs.declared.annotation.How.{How}
-use Rattle.reuse_header.specs.Search.{is_return}
-use Rattle.reuse_header.specs.Styles.{punctuation_of}
+use Rattle.reuse_header.specs.Ends.{is_return}
+use Rattle.reuse_style.specs.Marks.{LineForm, BlockForm, is_plain}
+use Rattle.reuse_style.specs.Styles.{line_comment_of, block_comment_of, punctuation_of}
+use Rattle.reuse_style.proofs.GoodLemmas.{IsLineGood, IsBlockGood, AreGoodMiddle, line_good, block_good}
 use Rattle.reuse_header.specs.Marks.{LineMarks, marks_of}
 use Rattle.reuse_header.specs.Blocks.{without_returns}
 use Rattle.reuse_header.specs.Header.{HeaderSpan, span_in, header_of, neighbour_contents}
@@ -42,6 +42,7 @@ use Rattle.reuse_notice.proofs.NoneLemmas.{none_append}
 use Rattle.reuse_header.proofs.FeedLemmas.{is_feed, Feedless, feedless_holds, HasNoFeed, found_feedless}
 use Rattle.reuse_header.proofs.FeedLemmas.{neighbour_feedless, additions_feedless, new_feedless}
 use Rattle.reuse_header.proofs.AgainLemmas.{each-joined, each-set_off}
+use Rattle.reuse_header.proofs.MarkLemmas.{plain_feedless, plain_ends, lead_plain, all-ended}
 use Rattle.reuse_notice.proofs.BlankLemmas.{drop_end-twice}
 
 -- ---- no CR at an end
@@ -121,73 +122,80 @@ record FitMarks (marks : LineMarks) : Type 0 where
   pub first : Each Fit (option_to_list marks.first)
   pub last : Each Fit (option_to_list marks.last)
 
-single_fit : (style : Style) → MatchOption (marks_of style Single) (Unit {0}) (λ m. FitMarks m)
-unfolding Fit Each drop_end
-single_fit Python = record { lead = (refl, refl); mark = (refl, refl); separator = (refl, refl); first = tt; last = tt }
-single_fit C = record { lead = (refl, refl); mark = (refl, refl); separator = (refl, refl); first = tt; last = tt }
-single_fit Css = tt
-single_fit Html = tt
-single_fit Haskell = record {
-  lead = (refl, refl);
-  mark = (refl, refl);
-  separator = (refl, refl);
-  first = tt;
-  last = tt;
-}
-single_fit Tex = record { lead = (refl, refl); mark = (refl, refl); separator = (refl, refl); first = tt; last = tt }
-single_fit Lisp = record { lead = (refl, refl); mark = (refl, refl); separator = (refl, refl); first = tt; last = tt }
-single_fit Semicolon = record {
-  lead = (refl, refl);
-  mark = (refl, refl);
-  separator = (refl, refl);
-  first = tt;
-  last = tt;
-}
-single_fit Ml = tt
-single_fit Vim = record { lead = (refl, refl); mark = (refl, refl); separator = (refl, refl); first = tt; last = tt }
+plain_fit : (bytes : List ℕ) → list_all is_plain bytes ≡ true → Fit bytes
+unfolding Fit
+plain_fit bytes e = (plain_feedless bytes e, plain_ends bytes e)
 
-multi_fit : (style : Style) → MatchOption (marks_of style Multi) (Unit {0}) (λ m. FitMarks m)
-unfolding Fit Each drop_end
-multi_fit Python = tt
-multi_fit C = record {
-  lead = (refl, refl);
-  mark = (refl, refl);
-  separator = (refl, refl);
-  first = ((refl, refl), tt);
-  last = ((refl, refl), tt);
+-- marks fit whose texts are plain
+record ArePlainMarks (marks : LineMarks) : Type 0 where
+  lead : list_all is_plain marks.lead ≡ true
+  mark : list_all is_plain marks.mark ≡ true
+  first : Each (λ line. list_all is_plain line ≡ true) (option_to_list marks.first)
+  last : Each (λ line. list_all is_plain line ≡ true) (option_to_list marks.last)
+
+plain_marks_fit : (marks : LineMarks) → ArePlainMarks marks → FitMarks marks
+unfolding Each
+plain_marks_fit marks plain = record {
+  lead = plain_fit marks.lead plain.lead;
+  mark = plain_fit marks.mark plain.mark;
+  separator = plain_fit (separator_of marks) (all-ended is_plain is_blank marks.lead plain.lead);
+  first = each_fit (option_to_list marks.first) plain.first;
+  last = each_fit (option_to_list marks.last) plain.last;
 }
-multi_fit Css = record {
-  lead = (refl, refl);
-  mark = (refl, refl);
-  separator = (refl, refl);
-  first = ((refl, refl), tt);
-  last = ((refl, refl), tt);
-}
-multi_fit Html = record {
-  lead = (refl, refl);
-  mark = (refl, refl);
-  separator = (refl, refl);
-  first = ((refl, refl), tt);
-  last = ((refl, refl), tt);
-}
-multi_fit Haskell = tt
-multi_fit Tex = tt
-multi_fit Lisp = tt
-multi_fit Semicolon = tt
-multi_fit Ml = record {
-  lead = (refl, refl);
-  mark = (refl, refl);
-  separator = (refl, refl);
-  first = ((refl, refl), tt);
-  last = ((refl, refl), tt);
-}
-multi_fit Vim = tt
+  where
+    each_fit : (lines : List (List ℕ)) → Each (λ line. list_all is_plain line ≡ true) lines → Each Fit lines
+    each_fit [] h = tt
+    each_fit (line ∷ lines) h = (plain_fit line h.0, each_fit lines h.1)
+
+middle_plain : (middle : Option (List ℕ)) → AreGoodMiddle middle → list_all is_plain (unwrap_or middle []) ≡ true
+middle_plain None good = refl
+middle_plain (Some middle) good = good.0.plain
 
 marks_fit : (style : Style) (form : Form) (marks : LineMarks) → marks_of style form ≡ Some marks → FitMarks marks
-marks_fit style Single marks e =
-    subst (λ (o : Option LineMarks). MatchOption o (Unit {0}) (λ m. FitMarks m)) e (single_fit style)
-marks_fit style Multi marks e =
-    subst (λ (o : Option LineMarks). MatchOption o (Unit {0}) (λ m. FitMarks m)) e (multi_fit style)
+unfolding Each
+marks_fit style Single marks e = by (line_comment_of style) (line_good style) e
+  where
+    by : (o : Option LineForm) → IsLineGood (punctuation_of style) o
+        → option_map (λ (form : LineForm).
+        record { lead = form.lead; mark = form.marker; first = None; last = None; closer = None }) o ≡ Some marks
+        → FitMarks marks
+    by None good f = absurd (let none : ⊥ = cc f in none)
+    by (Some form) good f =
+        let same : ◌≡◌ {A = LineMarks}
+        (record { lead = form.lead; mark = form.marker; first = None; last = None; closer = None }) marks = cc f in
+        subst FitMarks same (plain_marks_fit _ (record {
+          lead = lead_plain style form.marker form.lead good.marker.plain good.lead;
+          mark = good.marker.plain;
+          first = tt;
+          last = tt;
+        }))
+marks_fit style Multi marks e = by (block_comment_of style) (block_good style) e
+  where
+    by : (o : Option BlockForm) → IsBlockGood (punctuation_of style) o
+        → option_map (λ (form : BlockForm). record {
+          lead = form.lead;
+          mark = unwrap_or form.middle [];
+          first = Some form.opener;
+          last = Some form.last_line;
+          closer = Some form.closer;
+        }) o ≡ Some marks
+        → FitMarks marks
+    by None good f = absurd (let none : ⊥ = cc f in none)
+    by (Some form) good f =
+        let same : ◌≡◌ {A = LineMarks} (record {
+          lead = form.lead;
+          mark = unwrap_or form.middle [];
+          first = Some form.opener;
+          last = Some form.last_line;
+          closer = Some form.closer;
+        }) marks = cc f in
+        let middle = middle_plain form.middle good.middle in
+        subst FitMarks same (plain_marks_fit _ (record {
+          lead = lead_plain style (unwrap_or form.middle []) form.lead middle good.lead;
+          mark = middle;
+          first = (good.opener.plain, tt);
+          last = (good.last_line.plain, tt);
+        }))
 
 neighbour_fit : FitMarks neighbour_marks
 unfolding Fit Each drop_end

@@ -6,14 +6,16 @@ use Rattle.std.specs.List.{list_any, list_all, starts_with}
 use Rattle.std.specs.Option.{option_map_or, option_to_list}
 use Rattle.std.proofs.lemmas.Bool.{cases_Bool as truth}
 use Rattle.reuse_notice.specs.Tags.{is_blank, drop_front, drop_end}
-use Rattle.reuse_header.specs.declared.style.Style.{Style}
-use Rattle.reuse_header.specs.declared.style.Form.{Form}
-use Rattle.reuse_header.specs.declared.style.Form.TheVariants.{Single, Multi}
-use Rattle.reuse_header.specs.Search.{is_return, is_indent, place_of}
-use Rattle.reuse_header.specs.Styles.{BlockForm, line_comment_of, block_comment_of}
+use Rattle.reuse_style.specs.declared.style.Style.{Style}
+use Rattle.reuse_style.specs.declared.marks.Form.{Form}
+use Rattle.reuse_style.specs.declared.marks.Form.TheVariants.{Single, Multi}
+use Rattle.reuse_style.specs.Search.{place_of}
+use Rattle.reuse_header.specs.Ends.{is_return, is_indent}
+use Rattle.reuse_style.specs.Marks.{BlockForm}
+use Rattle.reuse_style.specs.Styles.{line_comment_of, block_comment_of}
 use Rattle.reuse_header.specs.Body.{PlacedLines, is_shebang, is_declaration, is_barrier, without_first, body_lines}
 use Rattle.reuse_header.specs.Body.{open_contents}
-use Rattle.reuse_header.specs.Blocks.{without_returns, without_star, between_marks, is_blank_content as is_blank_line}
+use Rattle.reuse_header.specs.Blocks.{without_returns, without_middle, between_marks, is_blank_content as is_blank_line}
 use Rattle.reuse_header.specs.Blocks.{single_content, multi_content, line_content, contents_from}
 use Rattle.reuse_header.proofs.SayableLemmas.{Each, each_both, of_picked}
 
@@ -76,17 +78,19 @@ module _ (P : List ℕ → Type 0) (parts : IsOfParts P) where
 
   -- ---- the contents of a block
 
-  of_star : (content : List ℕ) → P content → P (without_star content)
-  unfolding without_star
-  of_star content p =
+  pub of_middle : (middle : Option (List ℕ)) (content : List ℕ) → P content → P (without_middle middle content)
+  unfolding without_middle
+  of_middle None content p = p
+  of_middle (Some middle) content p =
+      let sign = drop_front is_indent middle in
       let rest = drop_front is_indent content in
-      of_picked P (starts_with nat_eq rest (42 ∷ [])) (drop 1 rest) content
-      (parts.back 1 rest (of_front is_indent content p)) p
+      of_picked P (starts_with nat_eq rest sign) (drop (length sign) rest) content
+      (parts.back (length sign) rest (of_front is_indent content p)) p
 
   of_between : (comment : BlockForm) (is_first is_last : Bool) (content : List ℕ) → P content
       → P (between_marks comment is_first is_last content)
   unfolding between_marks
-  of_between comment is_first is_last content p = star _ (closed is_last _ (opened is_first))
+  of_between comment is_first is_last content p = behind _ (closed is_last _ (opened is_first))
     where
       opened : (first : Bool) → P (if first then drop (length comment.opener) content else content)
       opened first = of_picked P first (drop (length comment.opener) content) content
@@ -98,10 +102,9 @@ module _ (P : List ℕ → Type 0) (parts : IsOfParts P) where
           of_end is_blank _ (parts.front (unwrap_or (place_of comment.closer bytes) (length bytes)) bytes q)
       closed false bytes q = q
 
-      star : (bytes : List ℕ) → P bytes
-          → P (if is_first || not (list_any (λ b. b == 42) comment.middle) then bytes else without_star bytes)
-      star bytes q = of_picked P (is_first || not (list_any (λ b. b == 42) comment.middle)) bytes (without_star bytes) q
-          (of_star bytes q)
+      behind : (bytes : List ℕ) → P bytes → P (if is_first then bytes else without_middle comment.middle bytes)
+      behind bytes q =
+          of_picked P is_first bytes (without_middle comment.middle bytes) q (of_middle comment.middle bytes q)
 
   of_line : (style : Style) (form : Form) (is_first is_last : Bool) (line : List ℕ) → P line
       → Each P (option_to_list (line_content style form is_first is_last line))

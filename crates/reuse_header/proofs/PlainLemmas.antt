@@ -19,10 +19,9 @@ use Rattle.reuse_notice.specs.Adding.{Arguments, is_space, is_control, notice_wr
 use Rattle.reuse_notice.specs.Adding.{additions_of}
 use Rattle.reuse_notice.specs.Plain.{IsPlain, ArePlain}
 use Rattle.reuse_amend.proofs.ShapedLemmas.{BeginsNotice, begins_leaves}
-use Rattle.reuse_header.specs.declared.style.Style.{Style}
-use Rattle.reuse_header.specs.declared.style.Style.TheVariants.{Python, C, Css, Html, Haskell, Tex, Lisp, Semicolon, Ml}
-use Rattle.reuse_header.specs.declared.style.Style.TheVariants.{Vim}
-use Rattle.reuse_header.specs.Styles.{punctuation_of}
+use Rattle.reuse_style.specs.declared.style.Style.{Style}
+use Rattle.reuse_style.proofs.GoodLemmas.{no_punctuation}
+use Rattle.reuse_style.specs.Styles.{punctuation_of}
 use Rattle.reuse_header.specs.Reading.{AreSayable}
 use Rattle.std.proofs.lemmas.Bool.{cases_Bool as truth}
 use Rattle.reuse_header.proofs.SayableLemmas.{IsValue, Each, all_of_each, each_of_all, each_front, end_behind}
@@ -134,16 +133,11 @@ pub record NoFillers (punct : List ℕ) : Type 0 where
 
 -- they are punctuation of no style, nor of neighbours
 pub letters : (style : Style) → NoFillers (punctuation_of style)
-letters Python = record { s = refl; c = refl; sign = refl }
-letters C = record { s = refl; c = refl; sign = refl }
-letters Css = record { s = refl; c = refl; sign = refl }
-letters Html = record { s = refl; c = refl; sign = refl }
-letters Haskell = record { s = refl; c = refl; sign = refl }
-letters Tex = record { s = refl; c = refl; sign = refl }
-letters Lisp = record { s = refl; c = refl; sign = refl }
-letters Semicolon = record { s = refl; c = refl; sign = refl }
-letters Ml = record { s = refl; c = refl; sign = refl }
-letters Vim = record { s = refl; c = refl; sign = refl }
+letters style = record {
+  s = no_punctuation style 83 refl;
+  c = no_punctuation style 67 refl;
+  sign = no_punctuation style 194 refl;
+}
 
 pub no_letters : NoFillers []
 no_letters = record { s = refl; c = refl; sign = refl }

@@ -6,10 +6,10 @@ use Rattle.reuse_notice.specs.declared.infos.Info.{Info}
 use Rattle.reuse_notice.specs.Infos.{info_of}
 use Rattle.reuse_notice.specs.Adding.{Arguments, additions_of}
 use Rattle.reuse_notice.specs.Plain.{ArePlain}
-use Rattle.reuse_header.specs.declared.style.Style.{Style}
+use Rattle.reuse_style.specs.declared.style.Style.{Style}
 use Rattle.reuse_header.specs.declared.annotation.How.{How}
 use Rattle.reuse_header.specs.declared.annotation.HeaderRefusal.{HeaderRefusal}
-use Rattle.reuse_header.specs.Styles.{punctuation_of}
+use Rattle.reuse_style.specs.Styles.{punctuation_of}
 use Rattle.reuse_header.specs.Header.{Header, HeaderSpan, span_in, header_of, neighbour_contents}
 use Rattle.reuse_header.specs.Writing.{block_lines, neighbour_marks}
 use Rattle.reuse_header.specs.Annotation.{Edit, edited, kind_of_file, chosen_form, annotation_of, made_by}

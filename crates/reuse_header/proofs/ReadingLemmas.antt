@@ -19,7 +19,8 @@ use Rattle.reuse_header.specs.Writing.{contributor_text, licence_text, joined, s
 use Rattle.reuse_header.specs.Writing.{licence_lines, free_lines, inner_lines}
 use Rattle.reuse_header.specs.Reading.{IsSayable}
 use Rattle.std.proofs.lemmas.Bool.{cases_Bool as truth}
-use Rattle.reuse_header.proofs.ContentsLemmas.{IsReader, tag_of-led, tag_of-returns}
+use Rattle.reuse_header.proofs.MarkLemmas.{IsReader}
+use Rattle.reuse_header.proofs.ContentsLemmas.{tag_of-led, tag_of-returns}
 
 -- ---- what the contents say
 

@@ -17,11 +17,11 @@ use Rattle.reuse_notice.specs.Contents.{notice_text, contributor_value, licence_
 use Rattle.reuse_notice.specs.Sets.{byte_order, with_text, set_of, IsSorted}
 use Rattle.reuse_notice.specs.Infos.{info_of, union_of}
 use Rattle.reuse_text.specs.Text.{file_lines}
-use Rattle.reuse_header.specs.declared.style.Style.{Style}
-use Rattle.reuse_header.specs.declared.style.Form.{Form}
-use Rattle.reuse_header.specs.declared.style.Form.TheVariants.{Single, Multi}
-use Rattle.reuse_header.specs.Search.{is_return}
-use Rattle.reuse_header.specs.Styles.{block_comment_of}
+use Rattle.reuse_style.specs.declared.style.Style.{Style}
+use Rattle.reuse_style.specs.declared.marks.Form.{Form}
+use Rattle.reuse_style.specs.declared.marks.Form.TheVariants.{Single, Multi}
+use Rattle.reuse_header.specs.Ends.{is_return}
+use Rattle.reuse_style.specs.Styles.{block_comment_of}
 use Rattle.reuse_header.specs.Body.{body_lines, open_contents}
 use Rattle.reuse_header.specs.Blocks.{without_returns, is_blank_content as is_blank_line, between_marks, single_content}
 use Rattle.reuse_header.specs.Blocks.{multi_content, line_content, contents_from, contents_of}

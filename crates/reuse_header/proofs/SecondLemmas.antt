@@ -9,9 +9,9 @@ use Rattle.reuse_notice.specs.Infos.{info_of, says_the_same}
 use Rattle.reuse_amend.specs.Amending.{amended}
 use Rattle.reuse_amend.specs.Settled.{BringNothingBack, WritePlainTexts, HasFourDigits}
 use Rattle.reuse_amend.proofs.UnnamedLemmas.{is_same}
-use Rattle.reuse_header.specs.declared.style.Style.{Style}
+use Rattle.reuse_style.specs.declared.style.Style.{Style}
 use Rattle.reuse_header.specs.declared.amendment.AmendHeaderRefusal.{AmendHeaderRefusal}
-use Rattle.reuse_header.specs.Styles.{punctuation_of}
+use Rattle.reuse_style.specs.Styles.{punctuation_of}
 use Rattle.reuse_header.specs.Header.{Header, HeaderSpan, span_in, header_of, neighbour_contents}
 use Rattle.reuse_header.specs.Blocks.{without_returns}
 use Rattle.reuse_header.specs.Writing.{block_text, block_lines, neighbour_marks, ended_by}

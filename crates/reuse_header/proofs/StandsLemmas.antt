@@ -8,8 +8,8 @@ use Rattle.std.proofs.Math.Seq.{drop-append_seam}
 use Rattle.std.proofs.lemmas.Bool.{and_parts, eqb-true, eq-eqb, false≢true}
 use Rattle.std.proofs.lemmas.List.Elements.{All-nil, All-cons, All-head, All-tail}
 use Rattle.reuse_notice.specs.Tags.{all_blank}
-use Rattle.reuse_header.specs.Styles.{BlockForm}
-use Rattle.reuse_header.specs.Search.{place_of}
+use Rattle.reuse_style.specs.Marks.{BlockForm}
+use Rattle.reuse_style.specs.Search.{place_of}
 use Rattle.reuse_header.specs.Blocks.{ends_block, count_from, count_to_closer, multi_count}
 use Rattle.reuse_header.specs.Laws.{StandsAt, StandsNowhere, IsFirstPlace, IsEndedBy, IsEnclosed}
 use Rattle.std.proofs.lemmas.Bool.{cases_Bool as truth}

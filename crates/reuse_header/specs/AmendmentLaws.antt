@@ -5,8 +5,8 @@ use Rattle.reuse_amend.specs.declared.amendments.Amendments.{Amendments}
 use Rattle.reuse_notice.specs.Infos.{info_of, says_the_same, says_nothing}
 use Rattle.reuse_amend.specs.Amending.{amended}
 use Rattle.reuse_amend.specs.Settled.{ReadsAsAmended}
-use Rattle.reuse_header.specs.declared.style.Style.{Style}
-use Rattle.reuse_header.specs.Styles.{punctuation_of}
+use Rattle.reuse_style.specs.declared.style.Style.{Style}
+use Rattle.reuse_style.specs.Styles.{punctuation_of}
 use Rattle.reuse_header.specs.Marks.{LineMarks}
 use Rattle.reuse_header.specs.Header.{HeaderSpan, neighbour_contents}
 use Rattle.reuse_header.specs.Writing.{block_text, neighbour_marks}

@@ -8,14 +8,14 @@ use Rattle.reuse_text.specs.declared.LineKind.{LineKind}
 use Rattle.reuse_text.specs.Text.{ending_bytes, kind_of, lines_of, after_mark, file_lines, spliced, is_empty}
 use Rattle.reuse_notice.specs.declared.infos.Info.{Info}
 use Rattle.reuse_notice.specs.declared.adding.Additions.{Additions}
-use Rattle.reuse_header.specs.declared.style.Style.{Style}
-use Rattle.reuse_header.specs.declared.style.Form.{Form}
-use Rattle.reuse_header.specs.declared.style.Form.TheVariants.{Single, Multi}
+use Rattle.reuse_style.specs.declared.style.Style.{Style}
+use Rattle.reuse_style.specs.declared.marks.Form.{Form}
+use Rattle.reuse_style.specs.declared.marks.Form.TheVariants.{Single, Multi}
 use Rattle.reuse_header.specs.declared.annotation.How.{How}
 use Rattle.reuse_header.specs.declared.annotation.HeaderRefusal.{HeaderRefusal}
 use Rattle.reuse_header.specs.declared.annotation.HeaderRefusal.TheVariants.{NoSuchForm, HoldsCloser, TooLong}
 use Rattle.reuse_header.specs.declared.annotation.HeaderRefusal.TheVariants.{Unsettled}
-use Rattle.reuse_header.specs.Styles.{line_comment_of, punctuation_of}
+use Rattle.reuse_style.specs.Styles.{line_comment_of, punctuation_of}
 use Rattle.reuse_header.specs.Marks.{LineMarks, marks_of}
 use Rattle.reuse_header.specs.Body.{PlacedLines, is_shebang, is_declaration, without_first, body_lines, place_in}
 use Rattle.reuse_header.specs.Header.{HeaderSpan, span_in, header_of}

@@ -5,13 +5,14 @@ use Rattle.reuse_text.specs.declared.LineKind.{LineKind}
 use Rattle.reuse_notice.specs.declared.infos.Info.{Info}
 use Rattle.reuse_notice.specs.Keeping.{IsKeptBy}
 use Rattle.reuse_notice.specs.Tags.{all_blank}
-use Rattle.reuse_header.specs.declared.style.Style.{Style}
-use Rattle.reuse_header.specs.declared.style.Form.{Form}
+use Rattle.reuse_style.specs.declared.style.Style.{Style}
+use Rattle.reuse_style.specs.declared.marks.Form.{Form}
 use Rattle.reuse_header.specs.Marks.{LineMarks, marks_of}
 use Rattle.reuse_notice.specs.Infos.{info_of}
 use Rattle.std.specs.Option.{option_map}
 use Rattle.reuse_text.specs.Text.{TextLine, IsLine, file_lines, mark_len_of, ends_in_return}
-use Rattle.reuse_header.specs.Styles.{BlockForm, punctuation_of}
+use Rattle.reuse_style.specs.Marks.{BlockForm}
+use Rattle.reuse_style.specs.Styles.{punctuation_of}
 use Rattle.reuse_header.specs.Body.{PlacedLines, is_barrier}
 use Rattle.reuse_header.specs.Blocks.{without_returns}
 use Rattle.reuse_header.specs.Split.{bytes_of}

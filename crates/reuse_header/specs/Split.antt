@@ -6,8 +6,8 @@ use Rattle.std.specs.List.{list_any}
 use Rattle.reuse_text.specs.Text.{line_bytes, file_lines}
 use Rattle.reuse_header.specs.Tagged.{has_tag}
 use Rattle.reuse_header.specs.declared.blocks.BlockSize.{BlockSize}
-use Rattle.reuse_header.specs.declared.style.Style.{Style}
-use Rattle.reuse_header.specs.Styles.{punctuation_of}
+use Rattle.reuse_style.specs.declared.style.Style.{Style}
+use Rattle.reuse_style.specs.Styles.{punctuation_of}
 use Rattle.reuse_header.specs.Body.{PlacedLines, body_lines, open_contents}
 use Rattle.reuse_header.specs.Blocks.{block_at, contents_of}
 use Rattle.reuse_header.specs.Header.{Header, HeaderSpan, lines_inside}

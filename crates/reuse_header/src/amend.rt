@@ -17,10 +17,10 @@ use crate::annotation::{HeaderRefusal, Splice};
 use crate::blocks::Contents;
 use crate::finder::{Block, find};
 use crate::neighbour::{is_text_file, replaced_contents, write_neighbour};
-use crate::style::Style;
 use crate::writer::marks_of;
 use reuse_amend::{AmendRefusal, Amendments, amend_info};
 use reuse_notice::Info;
+use reuse_style::Style;
 use reuse_text::LONGEST_FILE;
 use std::alloc::{AllocError, Global};
 
@@ -36,11 +36,11 @@ use std::alloc::{AllocError, Global};
 pub fn amend_file(
     alloc: Global,
     file: &[u8],
-    style: Style,
+    style: &Style<'_>,
     amendments: &Amendments,
 ) -> Result<Option<Splice>, AmendHeaderRefusal>
     requires { length file.now ≤ LONGEST_FILE }
-    ensures { IsExpectedAmendment (amendment_answer file.now (amendment_of style amendments.now file.now)) result }
+    ensures { IsExpectedAmendment (amendment_answer file.now (amendment_of style.now amendments.now file.now)) result }
 {
     match find(file, style).block {
         None => Ok(None),
@@ -52,14 +52,14 @@ pub fn amend_file(
 fn amend_block(
     alloc: Global,
     file: &[u8],
-    style: Style,
+    style: &Style<'_>,
     block: Block,
     amendments: &Amendments,
 ) -> Result<Option<Splice>, AmendHeaderRefusal>
     requires within { IsWithin file.now (Some (block_view block)) }
     requires short { length file.now ≤ LONGEST_FILE }
-    ensures { IsExpectedAmendment
-        (amendment_answer file.now (block_amendment style amendments.now file.now (block_view block.entry))) result }
+    ensures { IsExpectedAmendment (amendment_answer file.now
+        (block_amendment style.now amendments.now file.now (block_view block.entry))) result }
 {
     let info = read_block(alloc, block.contents, style.punctuation())?;
     match amend_information(alloc, &info, amendments) {
@@ -80,14 +80,14 @@ fn read_block(alloc: Global, contents: Contents, punct: &[u8]) -> Result<Info, A
 fn write_new(
     alloc: Global,
     file: &[u8],
-    style: Style,
+    style: &Style<'_>,
     block: Block,
     new: Option<Info>,
 ) -> Result<Option<Splice>, AmendHeaderRefusal>
     requires within { IsWithin file.now (Some (block_view block)) }
     requires short { length file.now ≤ LONGEST_FILE }
-    ensures { IsExpectedAmendment (amendment_answer file.now (written_if (λ info. written_by style file.now
-        (Some (block_view block.entry)) info (marks_of style block.entry.form)) (Ok new))) result }
+    ensures { IsExpectedAmendment (amendment_answer file.now (written_if (λ info. written_by style.now file.now
+        (Some (block_view block.entry)) info (marks_of style.now block.entry.form)) (Ok new))) result }
 {
     match new {
         None => Ok(None),
@@ -99,14 +99,14 @@ fn write_new(
 fn write_amended(
     alloc: Global,
     file: &[u8],
-    style: Style,
+    style: &Style<'_>,
     block: Block,
     info: &Info,
 ) -> Result<Option<Splice>, AmendHeaderRefusal>
     requires within { IsWithin file.now (Some (block_view block)) }
     requires short { length file.now ≤ LONGEST_FILE }
-    ensures { IsExpectedAmendment (amendment_answer file.now (as_amendment (written_by style file.now
-        (Some (block_view block.entry)) info.now (marks_of style block.entry.form)))) result }
+    ensures { IsExpectedAmendment (amendment_answer file.now (as_amendment (written_by style.now file.now
+        (Some (block_view block.entry)) info.now (marks_of style.now block.entry.form)))) result }
 {
     let Some(marks) = marks_of(style, block.form) else {
         return Err(AmendHeaderRefusal::Header(HeaderRefusal::NoSuchForm));

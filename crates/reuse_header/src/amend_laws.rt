@@ -9,9 +9,9 @@ ghost use Rattle.reuse_amend.specs.Settled.{BringNothingBack, WritePlainTexts, W
 ghost use Rattle.reuse_text.specs.Text.{mark_len_of};
 ghost use Rattle.reuse_text.specs.declared.TheConstants.{LONGEST_FILE};
 ghost use Rattle.reuse_text.specs.declared.LineKind.{LineKind};
-ghost use Rattle.reuse_header.specs.declared.style.Style.{Style};
-ghost use Rattle.reuse_header.specs.declared.style.Form.{Form};
-ghost use Rattle.reuse_header.specs.Styles.{punctuation_of};
+ghost use Rattle.reuse_style.specs.declared.style.Style.{Style};
+ghost use Rattle.reuse_style.specs.declared.marks.Form.{Form};
+ghost use Rattle.reuse_style.specs.Styles.{punctuation_of};
 ghost use Rattle.reuse_header.specs.Marks.{LineMarks, marks_of};
 ghost use Rattle.reuse_header.specs.Header.{HeaderSpan, span_in, header_of, neighbour_contents};
 ghost use Rattle.reuse_header.specs.Writing.{block_lines, neighbour_marks};

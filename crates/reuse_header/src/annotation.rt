@@ -1,5 +1,5 @@
 //! How licensing information is added to a file, and what comes of it.
-use crate::style::Form;
+use reuse_style::Form;
 use reuse_text::Bytes;
 use std::alloc::AllocError;
 use thiserror::Error;

@@ -1,20 +1,20 @@
 //! Whether a line of a new block would end it.
 ghost use Rattle.std.specs.Prelude.{◌≡◌, ◌++◌, map, IfOk, not, ◌&&◌, ◌||◌};
 ghost use Rattle.std.specs.List.{list_any};
-ghost use Rattle.reuse_header.specs.Search.{holds};
+ghost use Rattle.reuse_style.specs.Search.{holds};
 ghost use Rattle.reuse_header.specs.MarkViews.{marks_view};
 ghost use Rattle.reuse_header.specs.Writing.{holds_closer, inner_lines, no_lines};
 
-use crate::search::holds;
 use crate::writer::{Marks, is_joined};
 use reuse_notice::{Info, trim_blank_end};
+use reuse_style::holds;
 use reuse_text::Bytes;
 use std::alloc::{AllocError, Global};
 
 // Whether a line between the first and the last of a new block holds the closer.
 #[tactic(auto, unfolding(crate::specs::Writing::holds_closer))]
-pub(crate) fn holds_closer(alloc: Global, marks: Marks, info: &Info) -> Result<bool, AllocError>
-    ensures { IfOk result (λ answer. answer ≡ holds_closer (marks_view marks) info.now) }
+pub(crate) fn holds_closer(alloc: Global, marks: Marks<'_>, info: &Info) -> Result<bool, AllocError>
+    ensures { IfOk result (λ answer. answer ≡ holds_closer (marks_view marks.entry) info.now) }
 {
     match marks.closer {
         None => Ok(false),
@@ -23,8 +23,14 @@ pub(crate) fn holds_closer(alloc: Global, marks: Marks, info: &Info) -> Result<b
 }
 
 // Whether a line between the first and the last of a new block holds a text.
-fn any_line_holds(alloc: Global, text: &[u8], marks: Marks, info: &Info) -> Result<bool, AllocError>
-    ensures { IfOk result (λ answer. answer ≡ list_any (holds text.now) (inner_lines (marks_view marks) info.now)) }
+fn any_line_holds(
+    alloc: Global,
+    text: &[u8],
+    marks: Marks<'_>,
+    info: &Info,
+) -> Result<bool, AllocError>
+    ensures { IfOk result
+        (λ answer. answer ≡ list_any (holds text.now) (inner_lines (marks_view marks.entry) info.now)) }
 {
     let separator = has_separator(info) & holds(trim_blank_end(marks.lead), text);
     let notices = line_holds(alloc, text, marks.lead, b"", info.notices())?;

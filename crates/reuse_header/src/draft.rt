@@ -39,12 +39,12 @@ pub(crate) fn make_draft(
     file: &[u8],
     place: Place,
     kind: LineKind,
-    marks: Marks,
+    marks: Marks<'_>,
     info: &Info,
 ) -> Result<Draft, HeaderRefusal>
     requires within { place.start + place.old_len ≤ length file.now }
     requires short { length file.now ≤ LONGEST_FILE }
-    ensures { Drafts file.now (edit_at place kind (block_text (marks_view marks) kind info.now)) result }
+    ensures { Drafts file.now (edit_at place kind (block_text (marks_view marks.entry) kind info.now)) result }
 {
     let room = LONGEST_FILE - (file.len() - place.old_len);
     let mut writer = LineWriter::new(alloc, Format { kind, room });

@@ -1,11 +1,11 @@
 //! Laws of the definitions that the contracts cite.
 ghost use Rattle.std.specs.Prelude.{◌≡◌, ◌≤◌, ◌+◌, ◌⊎◌, ◌↔◌, ◌++◌, ℕ, List, Option, None, Some, Ok, true, false};
 ghost use Rattle.std.specs.Prelude.{length, take, drop, map, [], ◌==◌, All};
-ghost use Rattle.reuse_header.specs.declared.style.Style.{Style};
+ghost use Rattle.reuse_style.specs.declared.style.Style.{Style};
 ghost use Rattle.reuse_header.specs.declared.blocks.BlockSize.{BlockSize};
 ghost use Rattle.reuse_header.specs.Body.{PlacedLines, body_lines, place_in};
 ghost use Rattle.std.specs.Option.{option_map};
-ghost use Rattle.reuse_header.specs.Search.{place_of};
+ghost use Rattle.reuse_style.specs.Search.{place_of};
 ghost use Rattle.reuse_header.specs.Header.{Header, HeaderSpan, header_in, header_of, span_in, neighbour_contents};
 ghost use Rattle.reuse_notice.specs.declared.adding.Additions.{Additions};
 ghost use Rattle.reuse_header.specs.declared.annotation.How.{How};
@@ -19,8 +19,9 @@ ghost use Rattle.reuse_notice.specs.Tags.{is_filler};
 ghost use Rattle.reuse_notice.specs.Adding.{Arguments, additions_of};
 ghost use Rattle.reuse_notice.specs.Plain.{ArePlain, AreUtf8};
 ghost use Rattle.reuse_header.specs.Blocks.{contents_of, count_to_closer, multi_count, without_returns};
-ghost use Rattle.reuse_header.specs.Styles.{BlockForm, punctuation_of};
-ghost use Rattle.reuse_header.specs.declared.style.Form.{Form};
+ghost use Rattle.reuse_style.specs.Marks.{BlockForm};
+ghost use Rattle.reuse_style.specs.Styles.{punctuation_of};
+ghost use Rattle.reuse_style.specs.declared.marks.Form.{Form};
 ghost use Rattle.reuse_notice.specs.declared.infos.Info.{Info};
 ghost use Rattle.reuse_notice.specs.Infos.{info_of, union_of, merged_of};
 ghost use Rattle.reuse_text.specs.declared.LineKind.{LineKind};
@@ -31,12 +32,6 @@ ghost use Rattle.reuse_header.specs.Laws.{information_in, info_written, neighbou
 ghost use Rattle.reuse_header.specs.LowerLaws.{Known, Laws};
 ghost use Rattle.reuse_header.specs.Splices.{answer_of};
 ghost use Rattle.reuse_header.specs.Split.{AreCommentBlocks, comment_blocks, IsSplit, IsHeaderBlock, HasNoHeader};
-ghost use Rattle.std.specs.List.{after_last};
-ghost use Rattle.std.specs.Str.{str_eq_ignore_ascii_case};
-ghost use Rattle.reuse_header.specs.declared.style.Kind.{Kind};
-ghost use Rattle.toml.specs.Data.{Members};
-ghost use Rattle.reuse_header.specs.Names.{slash, dot, from_last, kind_of_name, kind_in, lookup};
-ghost use Rattle.reuse_header.specs.StyleFile.{NamedText, texts_of_document, document_of, own_names};
 
 use reuse_notice::{
     holders_are_values, longest_prefix_counts, merged_notices_are_written, merging_keeps_holders,
@@ -294,25 +289,3 @@ pub fn annotating_again_changes_nothing()
     lower_laws();
     annotated_texts_are_texts();
 }
-
-/// Own names stand before the table's: the whole of a path's last part is looked for first. A path
-/// neither of whose parts is an own name has the table's kind, as each has where there are no own
-/// names. Letters of either case are the same.
-pub fn own_names_stand_first()
-    ensures none { (path : List ℕ) → kind_in (lookup []) path ≡ kind_of_name path }
-    ensures empty { own_names (Some []) ≡ Ok (lookup []) }
-    ensures others { (own : List ℕ → Option Kind) (path : List ℕ)
-        → let part = after_last (λ b. b == slash) path in
-        own part ≡ None → own (from_last (λ b. b == dot) part) ≡ None → kind_in own path ≡ kind_of_name path }
-    ensures whole { (own : List ℕ → Option Kind) (path : List ℕ) (kind : Kind)
-        → own (after_last (λ b. b == slash) path) ≡ Some kind → kind_in own path ≡ kind }
-    ensures cases { (own : List (List ℕ × Kind)) (name other : List ℕ) → str_eq_ignore_ascii_case name other ≡ true
-        → lookup own name ≡ lookup own other }
-{}
-
-/// The names and texts of a document of styles are those that it states: it has the keys `styles`
-/// and `version` alone, the one a table of these texts, and the other the number 1.
-pub fn style_documents_are_stated()
-    ensures { (document : Members) (texts : List NamedText)
-        → (texts_of_document document ≡ Some texts) ↔ (document ≡ document_of texts) }
-{}

@@ -9,11 +9,11 @@ ghost use Rattle.reuse_header.specs.Annotation.{first_if, prefix_lines, has_line
 ghost use Rattle.reuse_header.specs.Annotation.{kind_of_file, edit_of};
 ghost use Rattle.reuse_header.specs.Neighbour.{closed_lines, neighbour_end, neighbour_edit};
 ghost use Rattle.reuse_header.specs.Drafts.{IsWithin, edit_at};
-ghost use Rattle.reuse_header.specs.declared.style.Style.{Style};
+ghost use Rattle.reuse_style.specs.declared.style.Style.{Style};
 
 use crate::body::{after_shebang, body_of, is_barrier, is_declaration, is_shebang, place_in};
 use crate::finder::Block;
-use crate::style::Style;
+use reuse_style::Style;
 use reuse_text::{Line, Lines, lines_are_one, mark_len};
 
 // The range of a file that a block's text takes, and the endings round the text: one that ends the
@@ -52,10 +52,10 @@ impl Place {
 
 // The place of the old block, if that is replaced, else behind the prefix lines.
 #[tactic(auto, unfolding(crate::specs::Annotation::edit_of))]
-pub(crate) fn file_place(file: &[u8], style: Style, old: Option<Block>) -> Place
+pub(crate) fn file_place(file: &[u8], style: &Style<'_>, old: Option<Block>) -> Place
     requires { IsWithin file.now (option_map block_view old) }
-    ensures edit { (text : List ℕ)
-        → edit_at result (kind_of_file file.now) text ≡ edit_of style file.now (option_map block_view old.entry) text }
+    ensures edit { (text : List ℕ) → edit_at result (kind_of_file file.now) text ≡ edit_of style.now file.now
+        (option_map block_view old.entry) text }
     ensures within { result.start + result.old_len ≤ length file.now }
 {
     match old {
@@ -66,8 +66,9 @@ pub(crate) fn file_place(file: &[u8], style: Style, old: Option<Block>) -> Place
 
 // The place behind the prefix lines.
 #[tactic(auto, unfolding(crate::specs::Annotation::edit_of))]
-fn place_behind_prefix(file: &[u8], style: Style) -> Place
-    ensures edit { (text : List ℕ) → edit_at result (kind_of_file file.now) text ≡ edit_of style file.now None text }
+fn place_behind_prefix(file: &[u8], style: &Style<'_>) -> Place
+    ensures edit { (text : List ℕ)
+        → edit_at result (kind_of_file file.now) text ≡ edit_of style.now file.now None text }
     ensures within { result.start + result.old_len ≤ length file.now }
 {
     places_fit();
@@ -94,10 +95,10 @@ fn is_ended(line: Option<Line>) -> bool
 
 // The last of the prefix lines.
 #[tactic(auto, unfolding(crate::specs::Annotation::prefix_lines))]
-fn last_prefix_line<'a>(lines: Lines<'a>, style: Style) -> Option<Line<'a>>
-    ensures some { is_some result ≡ has_lines (prefix_lines style (lines_left lines.entry)) }
+fn last_prefix_line<'a>(lines: Lines<'a>, style: &Style<'_>) -> Option<Line<'a>>
+    ensures some { is_some result ≡ has_lines (prefix_lines style.now (lines_left lines.entry)) }
     ensures ended { option_map_or (λ line. is_some line.ending) result true ≡ is_last_ended
-        (prefix_lines style (lines_left lines.entry)) }
+        (prefix_lines style.now (lines_left lines.entry)) }
 {
     match declaration_line(after_shebang(lines), style) {
         None => shebang_line(lines),
@@ -117,8 +118,9 @@ fn shebang_line<'a>(lines: Lines<'a>) -> Option<Line<'a>>
 }
 
 // The first line, if it has to stay in front in the style.
-fn declaration_line<'a>(lines: Lines<'a>, style: Style) -> Option<Line<'a>>
-    ensures { option_to_list (option_map line_view result) ≡ first_if (is_declaration style) (lines_left lines.entry) }
+fn declaration_line<'a>(lines: Lines<'a>, style: &Style<'_>) -> Option<Line<'a>>
+    ensures { option_to_list (option_map line_view result) ≡ first_if (is_declaration style.now)
+        (lines_left lines.entry) }
 {
     let mut rest = lines;
     match rest.next() {

@@ -10,9 +10,9 @@ use Rattle.reuse_notice.proofs.SetLemmas.{In-from_contains, Contains-from_in}
 use Rattle.reuse_toml.specs.declared.toml_change.TomlSplice.{TomlSplice}
 use Rattle.reuse_toml.specs.declared.toml_values.AmendTomlRefusal.{AmendTomlRefusal}
 use Rattle.reuse_toml.specs.TomlAmending.{toml_amendment_of}
-use Rattle.reuse_header.specs.declared.style.Style.{Style}
+use Rattle.reuse_style.specs.declared.style.Style.{Style}
 use Rattle.reuse_header.specs.Amendment.{amended_file, amendment_of, neighbour_amendment_of}
-use Rattle.reuse_header.specs.Names.{kind_in}
+use Rattle.reuse_style.specs.Names.{kind_in}
 use Rattle.reuse_header.specs.Neighbour.{is_text}
 use Rattle.reuse_change.specs.Listing.{is_folder}
 use Rattle.reuse_plan.specs.Accepted.{CanNeighbourBeAmended, CanFileBeAmended, CanBeAmended, CanAmend, FitsEntry}

@@ -9,12 +9,12 @@ use Rattle.reuse_text.specs.declared.TheConstants.{LONGEST_FILE}
 use Rattle.reuse_notice.specs.declared.adding.Additions.{Additions}
 use Rattle.reuse_header.specs.Annotation as header
 use Rattle.reuse_header.specs.Header.{header_of}
-use Rattle.reuse_header.specs.Names.{kind_in}
+use Rattle.reuse_style.specs.Names.{kind_in}
 use Rattle.reuse_header.specs.Neighbour.{is_text, neighbour_annotated, neighbour_annotation_of}
 use Rattle.reuse_header.specs.declared.annotation.How.{How}
-use Rattle.reuse_header.specs.declared.style.Kind.{Kind}
-use Rattle.reuse_header.specs.declared.style.Kind.TheVariants as kind
-use Rattle.reuse_header.specs.declared.style.Style.{Style}
+use Rattle.reuse_style.specs.declared.style.Kind.{Kind}
+use Rattle.reuse_style.specs.declared.style.Kind.TheVariants as kind
+use Rattle.reuse_style.specs.declared.style.Style.{Style}
 use Rattle.reuse_change.specs.Files.{Files, Clashes}
 use Rattle.reuse_plan.specs.Accepted.{IsUnread, HasRoomForNeighbour, RulesAccept, CanBeAnnotated}
 use Rattle.reuse_plan.specs.Annotate.{neighbour_of, neighbour_is_tagged, goes_to_neighbour, target_of}

@@ -9,7 +9,7 @@ use Rattle.reuse_header.specs.declared.amendment.AmendHeaderRefusal.TheVariants.
 use Rattle.reuse_header.specs.declared.annotation.HeaderRefusal.TheVariants.{NotText, NoSuchForm, HoldsCloser, TooLong}
 use Rattle.reuse_header.specs.declared.annotation.HeaderRefusal.TheVariants.{Unsettled, Memory}
 use Rattle.reuse_header.specs.declared.annotation.Splice.{Splice}
-use Rattle.reuse_header.specs.declared.style.Style.{Style}
+use Rattle.reuse_style.specs.declared.style.Style.{Style}
 use Rattle.reuse_header.specs.Amendment.{amendment_of, neighbour_amendment_of, amendment_answer, IsExpectedAmendment}
 use Rattle.reuse_header.specs.Annotation as header
 use Rattle.reuse_header.specs.Neighbour.{is_text}

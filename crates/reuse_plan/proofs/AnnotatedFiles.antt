@@ -4,10 +4,10 @@ use Rattle.std.proofs.Common.{Option, Some, None, is_some, Result, Ok, refl, sym
 use Rattle.std.proofs.Common.{take, drop, Err, ap, arith, length-append, is_none, unwrap_or, bytes_eq, option_map}
 use Rattle.reuse_command.specs.Reading.{get, Files}
 use Rattle.std.proofs.lemmas.Bool.{false≢true, or_cases, or_parts, and_parts, not-false}
-use Rattle.reuse_header.specs.declared.style.Style.{Style}
-use Rattle.reuse_header.specs.declared.style.Kind.{Kind}
-use Rattle.reuse_header.specs.declared.style.Kind.TheVariants as kind
-use Rattle.reuse_header.specs.Names.{kind_in}
+use Rattle.reuse_style.specs.declared.style.Style.{Style}
+use Rattle.reuse_style.specs.declared.style.Kind.{Kind}
+use Rattle.reuse_style.specs.declared.style.Kind.TheVariants as kind
+use Rattle.reuse_style.specs.Names.{kind_in}
 use Rattle.reuse_header.specs.Neighbour.{is_text, neighbour_annotation_of, neighbour_end}
 use Rattle.reuse_text.specs.declared.TheConstants.{LONGEST_FILE}
 use Rattle.reuse_plan.specs.Accepted.{IsUnread}

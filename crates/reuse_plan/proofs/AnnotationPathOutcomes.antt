@@ -37,7 +37,7 @@ use Rattle.reuse_plan.proofs.Results.{err_or, same_Ok}
 use Rattle.reuse_plan.specs.PathEdits.{or_first, refused_alone}
 use Rattle.std.proofs.lemmas.List.Elements.{Contains-append_cases, Contains-append_left}
 use Rattle.std.proofs.lemmas.Option.{same_Some, none-some}
-use Rattle.reuse_header.specs.declared.style.Style.{Style}
+use Rattle.reuse_style.specs.declared.style.Style.{Style}
 use Rattle.reuse_header.specs.Header.{header_of}
 use Rattle.reuse_text.specs.declared.TheConstants.{LONGEST_FILE}
 use Rattle.reuse_command.specs.Covered.{is_covered}

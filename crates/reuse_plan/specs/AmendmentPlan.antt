@@ -3,9 +3,9 @@ use Rattle.std.specs.Prelude.{ℕ, ◌+◌, ◌≤◌, List, length, Option, Som
 use Rattle.reuse_toml.specs.declared.toml_change.TomlSplice.{TomlSplice}
 use Rattle.reuse_toml.specs.declared.toml_values.AmendTomlRefusal.{AmendTomlRefusal}
 use Rattle.reuse_header.specs.Annotation as header
-use Rattle.reuse_header.specs.Names.{lookup}
+use Rattle.reuse_style.specs.Names.{lookup}
 use Rattle.reuse_header.specs.declared.amendment.AmendHeaderRefusal.{AmendHeaderRefusal}
-use Rattle.reuse_header.specs.declared.style.Style.{Style}
+use Rattle.reuse_style.specs.declared.style.Style.{Style}
 use Rattle.reuse_text.specs.declared.TheConstants.{LONGEST_FILE}
 use Rattle.reuse_change.specs.Files.{Files}
 use Rattle.reuse_plan.specs.Amend.{amended_at, amend_inside, amend_neighbour, amend_table, style_for}

@@ -2,8 +2,8 @@
 use Rattle.std.specs.Prelude.{ℕ, ◌&&◌, List, Option, is_some, Result}
 use Rattle.std.specs.FinMap.{get}
 use Rattle.reuse_header.specs.Header.{header_of}
-use Rattle.reuse_header.specs.Names.{lookup}
-use Rattle.reuse_header.specs.declared.style.Style.{Style}
+use Rattle.reuse_style.specs.Names.{lookup}
+use Rattle.reuse_style.specs.declared.style.Style.{Style}
 use Rattle.reuse_change.specs.Files.{Files}
 use Rattle.reuse_plan.specs.Annotate.{neighbour_of, annotated_at, edit_of_neighbour, edit_inside, edit_neighbour}
 use Rattle.reuse_plan.specs.Annotate.{edit_target, target_by_bytes}

@@ -1,10 +1,10 @@
 -- The kinds that a tree gives to its own names, by its `.reuse/styles.toml` (this project's own).
 use Rattle.std.specs.Prelude.{ℕ, List, length, codes, nat_lt, Option, Some, None, Result, Ok, Err, if◌then◌else◌}
 use Rattle.std.specs.FinMap.{get}
-use Rattle.reuse_header.specs.StyleFile.{styles_of}
-use Rattle.reuse_header.specs.declared.style.Kind.{Kind}
-use Rattle.reuse_header.specs.declared.style_refusal.StylesRefusal.{StylesRefusal}
-use Rattle.reuse_header.specs.declared.style_refusal.StylesRefusal.TheVariants as styles
+use Rattle.reuse_style.specs.StyleFile.{styles_of}
+use Rattle.reuse_style.specs.declared.style.Kind.{Kind}
+use Rattle.reuse_style.specs.declared.style_refusal.StylesRefusal.{StylesRefusal}
+use Rattle.reuse_style.specs.declared.style_refusal.StylesRefusal.TheVariants as styles
 use Rattle.reuse_change.specs.Files.{Files}
 use Rattle.reuse_text.specs.declared.TheConstants.{LONGEST_FILE}
 use Rattle.reuse_command.specs.declared.reply.Refusal.{Refusal}

@@ -48,7 +48,7 @@ pub(crate) fn plan_amended<S: Store>(
         return plan_in_neighbour(alloc, store, path, asked);
     }
     match style_of(path, asked) {
-        Some(style) => plan_inside(alloc, store, path, style, asked),
+        Some(style) => plan_inside(alloc, store, path, &style, asked),
         None => Ok(None),
     }
 }
@@ -85,17 +85,17 @@ fn plan_table_text(
 }
 
 // The style of a file: the one that is asked for, else that of its name.
-fn style_of(path: &PathText, asked: &Amendment<'_>) -> Option<Style>
+fn style_of<'a>(path: &PathText, asked: &Amendment<'a>) -> Option<Style<'a>>
     ensures { result ≡ style_by asked.now path.now }
 {
-    match asked.scope.style {
-        Some(style) => Some(style),
+    match &asked.scope.style {
+        Some(style) => Some(style.lent()),
         None => style_of_kind(asked.styles.style_of(path.text())),
     }
 }
 
-fn style_of_kind(kind: Kind) -> Option<Style>
-    ensures { result ≡ style_of_kind kind }
+fn style_of_kind(kind: Kind<'_>) -> Option<Style<'_>>
+    ensures { result ≡ style_of_kind kind.entry }
 {
     match kind {
         Kind::Style(style) => Some(style),
@@ -149,11 +149,11 @@ fn plan_inside<S: Store>(
     alloc: Global,
     store: &mut S,
     path: &PathText,
-    style: Style,
+    style: &Style<'_>,
     asked: &Amendment<'_>,
 ) -> Result<Option<Change>, Refusal>
     ensures edit { S.honest store.new → (bytes : List ℕ) → get (tree_of (S.files store.old)) path.now ≡ Some bytes
-        → AnswersEdit (tree_of (S.files store.old)) (inside_by asked.now path.now bytes (Some style)) result }
+        → AnswersEdit (tree_of (S.files store.old)) (inside_by asked.now path.now bytes (Some style.now)) result }
     ensures asks { ReadsAlone S.Store IsOfPlan store.old store.new result }
 {
     let reading = store.read(alloc, path, LONGEST_FILE)?;
@@ -164,13 +164,13 @@ fn plan_inside<S: Store>(
 fn plan_block(
     alloc: Global,
     path: &PathText,
-    style: Style,
+    style: &Style<'_>,
     asked: &Amendment<'_>,
     reading: Reading,
 ) -> Result<Option<Change>, Refusal>
     ensures edit { (tree : Files) (bytes : List ℕ) → get tree path.now ≡ Some bytes
         → reading ≡ reading_of (Some bytes) LONGEST_FILE
-        → AnswersEdit tree (inside_by asked.now path.now bytes (Some style)) result }
+        → AnswersEdit tree (inside_by asked.now path.now bytes (Some style.now)) result }
     ensures no_fault { IfErr result IsNoFault }
 {
     let bytes = short_bytes(alloc, path, reading)?;

@@ -98,7 +98,7 @@ pub(crate) fn plan_reading(
 {
     let bytes = short_bytes(alloc, path, reading)?;
     match target_by_bytes(alloc, path, bytes.as_slice(), asked) {
-        Ok(Target::Inside(style)) => plan_inside(alloc, path, bytes.as_slice(), style, asked),
+        Ok(Target::Inside(style)) => plan_inside(alloc, path, bytes.as_slice(), &style, asked),
         Ok(Target::InNeighbour) => Ok(Step::InNeighbour),
         Ok(Target::Nowhere) => Ok(Step::Done(PathPlan::Skipped(path.try_clone(alloc)?))),
         Err(refusal) => Err(refusal),
@@ -132,12 +132,12 @@ fn plan_inside(
     alloc: Global,
     path: &PathText,
     bytes: &[u8],
-    style: Style,
+    style: &Style<'_>,
     asked: &Annotation<'_>,
 ) -> Result<Step, Refusal>
     requires { length bytes.now ≤ LONGEST_FILE }
     ensures step { (tree : Files) → get tree path.now ≡ Some bytes.now
-        → StepsBy tree (path_inside_by asked.now path.now bytes.now style) result }
+        → StepsBy tree (path_inside_by asked.now path.now bytes.now style.now) result }
     ensures no_fault { IfErr result IsNoFault }
 {
     if asked.scope.skip_existing && find(bytes, style).block.is_some() {

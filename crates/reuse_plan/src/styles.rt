@@ -1,6 +1,6 @@
 //! The styles that a tree gives to its own names.
 ghost use Rattle.std.specs.Prelude.{◌≡◌, List, ℕ, Option, IfOk, IfErr, Ok, Err};
-ghost use Rattle.reuse_header.specs.Names.{lookup};
+ghost use Rattle.reuse_style.specs.Names.{lookup};
 ghost use Rattle.reuse_command.specs.Reading.{reading_of, tree_of, IsOfPlan, ReadsAlone};
 ghost use Rattle.reuse_plan.specs.Plan.{IsRefusalOf};
 ghost use Rattle.reuse_command.specs.Refused.{IsNoFault};
@@ -17,7 +17,10 @@ use std::alloc::Global;
 
 /// The styles by the `.reuse/styles.toml` of the tree that the store has: those of every tree where
 /// it has no such file.
-pub(crate) fn read_styles<S: Store>(alloc: Global, store: &mut S) -> Result<StyleTable, Refusal>
+pub(crate) fn read_styles<S: Store>(
+    alloc: Global,
+    store: &mut S,
+) -> Result<StyleTable<'static>, Refusal>
     ensures styles { S.honest store.new
         → IfOk result (λ styles. styles_in (tree_of (S.files store.old)) ≡ Ok (lookup styles)) }
     ensures refusal { S.honest store.new
@@ -30,7 +33,11 @@ pub(crate) fn read_styles<S: Store>(alloc: Global, store: &mut S) -> Result<Styl
 }
 
 // The styles by what was read of the file.
-fn styles_by(alloc: Global, path: PathText, reading: Reading) -> Result<StyleTable, Refusal>
+fn styles_by(
+    alloc: Global,
+    path: PathText,
+    reading: Reading,
+) -> Result<StyleTable<'static>, Refusal>
     ensures styles { (file : Option (List ℕ)) → reading ≡ reading_of file LONGEST_FILE
         → IfOk result (λ styles. styles_where file ≡ Ok (lookup styles)) }
     ensures refusal { (file : Option (List ℕ)) → path ≡ styles_path → reading ≡ reading_of file LONGEST_FILE

@@ -3,10 +3,10 @@ use reuse_header::Style;
 
 /// Where the licensing information of a file goes, as the definitions of what a command gives speak
 /// of it.
-#[derive(Clone, Copy, Debug)]
-pub enum Target {
+#[derive(Debug, Drop)]
+pub enum Target<'a> {
     /// Into a comment of the file, in this style.
-    Inside(Style),
+    Inside(Style<'a>),
     /// Into its neighbour.
     InNeighbour,
     /// Nowhere: the file is skipped.

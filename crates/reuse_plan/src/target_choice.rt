@@ -1,6 +1,6 @@
 //! The choice of where the licensing information of a file goes.
 ghost use Rattle.std.specs.Prelude.{◌≡◌, ◌≤◌, IfOk, IfErr, length};
-ghost use Rattle.reuse_header.specs.Names.{kind_in, lookup};
+ghost use Rattle.reuse_style.specs.Names.{kind_in, lookup};
 ghost use Rattle.reuse_change.specs.Files.{Files};
 ghost use Rattle.reuse_text.specs.declared.TheConstants.{LONGEST_FILE};
 ghost use Rattle.reuse_plan.specs.Annotate.{neighbour_of, is_uncommentable, goes_to_neighbour};
@@ -52,8 +52,8 @@ pub(crate) fn goes_to_neighbour_unread(path: &PathText, asked: &Annotation<'_>) 
         || (asked.scope.style.is_none() && is_uncommentable(asked.styles.style_of(path.text())))
 }
 
-fn is_uncommentable(kind: Kind) -> bool
-    ensures { result ≡ is_uncommentable kind }
+fn is_uncommentable(kind: Kind<'_>) -> bool
+    ensures { result ≡ is_uncommentable kind.entry }
 {
     match kind {
         Kind::Style(_) => false,
@@ -63,12 +63,12 @@ fn is_uncommentable(kind: Kind) -> bool
 }
 
 /// The place by the bytes of the file, which are no more than `LONGEST_FILE`.
-pub(crate) fn target_by_bytes(
+pub(crate) fn target_by_bytes<'a>(
     alloc: Global,
     path: &PathText,
     bytes: &[u8],
-    asked: &Annotation<'_>,
-) -> Result<Target, Refusal>
+    asked: &Annotation<'a>,
+) -> Result<Target<'a>, Refusal>
     requires { length bytes.now ≤ LONGEST_FILE }
     ensures target { AnswersOf (place_by asked.now path.now bytes.now) result }
     ensures no_fault { IfErr result IsNoFault }
@@ -80,28 +80,28 @@ pub(crate) fn target_by_bytes(
 }
 
 // The place by the style that is asked for, else by the name.
-fn target_by_style(
+fn target_by_style<'a>(
     alloc: Global,
     path: &PathText,
-    asked: &Annotation<'_>,
-) -> Result<Target, Refusal>
+    asked: &Annotation<'a>,
+) -> Result<Target<'a>, Refusal>
     ensures target { AnswersOf
         (target_by_style asked.now.scope.now (own_of asked.now) path.now asked.now.scope.now.style) result }
     ensures no_fault { IfErr result IsNoFault }
 {
-    match asked.scope.style {
-        Some(style) => Ok(Target::Inside(style)),
+    match &asked.scope.style {
+        Some(style) => Ok(Target::Inside(style.lent())),
         None => target_by_name(alloc, path, asked.scope.unknown, asked.styles),
     }
 }
 
 // The place by the name.
-fn target_by_name(
+fn target_by_name<'a>(
     alloc: Global,
     path: &PathText,
     unknown: Unknown,
-    styles: &StyleTable,
-) -> Result<Target, Refusal>
+    styles: &StyleTable<'a>,
+) -> Result<Target<'a>, Refusal>
     ensures target { AnswersOf (target_by_name unknown path.now (kind_in (lookup styles.now) path.now)) result }
     ensures no_fault { IfErr result IsNoFault }
 {
@@ -113,7 +113,11 @@ fn target_by_name(
 }
 
 // The place where the name has no style.
-fn target_of_unknown(alloc: Global, path: &PathText, unknown: Unknown) -> Result<Target, Refusal>
+fn target_of_unknown<'a>(
+    alloc: Global,
+    path: &PathText,
+    unknown: Unknown,
+) -> Result<Target<'a>, Refusal>
     ensures target { AnswersOf (target_of_unknown unknown path.now) result }
     ensures no_fault { IfErr result IsNoFault }
 {

@@ -101,7 +101,10 @@ fn read_glob(alloc: Global, word: &str) -> Result<Vec<Glob>, LineFault>
 }
 
 /// The style of all files, where one is named.
-pub fn read_style(alloc: Global, matches: &ArgMatches<'_>) -> Result<Option<Style>, LineFault>
+pub fn read_style(
+    alloc: Global,
+    matches: &ArgMatches<'_>,
+) -> Result<Option<Style<'static>>, LineFault>
     ensures { IsExpected (style_read (found_in matches.now)) result }
 {
     let Some(name) = value(matches, "style") else {

@@ -12,17 +12,17 @@ use Rattle.reuse_header.proofs.amend.amend_file.Goals as goal
 pub returns-in-None : goal.returns-in-None
 returns-in-None c =
     ap (λ (o : Option HeaderSpan). amendment_answer c.args.file.now
-    (option_map_or (block_amendment c.args.style c.args.amendments.now c.args.file.now) o (Ok None)))
+    (option_map_or (block_amendment c.args.style.now c.args.amendments.now c.args.file.now) o (Ok None)))
     (sym c.find.ensures.block ∙ ap (λ (o : Option Block). option_map block_view o) c.in-None.is)
 
 pub amend_block-requires-clause-within : goal.amend_block-requires-clause-within
 amend_block-requires-clause-within c =
     subst (λ (o : Option Block). IsWithin c.args.file.now (option_map block_view o)) c.in-Some.is
-    (found_within c.args.style c.args.file.now c.find.result.block c.find.ensures.split)
+    (found_within c.args.style.now c.args.file.now c.find.result.block c.find.ensures.split)
 
 pub returns-in-Some : goal.returns-in-Some
 returns-in-Some c =
     subst (λ (o : Option HeaderSpan). IsExpectedAmendment (amendment_answer c.args.file.now (option_map_or
-    (block_amendment c.args.style c.args.amendments.now c.args.file.now) o (Ok None))) c.amend_block.result)
+    (block_amendment c.args.style.now c.args.amendments.now c.args.file.now) o (Ok None))) c.amend_block.result)
     (sym (sym c.find.ensures.block ∙ ap (λ (o : Option Block). option_map block_view o) c.in-Some.is))
     c.amend_block.ensures

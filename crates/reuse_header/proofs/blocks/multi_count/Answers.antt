@@ -1,7 +1,7 @@
 use Rattle.std.proofs.Common.{length}
 use Rattle.std.proofs.lemmas.List.{take_rest}
 use Rattle.reuse_header.specs.Open.{open_left}
-use Rattle.reuse_header.specs.Styles.{block_view}
+use Rattle.reuse_style.specs.MarkViews.{block_view}
 use Rattle.reuse_header.proofs.ClosingLemmas.{no_count_if}
 use Rattle.reuse_header.proofs.blocks.multi_count.Goals as goal
 

@@ -1,4 +1,4 @@
-use Rattle.reuse_header.specs.Search.{holds}
+use Rattle.reuse_style.specs.Search.{holds}
 use Rattle.reuse_header.specs.MarkViews.{marks_view}
 use Rattle.reuse_header.proofs.CloserLemmas.{any-inner}
 use Rattle.reuse_header.proofs.closer.any_line_holds.Goals as goal

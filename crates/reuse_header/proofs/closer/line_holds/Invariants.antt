@@ -1,6 +1,6 @@
 use Rattle.std.proofs.Common.{◌≡◌, ◌++◌, length, map}
 use Rattle.std.specs.List.{list_any}
-use Rattle.reuse_header.specs.Search.{holds}
+use Rattle.reuse_style.specs.Search.{holds}
 use Rattle.reuse_header.proofs.closer.line_holds.Given as goal
 
 abbrev pub invariant-loop-rest : goal.invariant-loop-rest

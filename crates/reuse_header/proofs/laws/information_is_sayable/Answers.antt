@@ -1,5 +1,5 @@
 use Rattle.std.proofs.Common.{[], refl}
-use Rattle.reuse_header.specs.Styles.{punctuation_of}
+use Rattle.reuse_style.specs.Styles.{punctuation_of}
 use Rattle.reuse_header.specs.Header.{neighbour_contents}
 use Rattle.reuse_header.proofs.SayableLemmas.{info_sayable, union_sayable, found_clean, neighbour_clean}
 use Rattle.reuse_header.proofs.PlainLemmas.{letters, no_letters, additions_sayable}

@@ -1,7 +1,7 @@
 use Rattle.std.proofs.Common.{[], ap, ◌∙◌, List, ℕ, map}
 use Rattle.std.proofs.lemmas.List.{append-nil}
 use Rattle.reuse_notice.specs.Infos.{info_of}
-use Rattle.reuse_header.specs.Styles.{punctuation_of}
+use Rattle.reuse_style.specs.Styles.{punctuation_of}
 use Rattle.reuse_header.specs.Blocks.{without_returns}
 use Rattle.reuse_header.specs.Writing.{neighbour_marks, inner_lines, block_lines}
 use Rattle.reuse_header.proofs.ContentsLemmas.{block_contents, inner_content, the_reader, neighbour_reader}

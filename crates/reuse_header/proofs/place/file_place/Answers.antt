@@ -7,5 +7,6 @@ use Rattle.reuse_header.proofs.place.file_place.Goals as goal
 
 pub returns-in-None-clause-edit : goal.returns-in-None-clause-edit
 returns-in-None-clause-edit c text =
-    c.place_behind_prefix.ensures.edit text ∙ ap
-    (λ (old : Option Block). edit_of c.args.style c.args.file.now (option_map block_view old) text) (sym c.in-None.is)
+    c.place_behind_prefix.ensures.edit text
+    ∙ ap (λ (old : Option Block). edit_of c.args.style.now c.args.file.now (option_map block_view old) text)
+    (sym c.in-None.is)

@@ -11,14 +11,14 @@ use Rattle.reuse_plan.proofs.amend.plan_block.Goals as goal
 pub returns-then-not-is_text-clause-edit : goal.returns-then-not-is_text-clause-edit
 returns-then-not-is_text-clause-edit c tree bytes here reading =
     let short = short_is c.args.path.now bytes c.in_ok-bytes.bytes (c.in_ok-bytes.ensures.answer bytes reading) in
-    inside_is c.args.asked.now c.args.path.now bytes c.args.style false short.0
+    inside_is c.args.asked.now c.args.path.now bytes c.args.style.now false short.0
     (ap is_text (short.1 ∙ sym c.as_slice.ensures)
     ∙ sym (text-test c.as_slice.result.now c.is_text.result c.is_text.ensures) ∙ c.if-not-is_text.true)
 
 pub returns-clause-edit : goal.returns-clause-edit
 returns-clause-edit c tree bytes here reading =
     let path = c.args.path.now in
-    let style = c.args.style in
+    let style = c.args.style.now in
     let a = c.args.asked.now.amendments.now in
     let short = short_is path bytes c.in_ok-bytes.bytes (c.in_ok-bytes.ensures.answer bytes reading) in
     let same = short.1 in

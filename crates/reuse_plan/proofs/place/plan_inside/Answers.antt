@@ -16,33 +16,33 @@ use Rattle.reuse_plan.proofs.place.plan_inside.Goals.{else-asked-via-else-asked}
 
 -- what is planned is the edit inside the file, which fits it
 module _ (c : After-annotate_file-made) where
-  planned : path_inside_by c.args.asked.now c.args.path.now c.args.bytes.now c.args.style
+  planned : path_inside_by c.args.asked.now c.args.path.now c.args.bytes.now c.args.style.now
       ≡ unskipped c.args.path.now (edit_by c.args.path.now c.args.path.now c.args.bytes.now
-      (annotation_of c.args.style c.args.asked.now.how.now c.args.asked.now.additions.now c.args.bytes.now))
+      (annotation_of c.args.style.now c.args.asked.now.how.now c.args.asked.now.additions.now c.args.bytes.now))
   planned =
-      let kept : (c.args.asked.now.scope.now.skip_existing && is_some (header_of c.args.style c.args.bytes.now))
+      let kept : (c.args.asked.now.scope.now.skip_existing && is_some (header_of c.args.style.now c.args.bytes.now))
       ≡ false = elim c.else-asked.branch [
         | else-asked-via-then-asked+else-is_some w ↦
-            ap (λ b. b && is_some (header_of c.args.style c.args.bytes.now)) w.if-asked.true
-            ∙ sym (same_some block_view (span_in c.args.bytes.now) _
-            (header_of c.args.style c.args.bytes.now) w.find.ensures.block) ∙ sym w.is_some.ensures ∙ w.if-is_some.false
+            ap (λ b. b && is_some (header_of c.args.style.now c.args.bytes.now)) w.if-asked.true
+            ∙ sym (same_some block_view (span_in c.args.bytes.now) _ (header_of c.args.style.now c.args.bytes.now)
+            w.find.ensures.block) ∙ sym w.is_some.ensures ∙ w.if-is_some.false
         | else-asked-via-else-asked w ↦
-            ap (λ b. b && is_some (header_of c.args.style c.args.bytes.now)) w.if-asked.false
+            ap (λ b. b && is_some (header_of c.args.style.now c.args.bytes.now)) w.if-asked.false
       ] in
-      inside_unskipped c.args.asked.now c.args.path.now c.args.bytes.now c.args.style kept
+      inside_unskipped c.args.asked.now c.args.path.now c.args.bytes.now c.args.style.now kept
 
   fits : Fits c.args.bytes.now
-      (annotation_of c.args.style c.args.asked.now.how.now c.args.asked.now.additions.now c.args.bytes.now)
+      (annotation_of c.args.style.now c.args.asked.now.how.now c.args.asked.now.additions.now c.args.bytes.now)
   fits = fits_by c.args.bytes.now
-      (annotation_of c.args.style c.args.asked.now.how.now c.args.asked.now.additions.now c.args.bytes.now)
-      (λ edit e. c.annotations_fit.ensures.files c.args.style c.args.asked.now.how.now c.args.asked.now.additions.now
-      c.args.bytes.now edit e)
+      (annotation_of c.args.style.now c.args.asked.now.how.now c.args.asked.now.additions.now c.args.bytes.now)
+      (λ edit e. c.annotations_fit.ensures.files c.args.style.now c.args.asked.now.how.now
+      c.args.asked.now.additions.now c.args.bytes.now edit e)
 
 pub returns-in_ok-of_change-in-Ok-clause-step : goal.returns-in_ok-of_change-in-Ok-clause-step
 returns-in_ok-of_change-in-Ok-clause-step c tree here =
     let at = (goal.at.returns-in_ok-of_change-in-Ok-clause-step c).After-annotate_file-made in
     let expected =
-    annotation_of c.args.style c.args.asked.now.how.now c.args.asked.now.additions.now c.args.bytes.now in
+    annotation_of c.args.style.now c.args.asked.now.how.now c.args.asked.now.additions.now c.args.bytes.now in
     subst (λ (e : PathEdit). IsPlanOf Stop tree e c.in_ok-of_change-in-Ok.field-0) (sym (planned at))
     (c.in_ok-of_change-in-Ok.ensures tree (edit_by c.args.path.now c.args.path.now c.args.bytes.now expected)
     (c.in-Ok.ensures.edit tree expected here c.requires (fits at) c.annotate_file-made.ensures))
@@ -51,5 +51,5 @@ pub returns-in-Err-clause-step : goal.returns-in-Err-clause-step
 returns-in-Err-clause-step c tree here =
     let at = (goal.at.returns-in-Err-clause-step c).After-annotate_file-made in
     subst (λ (e : PathEdit). IsRefusalOf e.edit c.in-Err.refusal) (sym (planned at))
-    (c.in-Err.ensures.edit tree (annotation_of c.args.style c.args.asked.now.how.now c.args.asked.now.additions.now
+    (c.in-Err.ensures.edit tree (annotation_of c.args.style.now c.args.asked.now.how.now c.args.asked.now.additions.now
     c.args.bytes.now) here c.requires (fits at) c.annotate_file-made.ensures)

@@ -1,6 +1,6 @@
 use Rattle.std.proofs.Common.{◌≡◌, ◌∙◌, List, ℕ, length, Some, Result, Ok, Err, sym, ap, subst, arith}
 use Rattle.std.proofs.lemmas.Result.{err_from_is_err_and}
-use Rattle.reuse_header.specs.declared.style.Style.{Style}
+use Rattle.reuse_style.specs.declared.style.Style.{Style}
 use Rattle.reuse_change.specs.Files.{Files}
 use Rattle.reuse_plan.specs.AnnotationPlan.{place_by, edit_by_place, path_by_place, path_inside_by}
 use Rattle.reuse_plan.specs.PathPlans.{IsPlanOf}

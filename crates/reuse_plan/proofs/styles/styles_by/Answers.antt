@@ -1,7 +1,7 @@
 use Rattle.std.proofs.Common.{◌≡◌, ◌∙◌, ◌≤◌, ℕ, cond, List, length, Some, None, Result, Err, IfErr, sym, ap, subst}
-use Rattle.reuse_header.specs.StyleFile.{styles_of, IsRefused}
-use Rattle.reuse_header.specs.declared.style_refusal.StylesRefusal.{StylesRefusal}
-use Rattle.reuse_header.specs.declared.style_refusal.StylesRefusal.TheVariants as styles
+use Rattle.reuse_style.specs.StyleFile.{styles_of, IsRefused}
+use Rattle.reuse_style.specs.declared.style_refusal.StylesRefusal.{StylesRefusal}
+use Rattle.reuse_style.specs.declared.style_refusal.StylesRefusal.TheVariants as styles
 use Rattle.reuse_text.specs.declared.TheConstants.{LONGEST_FILE}
 use Rattle.reuse_plan.specs.Plan.{IsRefusalOf}
 use Rattle.reuse_plan.specs.TreeStyles.{OwnNames, styles_path, styles_refusal, styles_read, styles_where}

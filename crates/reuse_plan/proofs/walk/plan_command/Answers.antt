@@ -1,5 +1,5 @@
 use Rattle.std.proofs.Common.{Ok, OnOk, sym, ap, subst}
-use Rattle.reuse_header.specs.Names.{lookup}
+use Rattle.reuse_style.specs.Names.{lookup}
 use Rattle.reuse_change.specs.Files.{tree_of}
 use Rattle.reuse_command.specs.Covered.{is_covered}
 use Rattle.reuse_plan.specs.Conversion.{conversion_edits}

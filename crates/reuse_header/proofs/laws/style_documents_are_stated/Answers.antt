@@ -1,5 +1,0 @@
-use Rattle.reuse_header.proofs.DocumentLemmas.{documents_stated}
-use Rattle.reuse_header.proofs.laws.style_documents_are_stated.Goals as goal
-
-pub returns : goal.returns
-returns c = documents_stated

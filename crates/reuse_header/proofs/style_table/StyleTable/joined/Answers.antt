@@ -1,6 +1,0 @@
-use Rattle.reuse_header.specs.Names.{lookup}
-use Rattle.reuse_header.proofs.NameLemmas.{joined_none}
-use Rattle.reuse_header.proofs.style_table.StyleTable.joined.Goals as goal
-
-pub returns-in-None : goal.returns-in-None
-returns-in-None c = joined_none (lookup c.args.self.now) _ _ c.in-None.ensures c.lookup.ensures
