@@ -19,7 +19,7 @@ use Rattle.reuse_style.specs.Marks.{LineForm, BlockForm}
 use Rattle.reuse_style.specs.Styles.{line_comment_of, block_comment_of, punctuation_of}
 use Rattle.reuse_style.proofs.GoodLemmas.{IsGoodLine, IsLineGood, line_good}
 use Rattle.reuse_header.specs.Marks.{LineMarks, marks_of}
-use Rattle.reuse_header.specs.Blocks.{multi_count, multi_lines, marked_lines, block_of, block_at, contents_of}
+use Rattle.reuse_header.specs.Blocks.{multi_lines, marked_lines, block_of, block_at, contents_of}
 use Rattle.reuse_header.specs.Body.{PlacedLines, is_barrier, open_contents, body_lines}
 use Rattle.reuse_header.specs.Header.{Header, HeaderSpan, lines_inside, span_in, header_of}
 use Rattle.reuse_header.specs.Split.{IsHeaderAt, begins_in, size_of, bytes_of}

@@ -1,8 +1,8 @@
 -- What the lines of a comment block say is text, where they are.
 use Rattle.std.proofs.Common.{◌≡◌, ℕ, zero, suc, ◌+◌, ◌<◌, ◌≤◌, Bool, true, false, cond, List, [], ◌∷◌, ◌++◌, length}
 use Rattle.std.proofs.Common.{take, drop, Option, None, Some, refl, sym, ap, subst, ◌∙◌, arith}
-use Rattle.std.specs.Prelude.{not, ◌&&◌, ◌||◌, ◌==◌, nat_eq, unwrap_or, option_and_then, if◌then◌else◌, codes}
-use Rattle.std.specs.List.{list_all, list_any, starts_with, prefix_len}
+use Rattle.std.specs.Prelude.{◌&&◌, ◌||◌, ◌==◌, nat_eq, unwrap_or, option_and_then, if◌then◌else◌}
+use Rattle.std.specs.List.{list_all, starts_with, prefix_len}
 use Rattle.std.specs.Option.{option_map, option_map_or, option_to_list}
 use Rattle.std.proofs.Math.Seq.{take-length}
 use Rattle.std.proofs.lemmas.Bool.{false≢true, eqb-true, and_parts}

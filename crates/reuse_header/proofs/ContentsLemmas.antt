@@ -9,11 +9,9 @@ use Rattle.std.proofs.lemmas.Bool.{eqb-true}
 use Rattle.std.proofs.lemmas.List.{append-nil}
 use Rattle.reuse_notice.specs.declared.infos.Info.{Info}
 use Rattle.reuse_notice.specs.Tags.{is_blank, is_filler, drop_front, drop_end, stripped, tag_in, tag_of}
-use Rattle.reuse_notice.specs.Contents.{is_blank_content}
 use Rattle.reuse_style.specs.declared.style.Style.{Style}
 use Rattle.reuse_style.specs.declared.marks.Form.{Form}
 use Rattle.reuse_style.specs.declared.marks.Form.TheVariants.{Single, Multi}
-use Rattle.reuse_style.specs.Search.{place_of}
 use Rattle.reuse_header.specs.Ends.{is_return}
 use Rattle.reuse_style.specs.Marks.{LineForm, BlockForm}
 use Rattle.reuse_style.specs.Styles.{punctuation_of, line_comment_of, block_comment_of}
@@ -21,7 +19,7 @@ use Rattle.reuse_style.proofs.GoodLemmas.{IsLineGood, IsBlockGood, IsGoodBlock, 
 use Rattle.reuse_header.specs.Marks.{LineMarks, marks_of}
 use Rattle.reuse_header.specs.Blocks.{without_returns, without_middle, between_marks, single_content, multi_content}
 use Rattle.reuse_header.specs.Blocks.{contents_from, contents_of}
-use Rattle.reuse_header.specs.Writing.{neighbour_marks, separator_of, inner_lines, block_lines}
+use Rattle.reuse_header.specs.Writing.{neighbour_marks, inner_lines, block_lines}
 use Rattle.std.proofs.lemmas.Bool.{cases_Bool as truth}
 use Rattle.reuse_notice.proofs.BlankLemmas.{drop_end-all, dropped_end}
 use Rattle.reuse_header.proofs.PartLemmas.{IsOfParts, of_middle}

@@ -1,9 +1,9 @@
 -- What good marks are to the reader of blocks: what is written behind them is read back.
-use Rattle.std.proofs.Common.{◌≡◌, ℕ, suc, Bool, true, false, cond, nat_eq, List, [], ◌∷◌, ◌++◌, length, take, drop}
+use Rattle.std.proofs.Common.{◌≡◌, ℕ, Bool, true, false, cond, nat_eq, List, [], ◌∷◌, ◌++◌, length, take, drop}
 use Rattle.std.proofs.Common.{append_assoc, append-nil, Option, None, Some, refl, sym, ap, subst, ◌∙◌, inl, inr, arith}
-use Rattle.std.specs.Prelude.{◌&&◌, ◌||◌, ◌==◌, not, unwrap_or, option_and_then}
+use Rattle.std.specs.Prelude.{◌&&◌, ◌||◌, ◌==◌, unwrap_or, option_and_then}
 use Rattle.std.specs.List.{starts_with, prefix_len, list_all, list_any}
-use Rattle.std.specs.Option.{option_map, option_map_or}
+use Rattle.std.specs.Option.{option_map_or}
 use Rattle.std.specs.Char.{is_ascii_punctuation}
 use Rattle.std.proofs.Math.Seq.{drop-append_seam}
 use Rattle.std.proofs.lemmas.Bool.{false≢true, and_parts, eqb-true, eq-eqb, cases_Bool as truth}
@@ -15,17 +15,14 @@ use Rattle.reuse_notice.specs.Tags.{is_blank, is_filler, drop_front, drop_end, t
 use Rattle.reuse_notice.specs.Contents.{is_blank_content}
 use Rattle.reuse_notice.proofs.BlankLemmas.{drop_end-all, dropped_end, drop_front-no}
 use Rattle.reuse_notice.proofs.SoundLemmas.{IsSound, is_low, is_nul, sound_low}
-use Rattle.reuse_style.specs.Search.{place_of}
 use Rattle.reuse_style.specs.declared.style.Style.{Style}
-use Rattle.reuse_style.specs.declared.marks.Form.{Form}
-use Rattle.reuse_style.specs.declared.marks.Form.TheVariants.{Single, Multi}
 use Rattle.reuse_style.specs.Marks.{LineForm, BlockForm, is_plain, is_filling}
 use Rattle.reuse_style.specs.Styles.{line_comment_of, block_comment_of, punctuation_of}
 use Rattle.reuse_style.proofs.GoodLemmas.{IsMark, Follows, IsGoodLine, IsGoodBlock, IsGoodMiddle, AreGoodMiddle}
-use Rattle.reuse_style.proofs.GoodLemmas.{IsLineGood, IsBlockGood, AreFormsApart, line_good, block_good, forms_apart}
-use Rattle.reuse_style.proofs.GoodLemmas.{punctuation_is, no_punctuation}
+use Rattle.reuse_style.proofs.GoodLemmas.{AreFormsApart, forms_apart}
+use Rattle.reuse_style.proofs.GoodLemmas.{punctuation_is}
 use Rattle.reuse_header.specs.Ends.{is_return, is_indent}
-use Rattle.reuse_header.specs.Marks.{LineMarks, marks_of}
+use Rattle.reuse_header.specs.Marks.{LineMarks}
 use Rattle.reuse_header.specs.Blocks.{without_returns, without_middle, multi_count, multi_lines, marked_lines}
 use Rattle.reuse_header.specs.Writing.{separator_of}
 use Rattle.reuse_header.proofs.FeedLemmas.{Feedless, is_feed}

@@ -1,8 +1,8 @@
 -- What holds of bytes and of each part of them, and of the lines of a file, holds of the contents of its blocks.
 use Rattle.std.proofs.Common.{◌≡◌, ℕ, zero, suc, Bool, true, false, List, [], ◌∷◌, length, take, drop, Option, None}
 use Rattle.std.proofs.Common.{Some, refl, sym, ap, subst, inl, inr}
-use Rattle.std.specs.Prelude.{not, ◌&&◌, ◌||◌, ◌==◌, if◌then◌else◌, unwrap_or, nat_eq}
-use Rattle.std.specs.List.{list_any, list_all, starts_with}
+use Rattle.std.specs.Prelude.{◌&&◌, ◌||◌, ◌==◌, if◌then◌else◌, unwrap_or, nat_eq}
+use Rattle.std.specs.List.{list_all, starts_with}
 use Rattle.std.specs.Option.{option_map_or, option_to_list}
 use Rattle.std.proofs.lemmas.Bool.{cases_Bool as truth}
 use Rattle.reuse_notice.specs.Tags.{is_blank, drop_front, drop_end}
