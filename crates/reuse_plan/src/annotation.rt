@@ -15,7 +15,7 @@ pub(crate) struct Annotation<'a> {
     pub(crate) additions: &'a Additions,
     pub(crate) how: &'a How,
     pub(crate) scope: &'a Scope,
-    pub(crate) styles: &'a StyleTable<'a>,
+    pub(crate) styles: &'a StyleTable<'static>,
 }
 
 /// What is asked of an amendment, and the styles of the tree that it is of.
@@ -23,7 +23,7 @@ pub(crate) struct Annotation<'a> {
 pub(crate) struct Amendment<'a> {
     pub(crate) amendments: &'a Amendments,
     pub(crate) scope: &'a Scope,
-    pub(crate) styles: &'a StyleTable<'a>,
+    pub(crate) styles: &'a StyleTable<'static>,
 }
 
 /// What is asked of each file: one walk serves both commands.
