@@ -164,6 +164,9 @@ refusals() {
   notes undo : 'this file was changed since: .*'
   files a.py 'x\n' .reuse/styles.toml 'version = 1\n[styles]\n".proto" = "pascal"\n'
   notes annotate -l MIT a.py : 'what is wrong with \.reuse/styles\.toml: bad style of \.proto'
+  files a.py 'x\n' .reuse/comments.toml 'version = 1\n[comments.own]\nopen = "<<"\nclose = "<"\n'
+  notes annotate -l MIT a.py : \
+    'what is wrong with \.reuse/comments\.toml: bad marks of own: the closer stands in the opener'
 }
 
 # A call that passes files over has counted them itself: with notes it asks the system for no name

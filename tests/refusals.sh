@@ -84,6 +84,9 @@ places() {
   refused 1 'a.py: no such form' annotate -l MIT --multi-line a.py
   files a.py 'x\n' .reuse/styles.toml '['
   refused 1 '.reuse/styles.toml: bad styles' annotate -l MIT --style python a.py
+  files a.py 'x\n' .reuse/styles.toml '[' .reuse/comments.toml 'version = 1\n'
+  refused 1 '.reuse/comments.toml: bad comments' annotate -l MIT --style python a.py
+  refused 1 '.reuse/comments.toml: bad comments' amend --until 2026 a.py
   files i.html '<p>\n' p.png '\0211' p.png.license '\0'
   refused 1 'i.html: holds the closer' annotate -c 'A --> B' i.html
   refused 1 'p.png: neighbour is not text' annotate -l MIT p.png

@@ -56,6 +56,7 @@ refusal_text (refusals.NoText id) = codes "no text: " ++ shown id
 refusal_text (refusals.Clash path) = path ++ codes ": clash"
 refusal_text refusals.TooMany = codes "too many changes"
 refusal_text (refusals.BadStyles refusal) = codes ".reuse/styles.toml: bad styles"
+refusal_text (refusals.BadComments refusal) = codes ".reuse/comments.toml: bad comments"
 refusal_text refusals.NothingToUndo = codes "nothing to undo"
 refusal_text (refusals.Moved path) = path ++ codes ": moved"
 refusal_text refusals.NothingToRedo = codes "nothing to redo"

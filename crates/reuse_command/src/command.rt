@@ -5,7 +5,7 @@ use crate::choice::{Globs, PathList};
 use crate::licence::{Ids, LicenceTexts};
 use reuse_amend::Amendments;
 use reuse_change::{CommandName, FixedList, PathText};
-use reuse_header::{How, Style};
+use reuse_header::{How, NamedStyle};
 use reuse_json::EntryChanges;
 use reuse_notice::Additions;
 use std::alloc::{AllocError, Global};
@@ -63,7 +63,7 @@ pub struct Scope {
     /// In place of a folder, the covered files beneath it that are asked for.
     pub recursive: bool,
     /// The style of all files, in place of that of their names.
-    pub style: Option<Style<'static>>,
+    pub style: Option<NamedStyle>,
     /// Neighbours (`NAME.license`) alone.
     pub force_dot_license: bool,
     /// What is done where the name has no style.

@@ -12,7 +12,7 @@ use crate::header_fault::HeaderFault;
 use crate::path_outcome::PathOutcomes;
 use reuse_change::{CommandName, EntryNumbers, FixedList, Moment, PathText};
 use reuse_dep5::Dep5Refusal;
-use reuse_header::StylesRefusal;
+use reuse_header::{CommentsRefusal, StylesRefusal};
 use reuse_json::EntryChanges;
 use reuse_store::StoreFault;
 use reuse_text::Bytes;
@@ -148,6 +148,8 @@ pub enum Refusal {
     TooMany,
     /// The `.reuse/styles.toml` can't be read.
     BadStyles(StylesRefusal),
+    /// The `.reuse/comments.toml` can't be read.
+    BadComments(CommentsRefusal),
     /// No entry is done.
     NothingToUndo,
     /// A file isn't in the state that the call needs, or a path to be made clashes.
@@ -184,6 +186,7 @@ impl fmt::Display for Refusal {
             Refusal::Clash(path) => write!(f, "{}: clash", path.text()),
             Refusal::TooMany => f.write_str("too many changes"),
             Refusal::BadStyles(_) => f.write_str(".reuse/styles.toml: bad styles"),
+            Refusal::BadComments(_) => f.write_str(".reuse/comments.toml: bad comments"),
             Refusal::NothingToUndo => f.write_str("nothing to undo"),
             Refusal::Moved(path) => write!(f, "{}: moved", path.text()),
             Refusal::NothingToRedo => f.write_str("nothing to redo"),

@@ -1,5 +1,5 @@
 -- The bytes of a file, cut at the header block.
-use Rattle.std.proofs.Common.{◌≡◌, ℕ, ◌+◌, ◌<◌, ◌≤◌, Bool, nat_eq, List, [], ◌∷◌, ◌++◌, length, length-append}
+use Rattle.std.proofs.Common.{◌≡◌, ℕ, ◌+◌, ◌<◌, ◌≤◌, nat_eq, List, [], ◌∷◌, ◌++◌, length, length-append}
 use Rattle.std.proofs.Common.{append_assoc, take, Option, None, Some, refl, sym, ap, subst, ◌∙◌, inl, inr, arith}
 use Rattle.std.specs.Prelude.{MatchOption}
 use Rattle.std.specs.List.{starts_with}
@@ -10,14 +10,16 @@ use Rattle.reuse_text.specs.Text.{TextLine, line_bytes, text_of, lines_of, place
 use Rattle.reuse_text.specs.Text.{byte_order_mark}
 use Rattle.reuse_style.specs.declared.style.Style.{Style}
 use Rattle.reuse_header.specs.declared.finder.Block.{Block}
-use Rattle.reuse_header.specs.Body.{PlacedLines, is_shebang, is_declaration, without_first, body_lines, open_contents}
+use Rattle.reuse_header.specs.Body.{PlacedLines, body_lines, open_contents}
 use Rattle.reuse_header.specs.Body.{place_in}
 use Rattle.reuse_header.specs.Header.{Header, HeaderSpan, span_in, header_of}
 use Rattle.reuse_header.specs.Split.{IsSplit, IsHeaderBlock, HasNoHeader, bytes_of, size_of}
 use Rattle.reuse_header.specs.Found.{block_view}
+use Rattle.reuse_header.specs.Annotation.{prefix_lines}
 use Rattle.std.proofs.lemmas.Bool.{cases_Bool as truth}
 use Rattle.reuse_style.proofs.PlaceLemmas.{front_occurs}
 use Rattle.reuse_header.proofs.SplitLemmas.{begins_in-within, split_found, split_only}
+use Rattle.reuse_header.proofs.PrefixLemmas.{prefix_body}
 
 -- ---- the bytes of lines
 
@@ -70,20 +72,9 @@ place_of_first file (x ∷ block) after some = refl
 
 -- ---- the lines before the body
 
-before_rest : (test : List ℕ → Bool) (lines : PlacedLines)
-    → (front : PlacedLines) × (lines ≡ front ++ without_first test lines)
-before_rest test [] = ([], refl)
-before_rest test (line ∷ lines) = elim (truth (test line.1.content)) [
-  | inl e ↦ (line ∷ [], rw e refl)
-  | inr e ↦ ([], rw e refl)
-]
-
 pub before_body : (style : Style) (lines : PlacedLines)
     → (front : PlacedLines) × (lines ≡ front ++ body_lines style lines)
-before_body style lines =
-    let a = before_rest is_shebang lines in
-    let b = before_rest (is_declaration style) (without_first is_shebang lines) in
-    (a.0 ++ b.0, a.1 ∙ ap (λ (xs : PlacedLines). a.0 ++ xs) b.1 ∙ sym (append_assoc a.0 b.0 (body_lines style lines)))
+before_body style lines = (prefix_lines style lines, prefix_body style lines)
 
 -- ---- the cut
 

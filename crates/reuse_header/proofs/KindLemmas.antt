@@ -15,12 +15,12 @@ use Rattle.reuse_text.specs.Text.{TextLine, AreLines, line_bytes, text_of, endin
 use Rattle.reuse_text.specs.Text.{onto_first, lines_of, placed, kind_of, file_lines, after_mark, mark_len_of}
 use Rattle.reuse_text.specs.Text.{byte_order_mark, ends_in_return}
 use Rattle.reuse_style.specs.declared.style.Style.{Style}
-use Rattle.reuse_header.specs.Body.{PlacedLines, is_shebang, is_declaration, without_first, body_lines, place_in}
+use Rattle.reuse_header.specs.Body.{PlacedLines, body_lines, place_in}
 use Rattle.reuse_header.specs.Body.{open_contents}
 use Rattle.reuse_header.specs.Header.{Header, HeaderSpan, span_in, header_of}
 use Rattle.reuse_header.specs.Split.{bytes_of, size_of}
 use Rattle.reuse_header.specs.Writing.{ended_by}
-use Rattle.reuse_header.specs.Annotation.{Edit, new_bytes, edited, ending_if, first_if, prefix_lines, kind_of_file}
+use Rattle.reuse_header.specs.Annotation.{Edit, new_bytes, edited, ending_if, prefix_lines, kind_of_file}
 use Rattle.reuse_header.specs.Laws.{AreContents, EndsPlainly}
 use Rattle.std.proofs.lemmas.Bool.{cases_Bool as truth}
 use Rattle.reuse_style.proofs.PlaceLemmas.{front_occurs}
@@ -29,6 +29,7 @@ use Rattle.reuse_header.proofs.CutLemmas.{bytes_of-append, bytes_of-placed, plac
 use Rattle.reuse_header.proofs.CutLemmas.{mark_within}
 use Rattle.reuse_header.proofs.FeedLemmas.{is_feed, Feedless, feedless_from}
 use Rattle.reuse_header.proofs.LinesLemmas.{ends_append}
+use Rattle.reuse_header.proofs.PrefixLemmas.{prefix_body}
 
 -- ---- the kind, by the first LF
 
@@ -371,18 +372,6 @@ span_plain style file span law are e f = by_header (header_of style file) refl e
         (let same : span_in file h ≡ span = cc e in ap (λ (s : HeaderSpan). s.start) same)
 
 -- ---- behind the prefix lines
-
-first_rest : (test : List ℕ → Bool) (lines : PlacedLines) → lines ≡ first_if test lines ++ without_first test lines
-first_rest test [] = refl
-first_rest test (line ∷ lines) = elim (truth (test line.1.content)) [ inl e ↦ rw e refl | inr e ↦ rw e refl ]
-
-pub prefix_body : (style : Style) (lines : PlacedLines) → lines ≡ prefix_lines style lines ++ body_lines style lines
-unfolding prefix_lines
-prefix_body style lines =
-    let rest = without_first is_shebang lines in
-    first_rest is_shebang lines
-    ∙ ap (λ (xs : PlacedLines). first_if is_shebang lines ++ xs) (first_rest (is_declaration style) rest)
-    ∙ sym (append_assoc (first_if is_shebang lines) (first_if (is_declaration style) rest) (body_lines style lines))
 
 pub body_plain : (style : Style) (file : List ℕ) → text_of (lines_of (after_mark file)) ≡ after_mark file
     → AreLines (lines_of (after_mark file))

@@ -13,11 +13,12 @@ use Rattle.reuse_style.specs.Search.{place_of}
 use Rattle.reuse_header.specs.Ends.{is_return, is_indent}
 use Rattle.reuse_style.specs.Marks.{BlockForm}
 use Rattle.reuse_style.specs.Styles.{line_comment_of, block_comment_of}
-use Rattle.reuse_header.specs.Body.{PlacedLines, is_shebang, is_declaration, is_barrier, without_first, body_lines}
-use Rattle.reuse_header.specs.Body.{open_contents}
+use Rattle.reuse_text.specs.Text.{TextLine}
+use Rattle.reuse_header.specs.Body.{PlacedLines, is_barrier, body_lines, open_contents}
 use Rattle.reuse_header.specs.Blocks.{without_returns, without_middle, between_marks, is_blank_content as is_blank_line}
 use Rattle.reuse_header.specs.Blocks.{single_content, multi_content, line_content, contents_from}
 use Rattle.reuse_header.proofs.SayableLemmas.{Each, each_both, of_picked}
+use Rattle.reuse_header.proofs.PrefixLemmas.{body_rest}
 
 -- ---- a front and a back part of bytes
 
@@ -41,9 +42,15 @@ end_left test (b ∷ bytes) = elim (truth (list_all test (b ∷ bytes))) [
   | inr isnt ↦ (let left = end_left test bytes in (suc left.0, rw isnt (ap (λ (xs : List ℕ). b ∷ xs) left.1)))
 ]
 
-module _ (P : List ℕ → Type 0) where
-  -- ---- lines
+-- ---- lines
 
+pub each_dropped : {X : Type 0} (P : X → Type 0) (n : ℕ) (xs : List X) → Each P xs → Each P (drop n xs)
+unfolding Each
+each_dropped P zero xs h = h
+each_dropped P (suc n) [] h = h
+each_dropped P (suc n) (x ∷ xs) h = each_dropped P n xs h.1
+
+module _ (P : List ℕ → Type 0) where
   pub each_open : (lines : PlacedLines) → Each (λ line. P line.1.content) lines → Each P (open_contents lines)
   unfolding Each
   each_open [] h = tt
@@ -52,22 +59,12 @@ module _ (P : List ℕ → Type 0) where
     | inr e ↦ rw e (h.0, each_open lines h.1)
   ]
 
-  each_without : (test : List ℕ → Bool) (lines : PlacedLines) → Each (λ line. P line.1.content) lines
-      → Each (λ line. P line.1.content) (without_first test lines)
-  unfolding Each
-  each_without test [] h = tt
-  each_without test (line ∷ lines) h = elim (truth (test line.1.content)) [ inl e ↦ rw e h.1 | inr e ↦ rw e h ]
-
   pub each_in_body : (style : Style) (lines : PlacedLines) → Each (λ line. P line.1.content) lines
       → Each (λ line. P line.1.content) (body_lines style lines)
   each_in_body style lines h =
-      each_without (is_declaration style) (without_first is_shebang lines) (each_without is_shebang lines h)
-
-  pub each_dropped : (n : ℕ) (xs : List (List ℕ)) → Each P xs → Each P (drop n xs)
-  unfolding Each
-  each_dropped zero xs h = h
-  each_dropped (suc n) [] h = h
-  each_dropped (suc n) (x ∷ xs) h = each_dropped n xs h.1
+      let rest = body_rest style lines in
+      subst (Each (λ (line : ℕ × TextLine). P line.1.content)) (sym rest.1)
+      (each_dropped (λ (line : ℕ × TextLine). P line.1.content) rest.0 lines h)
 
 module _ (P : List ℕ → Type 0) (parts : IsOfParts P) where
   pub of_front : (test : ℕ → Bool) (bytes : List ℕ) → P bytes → P (drop_front test bytes)

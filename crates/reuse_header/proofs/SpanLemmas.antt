@@ -1,15 +1,15 @@
 -- The places of lines within their file.
-use Rattle.std.proofs.Common.{◌≡◌, ℕ, ◌+◌, ◌≤◌, Bool, true, List, [], ◌∷◌, length, length-append, length-drop, refl, ap}
-use Rattle.std.proofs.Common.{◌∙◌, inl, inr, arith}
+use Rattle.std.proofs.Common.{◌≡◌, ℕ, zero, suc, ◌+◌, ◌≤◌, true, List, [], ◌∷◌, length, length-append, length-drop, drop}
+use Rattle.std.proofs.Common.{refl, sym, ap, subst, ◌∙◌, inl, inr, arith}
 use Rattle.std.specs.Prelude.{nat_eq}
 use Rattle.std.specs.List.{starts_with}
 use Rattle.std.proofs.lemmas.Bool.{and_parts}
 use Rattle.reuse_text.specs.Text.{TextLine, line_bytes, text_of, lines_of, placed, file_lines, after_mark, mark_len_of}
 use Rattle.reuse_text.specs.Text.{byte_order_mark}
 use Rattle.reuse_style.specs.declared.style.Style.{Style}
-use Rattle.reuse_header.specs.Body.{PlacedLines, is_shebang, is_declaration, is_barrier, without_first, body_lines}
-use Rattle.reuse_header.specs.Body.{place_in}
+use Rattle.reuse_header.specs.Body.{PlacedLines, is_barrier, body_lines, place_in}
 use Rattle.reuse_header.specs.Neighbour.{closed_lines, neighbour_end}
+use Rattle.reuse_header.proofs.PrefixLemmas.{body_rest}
 use Rattle.std.proofs.lemmas.Bool.{cases_Bool as truth}
 
 -- the last lines of a file, from a place on, and not before another one
@@ -50,13 +50,12 @@ last-next file least line lines last = next last.start last.texts last.later las
           end = omega (arith, end, length-append (line_bytes t) (text_of texts));
         }
 
-last-without_first : (file : List ℕ) (least : ℕ) (test : List ℕ → Bool) (lines : PlacedLines) → AreLast file least lines
-    → AreLast file least (without_first test lines)
-last-without_first file least test [] last = last
-last-without_first file least test (line ∷ lines) last = elim (truth (test line.1.content)) [
-  | inl e ↦ rw e (last-next file least line lines last)
-  | inr e ↦ rw e last
-]
+last-dropped : (file : List ℕ) (least n : ℕ) (lines : PlacedLines) → AreLast file least lines
+    → AreLast file least (drop n lines)
+last-dropped file least zero lines last = last
+last-dropped file least (suc n) [] last = last
+last-dropped file least (suc n) (line ∷ lines) last =
+    last-dropped file least n lines (last-next file least line lines last)
 
 pub last-closed : (file : List ℕ) (least : ℕ) (lines : PlacedLines) → AreLast file least lines
     → AreLast file least (closed_lines lines)
@@ -92,11 +91,10 @@ lines-last file joined = record {
 module _ (joined : (text : List ℕ) → text_of (lines_of text) ≡ text) where
   pub body-within : (style : Style) (file : List ℕ) → place_in file (body_lines style (file_lines file)) ≤ length file
   body-within style file =
-      let lines = file_lines file in
-      let one =
-      last-without_first file (mark_len_of file) is_shebang lines (lines-last file (joined (after_mark file))) in
-      (last-place
-      (last-without_first file (mark_len_of file) (is_declaration style) (without_first is_shebang lines) one)).1
+      let rest = body_rest style (file_lines file) in
+      let last = lines-last file (joined (after_mark file)) in
+      (last-place (subst (AreLast file (mark_len_of file)) (sym rest.1)
+      (last-dropped file (mark_len_of file) rest.0 (file_lines file) last))).1
 
   pub neighbour_end-within : (file : List ℕ)
       → (mark_len_of file ≤ neighbour_end file) × (neighbour_end file ≤ length file)

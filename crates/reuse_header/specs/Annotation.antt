@@ -1,6 +1,6 @@
 -- What annotating makes of a file: the edit that puts the new header block in, or the first refusal (the reuse tool's
 -- manual page of `annotate`; form, place and refusals: docs/RULES.md, "What annotate writes").
-use Rattle.std.specs.Prelude.{ℕ, ◌+◌, ◌-◌, Bool, true, false, not, ◌&&◌, ◌==◌, nat_lt, List, [], ◌∷◌, ◌++◌, length}
+use Rattle.std.specs.Prelude.{ℕ, ◌+◌, ◌-◌, Bool, true, false, not, ◌&&◌, ◌==◌, nat_lt, List, [], ◌∷◌, ◌++◌, length, take}
 use Rattle.std.specs.Prelude.{Option, None, Some, Result, Ok, Err, is_some, unwrap_or, if◌then◌else◌}
 use Rattle.std.specs.Option.{option_map, option_map_or, option_or}
 use Rattle.reuse_text.specs.declared.TheConstants.{LONGEST_FILE}
@@ -15,9 +15,10 @@ use Rattle.reuse_header.specs.declared.annotation.How.{How}
 use Rattle.reuse_header.specs.declared.annotation.HeaderRefusal.{HeaderRefusal}
 use Rattle.reuse_header.specs.declared.annotation.HeaderRefusal.TheVariants.{NoSuchForm, HoldsCloser, TooLong}
 use Rattle.reuse_header.specs.declared.annotation.HeaderRefusal.TheVariants.{Unsettled}
-use Rattle.reuse_style.specs.Styles.{line_comment_of, punctuation_of}
+use Rattle.reuse_style.specs.Styles.{line_comment_of, punctuation_of, first_lines_of, front_matter_of}
 use Rattle.reuse_header.specs.Marks.{LineMarks, marks_of}
-use Rattle.reuse_header.specs.Body.{PlacedLines, is_shebang, is_declaration, without_first, body_lines, place_in}
+use Rattle.reuse_header.specs.Body.{PlacedLines, is_shebang, is_declaration, without_first, first_lines_count}
+use Rattle.reuse_header.specs.Body.{front_matter_count, after_declaration, after_first_lines, body_lines, place_in}
 use Rattle.reuse_header.specs.Header.{HeaderSpan, span_in, header_of}
 use Rattle.reuse_header.specs.Writing.{new_info, block_text, holds_closer}
 
@@ -88,9 +89,18 @@ abbrev pub first_if : (List ℕ → Bool) → PlacedLines → PlacedLines
 first_if test [] = []
 first_if test (line ∷ lines) = if test line.1.content then line ∷ [] else []
 
--- the lines of a file that stay in front of a block
+-- the first of some lines that are a style's first lines, and those that are its front matter
+abbrev pub first_lines_in : Style → PlacedLines → PlacedLines
+first_lines_in style lines = take (first_lines_count (first_lines_of style) lines) lines
+
+abbrev pub front_matter_in : Style → PlacedLines → PlacedLines
+front_matter_in style lines = take (front_matter_count (front_matter_of style) lines) lines
+
+-- the lines of a file that stay in front of a block: an interpreter line, a declaration, first lines and front matter
 unfoldable pub prefix_lines : Style → PlacedLines → PlacedLines
-prefix_lines style lines = first_if is_shebang lines ++ first_if (is_declaration style) (without_first is_shebang lines)
+prefix_lines style lines =
+    first_if is_shebang lines ++ (first_if (is_declaration style) (without_first is_shebang lines)
+    ++ (first_lines_in style (after_declaration style lines) ++ front_matter_in style (after_first_lines style lines)))
 
 -- the kind of a file
 abbrev pub kind_of_file : List ℕ → LineKind

@@ -20,7 +20,9 @@ ghost use Rattle.reuse_notice.specs.Adding.{Arguments, additions_of};
 ghost use Rattle.reuse_notice.specs.Plain.{ArePlain, AreUtf8};
 ghost use Rattle.reuse_header.specs.Blocks.{contents_of, count_to_closer, multi_count, without_returns};
 ghost use Rattle.reuse_style.specs.Marks.{BlockForm};
-ghost use Rattle.reuse_style.specs.Styles.{punctuation_of};
+ghost use Rattle.reuse_style.specs.Styles.{punctuation_of, first_lines_of, front_matter_of, table_style};
+ghost use Rattle.reuse_style.specs.declared.table.TableStyle.{TableStyle};
+ghost use Rattle.reuse_header.specs.PrefixLaws.{IsPrefixCut, HasPlainPrefix};
 ghost use Rattle.reuse_style.specs.declared.marks.Form.{Form};
 ghost use Rattle.reuse_notice.specs.declared.infos.Info.{Info};
 ghost use Rattle.reuse_notice.specs.Infos.{info_of, union_of, merged_of};
@@ -60,6 +62,17 @@ pub fn comment_blocks_are_one()
     ensures only { (style : Style) (contents : List (List ℕ)) (begins : ℕ → Option BlockSize)
         → AreCommentBlocks style contents begins
         → (line : ℕ) → begins line ≡ comment_blocks style contents line }
+{}
+
+/// Lines are the prefix lines and those behind. The prefix lines are an interpreter line, a
+/// declaration, as many of the style's first lines as follow, and its front matter, each where it is
+/// there. With a style that states neither, as with those of the table, they are the first two alone.
+pub fn prefix_lines_stand_in_front()
+    ensures cut { (style : Style) (lines : PlacedLines)
+        → (first : PlacedLines) × (matter : PlacedLines) × IsPrefixCut style lines first matter }
+    ensures plain { (style : Style) (lines : PlacedLines) → first_lines_of style ≡ [] → front_matter_of style ≡ None
+        → HasPlainPrefix style lines }
+    ensures table { (style : TableStyle) (lines : PlacedLines) → HasPlainPrefix (table_style style) lines }
 {}
 
 /// Lines have at most one header split, which the search for the header block finds, and none where

@@ -1,18 +1,18 @@
 //! Where the text of a header block goes in a file, and which endings set it off.
 ghost use Rattle.std.specs.Prelude.{◌≡◌, ℕ, List, ◌+◌, ◌-◌, ◌≤◌, length, true, false, is_some, None};
-ghost use Rattle.std.specs.Option.{option_map, option_map_or, option_to_list};
+ghost use Rattle.std.specs.Option.{option_map, option_map_or};
 ghost use Rattle.reuse_text.specs.Text.{file_lines, mark_len_of};
-ghost use Rattle.reuse_text.specs.Lines.{line_view, lines_left};
-ghost use Rattle.reuse_header.specs.Body.{is_shebang, is_declaration, body_lines, place_in};
+ghost use Rattle.reuse_text.specs.Lines.{lines_left};
+ghost use Rattle.reuse_header.specs.Body.{body_lines, place_in};
 ghost use Rattle.reuse_header.specs.Found.{block_view};
-ghost use Rattle.reuse_header.specs.Annotation.{first_if, prefix_lines, has_lines, is_last_ended, begins_full};
-ghost use Rattle.reuse_header.specs.Annotation.{kind_of_file, edit_of};
+ghost use Rattle.reuse_header.specs.Annotation.{begins_full, kind_of_file, edit_of};
 ghost use Rattle.reuse_header.specs.Neighbour.{closed_lines, neighbour_end, neighbour_edit};
 ghost use Rattle.reuse_header.specs.Drafts.{IsWithin, edit_at};
 ghost use Rattle.reuse_style.specs.declared.style.Style.{Style};
 
-use crate::body::{after_shebang, body_of, is_barrier, is_declaration, is_shebang, place_in};
+use crate::body::{is_barrier, place_in};
 use crate::finder::Block;
+use crate::prefix::pass_prefix;
 use reuse_style::Style;
 use reuse_text::{Line, Lines, lines_are_one, mark_len};
 
@@ -72,14 +72,13 @@ fn place_behind_prefix(file: &[u8], style: &Style<'_>) -> Place
     ensures within { result.start + result.old_len ≤ length file.now }
 {
     places_fit();
-    let body = body_of(file, style);
-    let last = last_prefix_line(Lines::new(file), style);
+    let prefix = pass_prefix(file, style);
     Place {
-        start: place_in(file, body),
+        start: place_in(file, prefix.rest),
         old_len: 0,
-        ends_line: !is_ended(last),
-        empty_before: last.is_some(),
-        empty_behind: begins_full(body),
+        ends_line: !is_ended(prefix.last),
+        empty_before: prefix.last.is_some(),
+        empty_behind: begins_full(prefix.rest),
     }
 }
 
@@ -90,42 +89,6 @@ fn is_ended(line: Option<Line>) -> bool
     match line {
         None => true,
         Some(line) => line.ending.is_some(),
-    }
-}
-
-// The last of the prefix lines.
-#[tactic(auto, unfolding(crate::specs::Annotation::prefix_lines))]
-fn last_prefix_line<'a>(lines: Lines<'a>, style: &Style<'_>) -> Option<Line<'a>>
-    ensures some { is_some result ≡ has_lines (prefix_lines style.now (lines_left lines.entry)) }
-    ensures ended { option_map_or (λ line. is_some line.ending) result true ≡ is_last_ended
-        (prefix_lines style.now (lines_left lines.entry)) }
-{
-    match declaration_line(after_shebang(lines), style) {
-        None => shebang_line(lines),
-        Some(line) => Some(line),
-    }
-}
-
-// The first line, if it names a script's interpreter.
-fn shebang_line<'a>(lines: Lines<'a>) -> Option<Line<'a>>
-    ensures { option_to_list (option_map line_view result) ≡ first_if is_shebang (lines_left lines.entry) }
-{
-    let mut rest = lines;
-    match rest.next() {
-        Some(line) if is_shebang(line.content) => Some(line),
-        _ => None,
-    }
-}
-
-// The first line, if it has to stay in front in the style.
-fn declaration_line<'a>(lines: Lines<'a>, style: &Style<'_>) -> Option<Line<'a>>
-    ensures { option_to_list (option_map line_view result) ≡ first_if (is_declaration style.now)
-        (lines_left lines.entry) }
-{
-    let mut rest = lines;
-    match rest.next() {
-        Some(line) if is_declaration(line.content, style) => Some(line),
-        _ => None,
     }
 }
 

@@ -38,3 +38,4 @@ pub mod SpliceLemmas
 pub mod TableLemmas
 pub mod TextsPut
 pub mod UnusedLemmas
+pub mod OwnFiles

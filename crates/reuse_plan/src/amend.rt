@@ -28,7 +28,7 @@ pub(crate) fn plan_amended<S: Store>(
     store: &mut S,
     paths: &[PathText],
     path: &PathText,
-    asked: &Amendment<'_>,
+    asked: &Amendment<'_, '_>,
 ) -> Result<Option<Change>, Refusal>
     ensures edit { S.honest store.new → ShowsPair paths.now (tree_of (S.files store.old)) path.now → AnswersEdit
         (tree_of (S.files store.old)) (amended_by asked.now (tree_of (S.files store.old)) path.now) result }
@@ -58,7 +58,7 @@ fn plan_table<S: Store>(
     alloc: Global,
     store: &mut S,
     path: &PathText,
-    asked: &Amendment<'_>,
+    asked: &Amendment<'_, '_>,
 ) -> Result<Option<Change>, Refusal>
     ensures edit { S.honest store.new → (bytes : List ℕ) → get (tree_of (S.files store.old)) path.now ≡ Some bytes
         → AnswersEdit (tree_of (S.files store.old)) (table_by asked.now path.now bytes) result }
@@ -72,7 +72,7 @@ fn plan_table<S: Store>(
 fn plan_table_text(
     alloc: Global,
     path: &PathText,
-    asked: &Amendment<'_>,
+    asked: &Amendment<'_, '_>,
     reading: Reading,
 ) -> Result<Option<Change>, Refusal>
     ensures edit { (tree : Files) (bytes : List ℕ) → get tree path.now ≡ Some bytes
@@ -85,11 +85,11 @@ fn plan_table_text(
 }
 
 // The style of a file: the one that is asked for, else that of its name.
-fn style_of<'a>(path: &PathText, asked: &Amendment<'a>) -> Option<Style<'a>>
+fn style_of<'a>(path: &PathText, asked: &Amendment<'_, 'a>) -> Option<Style<'a>>
     ensures { result ≡ style_by asked.now path.now }
 {
     match &asked.scope.style {
-        Some(style) => Some(style.lent()),
+        Some(style) => Some(style.style()),
         None => style_of_kind(asked.styles.style_of(path.text())),
     }
 }
@@ -109,7 +109,7 @@ fn plan_in_neighbour<S: Store>(
     alloc: Global,
     store: &mut S,
     path: &PathText,
-    asked: &Amendment<'_>,
+    asked: &Amendment<'_, '_>,
 ) -> Result<Option<Change>, Refusal>
     ensures edit { S.honest store.new → (bytes : List ℕ)
         → get (tree_of (S.files store.old)) (neighbour_of path.now) ≡ Some bytes
@@ -128,7 +128,7 @@ fn plan_neighbour(
     alloc: Global,
     path: &PathText,
     neighbour: &PathText,
-    asked: &Amendment<'_>,
+    asked: &Amendment<'_, '_>,
     reading: Reading,
 ) -> Result<Option<Change>, Refusal>
     ensures edit { (tree : Files) (bytes : List ℕ) → neighbour.now ≡ neighbour_of path.now
@@ -150,7 +150,7 @@ fn plan_inside<S: Store>(
     store: &mut S,
     path: &PathText,
     style: &Style<'_>,
-    asked: &Amendment<'_>,
+    asked: &Amendment<'_, '_>,
 ) -> Result<Option<Change>, Refusal>
     ensures edit { S.honest store.new → (bytes : List ℕ) → get (tree_of (S.files store.old)) path.now ≡ Some bytes
         → AnswersEdit (tree_of (S.files store.old)) (inside_by asked.now path.now bytes (Some style.now)) result }
@@ -165,7 +165,7 @@ fn plan_block(
     alloc: Global,
     path: &PathText,
     style: &Style<'_>,
-    asked: &Amendment<'_>,
+    asked: &Amendment<'_, '_>,
     reading: Reading,
 ) -> Result<Option<Change>, Refusal>
     ensures edit { (tree : Files) (bytes : List ℕ) → get tree path.now ≡ Some bytes

@@ -26,7 +26,7 @@ pub(crate) fn plan_annotated<S: Store>(
     store: &mut S,
     paths: &[PathText],
     path: &PathText,
-    asked: &Annotation<'_>,
+    asked: &Annotation<'_, '_>,
 ) -> Result<PathPlan, Refusal>
     ensures plan { S.honest store.new → ShowsPair paths.now (tree_of (S.files store.old)) path.now → AnswersPlan Stop
         (tree_of (S.files store.old)) (path_by asked.now (tree_of (S.files store.old)) path.now) result }
@@ -55,7 +55,7 @@ fn plan_in_neighbour<S: Store>(
     store: &mut S,
     paths: &[PathText],
     path: &PathText,
-    asked: &Annotation<'_>,
+    asked: &Annotation<'_, '_>,
 ) -> Result<PathPlan, Refusal>
     ensures plan { S.honest store.new → ShowsPair paths.now (tree_of (S.files store.old)) path.now
         → is_covered path.now ≡ true

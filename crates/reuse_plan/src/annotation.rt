@@ -11,29 +11,29 @@ use reuse_notice::Additions;
 
 /// What is asked of an annotation, and the styles of the tree that it is of.
 #[derive(Clone, Copy)]
-pub(crate) struct Annotation<'a> {
+pub(crate) struct Annotation<'a, 'own> {
     pub(crate) additions: &'a Additions,
     pub(crate) how: &'a How,
     pub(crate) scope: &'a Scope,
-    pub(crate) styles: &'a StyleTable<'static>,
+    pub(crate) styles: &'a StyleTable<'own>,
 }
 
 /// What is asked of an amendment, and the styles of the tree that it is of.
 #[derive(Clone, Copy)]
-pub(crate) struct Amendment<'a> {
+pub(crate) struct Amendment<'a, 'own> {
     pub(crate) amendments: &'a Amendments,
     pub(crate) scope: &'a Scope,
-    pub(crate) styles: &'a StyleTable<'static>,
+    pub(crate) styles: &'a StyleTable<'own>,
 }
 
 /// What is asked of each file: one walk serves both commands.
 #[derive(Clone, Copy)]
-pub(crate) enum FileTask<'a> {
-    Annotation(Annotation<'a>),
-    Amendment(Amendment<'a>),
+pub(crate) enum FileTask<'a, 'own> {
+    Annotation(Annotation<'a, 'own>),
+    Amendment(Amendment<'a, 'own>),
 }
 
-impl<'a> FileTask<'a> {
+impl<'a, 'own> FileTask<'a, 'own> {
     /// Which files are gone through.
     pub(crate) fn scope(&self) -> &'a Scope
         ensures { result.now ≡ scope_of self.now }

@@ -88,7 +88,7 @@ pub(crate) fn neighbour_path(alloc: Global, path: &PathText) -> Result<Option<Pa
 pub(crate) fn plan_reading(
     alloc: Global,
     path: &PathText,
-    asked: &Annotation<'_>,
+    asked: &Annotation<'_, '_>,
     reading: Reading,
 ) -> Result<Step, Refusal>
     ensures step { (tree : Files) (bytes : List ℕ) → get tree path.now ≡ Some bytes
@@ -133,7 +133,7 @@ fn plan_inside(
     path: &PathText,
     bytes: &[u8],
     style: &Style<'_>,
-    asked: &Annotation<'_>,
+    asked: &Annotation<'_, '_>,
 ) -> Result<Step, Refusal>
     requires { length bytes.now ≤ LONGEST_FILE }
     ensures step { (tree : Files) → get tree path.now ≡ Some bytes.now
@@ -158,7 +158,7 @@ pub(crate) fn plan_neighbour(
     alloc: Global,
     path: &PathText,
     neighbour: &PathText,
-    asked: &Annotation<'_>,
+    asked: &Annotation<'_, '_>,
     reading: Reading,
 ) -> Result<PathPlan, Refusal>
     ensures plan { (tree : Files) (bytes : List ℕ) → neighbour.now ≡ neighbour_of path.now
@@ -185,7 +185,7 @@ pub(crate) fn plan_new_neighbour<S: Store>(
     store: &mut S,
     path: &PathText,
     neighbour: PathText,
-    asked: &Annotation<'_>,
+    asked: &Annotation<'_, '_>,
 ) -> Result<Option<Change>, Refusal>
     ensures edit { S.honest store.new → is_covered path.now ≡ true → neighbour ≡ neighbour_of path.now
         → get (tree_of (S.files store.old)) neighbour ≡ None
@@ -204,7 +204,7 @@ fn make_neighbour(
     alloc: Global,
     path: &PathText,
     neighbour: PathText,
-    asked: &Annotation<'_>,
+    asked: &Annotation<'_, '_>,
 ) -> Result<Option<Change>, Refusal>
     ensures edit { (tree : Files) → neighbour ≡ neighbour_of path.now → get tree neighbour ≡ None
         → is_clash tree neighbour ≡ false

@@ -63,7 +63,7 @@ pub(crate) fn find_selected<S: Store>(
     alloc: Global,
     store: &mut S,
     places: &[Place],
-    asked: &FileTask<'_>,
+    asked: &FileTask<'_, '_>,
     unused: &mut Unused,
 ) -> Result<Selected, Refusal>
     ensures paths { S.honest store.new → IfOk result
@@ -133,7 +133,7 @@ fn expanded<S: Store>(
     store: &mut S,
     paths: &[PathText],
     places: &[Place],
-    asked: &FileTask<'_>,
+    asked: &FileTask<'_, '_>,
 ) -> Result<Vec<PathText>, StoreFault>
     ensures found { S.honest store.new → ArePaths paths.now
         → All (ShowsPlace (chooses asked.now) paths.now (tree_of (S.files store.old))) places.now → IfOk result
@@ -156,7 +156,7 @@ fn push_expanded<S: Store>(
     found: &mut Vec<PathText>,
     paths: &[PathText],
     place: &Place,
-    asked: &FileTask<'_>,
+    asked: &FileTask<'_, '_>,
 ) -> Result<(), StoreFault>
     ensures adds { S.honest store.new → ArePaths paths.now
         → ShowsPlace (chooses asked.now) paths.now (tree_of (S.files store.old)) place.now
@@ -207,7 +207,7 @@ fn push_chosen(
     alloc: Global,
     found: &mut Vec<PathText>,
     paths: &[PathText],
-    asked: &FileTask<'_>,
+    asked: &FileTask<'_, '_>,
 ) -> Result<(), AllocError>
     ensures { OnOk result (found.new.items ≡ found.old.items ++ filter (chooses asked.now) paths.now) }
 {
@@ -221,7 +221,7 @@ fn push_if_chosen(
     alloc: Global,
     found: &mut Vec<PathText>,
     path: &PathText,
-    asked: &FileTask<'_>,
+    asked: &FileTask<'_, '_>,
 ) -> Result<(), AllocError>
     ensures { OnOk result (found.new.items ≡ found.old.items ++ filter (chooses asked.now) (path.now ∷ [])) }
 {
@@ -255,7 +255,7 @@ fn push_path(alloc: Global, paths: &mut Vec<PathText>, place: &Place) -> Result<
 }
 
 // Whether a file beneath a folder is chosen.
-fn is_chosen(asked: &FileTask<'_>, path: &PathText) -> bool
+fn is_chosen(asked: &FileTask<'_, '_>, path: &PathText) -> bool
     ensures { result ≡ chooses asked.now path.now }
 {
     let scope = asked.scope();

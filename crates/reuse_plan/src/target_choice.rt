@@ -35,7 +35,7 @@ pub(crate) fn goes_to_neighbour(
     alloc: Global,
     paths: &[PathText],
     path: &PathText,
-    asked: &Annotation<'_>,
+    asked: &Annotation<'_, '_>,
 ) -> Result<bool, AllocError>
     ensures { (tree : Files) → ShowsPair paths.now tree path.now
         → IfOk result (λ beside. beside ≡ goes_to_neighbour asked.now.scope.now (own_of asked.now) tree path.now) }
@@ -45,7 +45,7 @@ pub(crate) fn goes_to_neighbour(
 }
 
 /// Whether the neighbour is the place, though it may not be there and whatever the file holds.
-pub(crate) fn goes_to_neighbour_unread(path: &PathText, asked: &Annotation<'_>) -> bool
+pub(crate) fn goes_to_neighbour_unread(path: &PathText, asked: &Annotation<'_, '_>) -> bool
     ensures { result ≡ goes_to_neighbour_unread asked.now.scope.now (own_of asked.now) path.now }
 {
     asked.scope.force_dot_license
@@ -67,7 +67,7 @@ pub(crate) fn target_by_bytes<'a>(
     alloc: Global,
     path: &PathText,
     bytes: &[u8],
-    asked: &Annotation<'a>,
+    asked: &Annotation<'_, 'a>,
 ) -> Result<Target<'a>, Refusal>
     requires { length bytes.now ≤ LONGEST_FILE }
     ensures target { AnswersOf (place_by asked.now path.now bytes.now) result }
@@ -83,14 +83,14 @@ pub(crate) fn target_by_bytes<'a>(
 fn target_by_style<'a>(
     alloc: Global,
     path: &PathText,
-    asked: &Annotation<'a>,
+    asked: &Annotation<'_, 'a>,
 ) -> Result<Target<'a>, Refusal>
     ensures target { AnswersOf
         (target_by_style asked.now.scope.now (own_of asked.now) path.now asked.now.scope.now.style) result }
     ensures no_fault { IfErr result IsNoFault }
 {
     match &asked.scope.style {
-        Some(style) => Ok(Target::Inside(style.lent())),
+        Some(style) => Ok(Target::Inside(style.style())),
         None => target_by_name(alloc, path, asked.scope.unknown, asked.styles),
     }
 }

@@ -40,7 +40,7 @@ impl Unused {
     /// Of the one that is asked for, where these paths were found, and those of them are selected.
     pub(crate) fn of(
         alloc: Global,
-        asked: &FileTask<'_>,
+        asked: &FileTask<'_, '_>,
         selected: &[PathText],
         found: &[PathText],
     ) -> Result<Unused, AllocError>
@@ -81,7 +81,7 @@ fn is_unmet(scope: &Scope, selected: &[PathText], path: &PathText) -> bool
 // Of each glob whether it left none out.
 fn idle_globs(
     alloc: Global,
-    asked: &FileTask<'_>,
+    asked: &FileTask<'_, '_>,
     selected: &[PathText],
     found: &[PathText],
 ) -> Result<Vec<bool>, AllocError>
@@ -99,7 +99,7 @@ fn idle_globs(
 }
 
 fn leaves_none_out(
-    asked: &FileTask<'_>,
+    asked: &FileTask<'_, '_>,
     selected: &[PathText],
     found: &[PathText],
     glob: &Glob,
@@ -112,7 +112,12 @@ fn leaves_none_out(
         .any(|path| is_left_out_by(asked, selected, glob, path))
 }
 
-fn is_left_out_by(asked: &FileTask<'_>, selected: &[PathText], glob: &Glob, path: &PathText) -> bool
+fn is_left_out_by(
+    asked: &FileTask<'_, '_>,
+    selected: &[PathText],
+    glob: &Glob,
+    path: &PathText,
+) -> bool
     requires { ArePaths selected.now }
     ensures { result ≡ is_left_out_by (works_on asked.now) (scope_of asked.now) selected.now glob.now path.now }
 {

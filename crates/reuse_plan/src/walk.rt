@@ -3,12 +3,13 @@
 ghost use Rattle.std.specs.Prelude.{map, OnOk};
 ghost use Rattle.reuse_plan.specs.FileTask.{at_by, at_places_by, scope_of, works_on};
 ghost use Rattle.reuse_command.specs.Command.{HoldsEntry};
-ghost use Rattle.reuse_plan.specs.Outcome.{path_edits_of, amendments_by};
+ghost use Rattle.reuse_plan.specs.Outcome.{path_edits_of, amendments_by, annotations_by};
 ghost use Rattle.reuse_plan.specs.PathPlans.{AnswersPlan, AnswersPlans, EndsWalk};
 ghost use Rattle.reuse_command.specs.Reading.{tree_of, IsOfPlan, ReadsAlone};
 ghost use Rattle.reuse_plan.specs.Shown.{ShowsEach, ShowsOne, ShowsPair};
 ghost use Rattle.reuse_plan.specs.Tables.{is_amendable};
-ghost use Rattle.reuse_plan.specs.TreeStyles.{styles_in};
+ghost use Rattle.reuse_plan.specs.TreeStyles.{styles_given, styles_in};
+ghost use Rattle.reuse_command.specs.Covered.{is_covered};
 ghost use Rattle.reuse_plan.specs.Unused.{AreUnusedAt, AreUnusedBy, AreUnusedIf};
 ghost use Rattle.reuse_plan.specs.declared.path_plan.Policy.TheVariants.{Stop};
 
@@ -20,13 +21,15 @@ use crate::download::plan_download;
 use crate::path_plan::{PathPlan, Policy};
 use crate::revert::plan_revert;
 use crate::select::{Listing, find_selected, gives_root};
-use crate::styles::read_styles;
+use crate::styles::{OwnFiles, read_own_files, styles_by};
 use crate::tree_paths::pair_paths;
 use crate::unused::Unused;
 use reuse_amend::Amendments;
 use reuse_change::PathText;
 use reuse_command::command::{Command, Place, Scope};
 use reuse_command::reply::Refusal;
+use reuse_header::How;
+use reuse_notice::Additions;
 use reuse_store::Store;
 use std::alloc::Global;
 
@@ -52,18 +55,15 @@ pub(crate) fn plan_command<S: Store>(
             additions,
             how,
             scope,
-        } => match read_styles(alloc, store) {
-            Ok(styles) => {
-                let asked = FileTask::Annotation(Annotation {
-                    additions,
-                    how,
-                    scope,
-                    styles: &styles,
-                });
-                plan_places(alloc, store, places.as_slice(), &asked, policy, unused)
-            }
-            Err(refusal) => policy.refused_alone(alloc, refusal),
-        },
+        } => {
+            let annotating = Annotating {
+                places: places.as_slice(),
+                additions,
+                how,
+                scope,
+            };
+            plan_annotation(alloc, store, &annotating, policy, unused)
+        }
         Command::Amend {
             places,
             amendments,
@@ -95,12 +95,74 @@ pub(crate) fn plan_command<S: Store>(
     }
 }
 
+// What an annotation annotates, and how.
+#[derive(Clone, Copy)]
+struct Annotating<'a> {
+    places: &'a [Place],
+    additions: &'a Additions,
+    how: &'a How,
+    scope: &'a Scope,
+}
+
 // What an amendment amends, and how.
 #[derive(Clone, Copy)]
 struct Amending<'a> {
     places: &'a [Place],
     amendments: &'a Amendments,
     scope: &'a Scope,
+}
+
+// What an annotation would do.
+fn plan_annotation<S: Store>(
+    alloc: Global,
+    store: &mut S,
+    annotating: &Annotating<'_>,
+    policy: Policy,
+    unused: &mut Unused,
+) -> Result<Vec<PathPlan>, Refusal>
+    ensures plans { S.honest store.new → AnswersPlans policy (tree_of (S.files store.old))
+        (annotations_by annotating.now.places.now annotating.now.additions.now annotating.now.how.now
+        annotating.now.scope.now (tree_of (S.files store.old)) (styles_in (tree_of (S.files store.old)))) result }
+    ensures unused { S.honest store.new → OnOk result
+        (AreUnusedIf (styles_in (tree_of (S.files store.old))) is_covered annotating.now.scope.now
+        annotating.now.places.now (tree_of (S.files store.old)) unused.new) }
+    ensures asks { ReadsAlone S.Store (EndsWalk policy) store.old store.new result }
+{
+    match read_own_files(alloc, store) {
+        Ok(own) => annotate_by(alloc, store, annotating, &own, policy, unused),
+        Err(refusal) => policy.refused_alone(alloc, refusal),
+    }
+}
+
+// What it would do where the tree states this of its own styles.
+fn annotate_by<S: Store>(
+    alloc: Global,
+    store: &mut S,
+    annotating: &Annotating<'_>,
+    own: &OwnFiles,
+    policy: Policy,
+    unused: &mut Unused,
+) -> Result<Vec<PathPlan>, Refusal>
+    ensures plans { S.honest store.new → AnswersPlans policy (tree_of (S.files store.old))
+        (annotations_by annotating.now.places.now annotating.now.additions.now annotating.now.how.now
+        annotating.now.scope.now (tree_of (S.files store.old)) (styles_given own.now.styles own.now.comments)) result }
+    ensures unused { S.honest store.new → OnOk result
+        (AreUnusedIf (styles_given own.now.styles own.now.comments) is_covered annotating.now.scope.now
+        annotating.now.places.now (tree_of (S.files store.old)) unused.new) }
+    ensures asks { ReadsAlone S.Store (EndsWalk policy) store.old store.new result }
+{
+    match styles_by(alloc, own) {
+        Ok(styles) => {
+            let asked = FileTask::Annotation(Annotation {
+                additions: annotating.additions,
+                how: annotating.how,
+                scope: annotating.scope,
+                styles: &styles,
+            });
+            plan_places(alloc, store, annotating.places, &asked, policy, unused)
+        }
+        Err(refusal) => policy.refused_alone(alloc, refusal),
+    }
 }
 
 // What an amendment would do.
@@ -119,7 +181,30 @@ fn plan_amendment<S: Store>(
         amending.now.places.now (tree_of (S.files store.old)) unused.new) }
     ensures asks { ReadsAlone S.Store (EndsWalk policy) store.old store.new result }
 {
-    match read_styles(alloc, store) {
+    match read_own_files(alloc, store) {
+        Ok(own) => amend_by(alloc, store, amending, &own, policy, unused),
+        Err(refusal) => policy.refused_alone(alloc, refusal),
+    }
+}
+
+// What it would do where the tree states this of its own styles.
+fn amend_by<S: Store>(
+    alloc: Global,
+    store: &mut S,
+    amending: &Amending<'_>,
+    own: &OwnFiles,
+    policy: Policy,
+    unused: &mut Unused,
+) -> Result<Vec<PathPlan>, Refusal>
+    ensures plans { S.honest store.new → AnswersPlans policy (tree_of (S.files store.old))
+        (amendments_by amending.now.places.now amending.now.amendments.now amending.now.scope.now
+        (tree_of (S.files store.old)) (styles_given own.now.styles own.now.comments)) result }
+    ensures unused { S.honest store.new → OnOk result
+        (AreUnusedIf (styles_given own.now.styles own.now.comments) is_amendable amending.now.scope.now
+        amending.now.places.now (tree_of (S.files store.old)) unused.new) }
+    ensures asks { ReadsAlone S.Store (EndsWalk policy) store.old store.new result }
+{
+    match styles_by(alloc, own) {
         Ok(styles) => {
             let asked = FileTask::Amendment(Amendment {
                 amendments: amending.amendments,
@@ -137,7 +222,7 @@ fn plan_places<S: Store>(
     alloc: Global,
     store: &mut S,
     places: &[Place],
-    asked: &FileTask<'_>,
+    asked: &FileTask<'_, '_>,
     policy: Policy,
     unused: &mut Unused,
 ) -> Result<Vec<PathPlan>, Refusal>
@@ -170,7 +255,7 @@ fn plan_paths<S: Store>(
     store: &mut S,
     selected: &[PathText],
     listing: &Listing,
-    asked: &FileTask<'_>,
+    asked: &FileTask<'_, '_>,
     policy: Policy,
 ) -> Result<Vec<PathPlan>, Refusal>
     ensures plans { S.honest store.new → ShowsEach listing.now (tree_of (S.files store.old)) selected.now
@@ -195,7 +280,7 @@ fn plan_one<S: Store>(
     store: &mut S,
     path: &PathText,
     listing: &Listing,
-    asked: &FileTask<'_>,
+    asked: &FileTask<'_, '_>,
     policy: Policy,
 ) -> Result<PathPlan, Refusal>
     ensures plan { S.honest store.new → ShowsOne listing.now (tree_of (S.files store.old)) path.now → AnswersPlan policy
@@ -217,7 +302,7 @@ fn plan_alone<S: Store>(
     alloc: Global,
     store: &mut S,
     path: &PathText,
-    asked: &FileTask<'_>,
+    asked: &FileTask<'_, '_>,
 ) -> Result<PathPlan, Refusal>
     ensures plan { S.honest store.new → AnswersPlan Stop (tree_of (S.files store.old))
         (at_by asked.now (tree_of (S.files store.old)) path.now) result }
@@ -235,7 +320,7 @@ fn plan_path<S: Store>(
     store: &mut S,
     paths: &[PathText],
     path: &PathText,
-    asked: &FileTask<'_>,
+    asked: &FileTask<'_, '_>,
 ) -> Result<PathPlan, Refusal>
     ensures plan { S.honest store.new → ShowsPair paths.now (tree_of (S.files store.old)) path.now → AnswersPlan Stop
         (tree_of (S.files store.old)) (at_by asked.now (tree_of (S.files store.old)) path.now) result }

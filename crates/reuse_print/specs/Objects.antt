@@ -84,6 +84,7 @@ refused_path refusals.NoDep5 = Some (codes ".reuse/dep5")
 refused_path (refusals.Dep5 dep5.Memory) = None
 refused_path (refusals.Dep5 refusal) = Some (codes ".reuse/dep5")
 refused_path (refusals.BadStyles refusal) = Some (codes ".reuse/styles.toml")
+refused_path (refusals.BadComments refusal) = Some (codes ".reuse/comments.toml")
 refused_path refusal = None
 
 abbrev pub path_value : Option (List ℕ) → Data

@@ -219,6 +219,7 @@ fn refused_path(refusal: &Refusal) -> Option<&str>
         Refusal::Dep5(Dep5Refusal::Memory) => None,
         Refusal::NoDep5 | Refusal::Dep5(_) => Some(".reuse/dep5"),
         Refusal::BadStyles(_) => Some(".reuse/styles.toml"),
+        Refusal::BadComments(_) => Some(".reuse/comments.toml"),
         _ => None,
     }
 }

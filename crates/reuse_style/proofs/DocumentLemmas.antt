@@ -6,14 +6,15 @@ use Rattle.std.specs.Str.{bytes_eq}
 use Rattle.std.proofs.lemmas.Bool.Decides.{Decides-int_eq}
 use Rattle.std.proofs.lemmas.Slice.Eq.{bytes_eq-Decides}
 use Rattle.toml.specs.Data.{Data, string, integer, float, boolean, datetime, array, table, Members, no_members, member}
-use Rattle.reuse_style.specs.StyleFile.{NamedText, texts_in, texts_of_value, is_version, texts_of_document}
+use Rattle.reuse_style.specs.Documents.{is_version}
+use Rattle.reuse_style.specs.StyleFile.{NamedText, texts_in, texts_of_value, texts_of_document}
 use Rattle.reuse_style.specs.StyleFile.{text_members, document_of}
 
-if_some : {X : Type 0} (b : Bool) (o : Option X) (x : X) → cond b o None ≡ Some x → (b ≡ true) × (o ≡ Some x)
+pub if_some : {X : Type 0} (b : Bool) (o : Option X) (x : X) → cond b o None ≡ Some x → (b ≡ true) × (o ≡ Some x)
 if_some true o x e = (refl, e)
 if_some false o x e = absurd (let no : ⊥ = cc in no)
 
-both : (a b : Bool) → (a && b) ≡ true → (a ≡ true) × (b ≡ true)
+pub both : (a b : Bool) → (a && b) ≡ true → (a ≡ true) × (b ≡ true)
 both true b e = (refl, e)
 both false b e = absurd (let no : ⊥ = cc in no)
 
@@ -52,7 +53,7 @@ value_is (boolean b) texts e = absurd (let no : ⊥ = cc e in no)
 value_is (datetime d) texts e = absurd (let no : ⊥ = cc e in no)
 value_is (array ds) texts e = absurd (let no : ⊥ = cc e in no)
 
-version_is : (value : Data) → is_version value ≡ true → value ≡ integer (pos 1)
+pub version_is : (value : Data) → is_version value ≡ true → value ≡ integer (pos 1)
 version_is (integer z) e = ap integer ((Decides-int_eq z (pos 1)).0 e)
 version_is (string s) e = absurd (let no : ⊥ = cc e in no)
 version_is (float x) e = absurd (let no : ⊥ = cc e in no)

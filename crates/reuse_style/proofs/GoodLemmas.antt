@@ -12,13 +12,12 @@ use Rattle.std.proofs.lemmas.List.Folds.{list_all-append}
 use Rattle.std.proofs.lemmas.Slice.Eq.{starts_is}
 use lib.Pointwise.{pointwise}
 use Rattle.reuse_text.specs.Text.{is_empty}
-use Rattle.reuse_style.specs.declared.marks.Declaration.{Declaration}
 use Rattle.reuse_style.specs.declared.marks.MarksFault.TheVariants.{NotPlain, Empty, EndsInSpace, Lead, BeginAlike}
 use Rattle.reuse_style.specs.declared.marks.MarksFault.TheVariants.{CloserInOpener, LastLine, Middle}
 use Rattle.reuse_style.specs.Search.{place_of, holds}
 use Rattle.reuse_style.specs.Marks.{GoodStyle, LineForm, BlockForm, CommentMarks, with_sign, punctuation_in, marks_in}
 use Rattle.reuse_style.specs.Marks.{is_plain, mark_fault, first_mark_fault, is_filling, is_lead, closes, is_middle}
-use Rattle.reuse_style.specs.Marks.{if_line, if_block, leads_follow, begin_apart, forms_fault, is_good}
+use Rattle.reuse_style.specs.Marks.{if_line, if_block, leads_follow, begin_apart, forms_fault, prefix_fault, is_good}
 use Rattle.reuse_style.specs.Styles.{line_comment_of, block_comment_of, punctuation_of}
 
 -- ---- what is kept
@@ -229,8 +228,9 @@ no_faults : (marks : CommentMarks) → is_good marks ≡ true
     → NoMarkFault marks × NoFormsFault (punctuation_in marks) marks
 unfolding is_good
 no_faults marks e =
-    let both = both_none (first_mark_fault (marks_in marks)) (forms_fault (punctuation_in marks) marks) (none_is _ e) in
-    (no_mark_fault marks both.0, no_forms_fault (punctuation_in marks) marks both.1)
+    let both = both_none (first_mark_fault (marks_in marks)) _ (none_is _ e) in
+    let forms = both_none (forms_fault (punctuation_in marks) marks) (prefix_fault marks) both.1 in
+    (no_mark_fault marks both.0, no_forms_fault (punctuation_in marks) marks forms.0)
 
 line_by : (punct : List ℕ) (line : Option LineForm)
     → option_and_then mark_fault (option_map (λ form. form.marker) line) ≡ None
@@ -241,18 +241,22 @@ line_by punct (Some form) mark lead = record {
   lead = follows punct form.marker form.lead lead;
 }
 
-block_by : (punct : List ℕ) (declaration : Declaration) (line : Option LineForm) (block : Option BlockForm)
-    → (let marks : CommentMarks = record { line = line; block = block; declaration = declaration } in
-    NoMarkFault marks → option_map_or (λ form. is_lead punct (unwrap_or form.middle []) form.lead) block true ≡ true
-    → NoFormsFault punct marks → IsBlockGood punct block)
-block_by punct declaration line None m lead f = tt
-block_by punct declaration line (Some form) m lead f = record {
-  opener = mark_is form.opener m.opener;
-  middle = middles_are form.middle m.middle f.middle;
-  closer = mark_is form.closer m.closer;
-  last_line = mark_is form.last_line m.last_line;
+block_by : (punct : List ℕ) (block : Option BlockForm)
+    → option_and_then mark_fault (option_map (λ form. form.opener) block) ≡ None
+    → option_and_then mark_fault (option_and_then (λ form. form.middle) block) ≡ None
+    → option_and_then mark_fault (option_map (λ form. form.closer) block) ≡ None
+    → option_and_then mark_fault (option_map (λ form. form.last_line) block) ≡ None
+    → option_map_or (λ form. is_lead punct (unwrap_or form.middle []) form.lead) block true ≡ true
+    → option_map_or (λ form. closes punct form.closer form.last_line) block true ≡ true
+    → option_map_or (λ form. option_map_or is_middle form.middle true) block true ≡ true → IsBlockGood punct block
+block_by punct None opener middle closer last_line lead ends short = tt
+block_by punct (Some form) opener middle closer last_line lead ends short = record {
+  opener = mark_is form.opener opener;
+  middle = middles_are form.middle middle short;
+  closer = mark_is form.closer closer;
+  last_line = mark_is form.last_line last_line;
   lead = follows punct (unwrap_or form.middle []) form.lead lead;
-  ends = closer_ends punct form.closer form.last_line f.ends;
+  ends = closer_ends punct form.closer form.last_line ends;
 }
 
 apart_by : (line : Option LineForm) (block : Option BlockForm)
@@ -284,8 +288,8 @@ module _ (style : GoodStyle) where
   pub block_good : IsBlockGood (punctuation_of style) (block_comment_of style)
   block_good =
       let both = no_faults style.marks style.good in
-      block_by (punctuation_of style) style.marks.declaration (line_comment_of style)
-      (block_comment_of style) both.0 leads_of.1 both.1
+      block_by (punctuation_of style) (block_comment_of style) both.0.opener both.0.middle both.0.closer
+      both.0.last_line leads_of.1 both.1.ends both.1.middle
 
   pub forms_apart : AreFormsApart (line_comment_of style) (block_comment_of style)
   forms_apart = apart_by (line_comment_of style) (block_comment_of style) (no_faults style.marks style.good).1.apart

@@ -5,3 +5,5 @@ pub mod StyleFileLemmas
 pub mod DocumentLemmas
 pub mod SameLemmas
 pub mod GoodLemmas
+pub mod CommentDocumentLemmas
+pub mod CommentLemmas

@@ -3,5 +3,8 @@ pub mod Marks
 pub mod MarkViews
 pub mod Styles
 pub mod Names
+pub mod Documents
 pub mod StyleFile
+pub mod CommentFile
+pub mod CommentViews
 pub mod Keyed

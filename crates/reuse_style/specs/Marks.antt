@@ -6,11 +6,13 @@ use Rattle.std.specs.Prelude.{option_and_then, if◌then◌else◌}
 use Rattle.std.specs.List.{starts_with, ends_with, list_all, list_any}
 use Rattle.std.specs.Option.{option_map, option_map_or, option_or}
 use Rattle.std.specs.Char.{is_ascii_graphic, is_ascii_punctuation}
+use Rattle.std.specs.Str.{bytes_eq}
 use Rattle.reuse_text.specs.Text.{is_empty}
 use Rattle.reuse_style.specs.declared.marks.Declaration.{Declaration}
 use Rattle.reuse_style.specs.declared.marks.MarksFault.{MarksFault}
 use Rattle.reuse_style.specs.declared.marks.MarksFault.TheVariants.{NotPlain, Empty, EndsInSpace, Lead, BeginAlike}
 use Rattle.reuse_style.specs.declared.marks.MarksFault.TheVariants.{CloserInOpener, LastLine, Middle}
+use Rattle.reuse_style.specs.declared.marks.MarksFault.TheVariants.{FirstLines, FrontMatter}
 use Rattle.reuse_style.specs.Search.{place_of, holds}
 
 -- comments on single lines: what marks one, and what a tag is written after
@@ -27,11 +29,19 @@ pub record BlockForm : Type 0 where
   pub last_line : List ℕ
   pub lead : List ℕ
 
--- the comments of a style: on single lines, over several, and the line that stays in front of them
+-- front matter: the texts of its first and of its last line
+pub record FrontMatterForm : Type 0 where
+  pub first_line : List ℕ
+  pub last_line : List ℕ
+
+-- the comments of a style, on single lines and over several, and the prefix lines, which stay in front of them: a
+-- declaration, lines with one of some beginnings, and front matter
 pub record CommentMarks : Type 0 where
   pub line : Option LineForm
   pub block : Option BlockForm
   pub declaration : Declaration
+  pub first_lines : List (List ℕ)
+  pub front_matter : Option FrontMatterForm
 
 -- the marks, of which some may be missing
 abbrev pub marks_in : CommentMarks → List (Option (List ℕ))
@@ -117,9 +127,41 @@ forms_fault punct marks =
     else if not (if_block (λ block. option_map_or is_middle block.middle true) marks) then Some Middle
     else None
 
+-- ---- good prefix lines
+
+-- whether a text begins with one of some beginnings
+abbrev pub begins_with_one : List (List ℕ) → List ℕ → Bool
+begins_with_one beginnings text = list_any (λ beginning. starts_with nat_eq text beginning) beginnings
+
+-- the beginnings of first lines are printed ASCII, and not empty
+abbrev pub are_beginnings : List (List ℕ) → Bool
+are_beginnings beginnings = list_all (λ beginning. list_all is_plain beginning && not (is_empty beginning)) beginnings
+
+-- no comment that is written begins as a first line does
+abbrev pub begin_unlike_first_lines : CommentMarks → Bool
+begin_unlike_first_lines marks =
+    if_line (λ line. not (begins_with_one marks.first_lines line.lead)) marks && if_block
+    (λ block. not (begins_with_one marks.first_lines block.opener)) marks
+
+-- the lines of front matter are marks, and its first line is no first line of the style, and opens no comment
+abbrev pub is_front_matter : CommentMarks → FrontMatterForm → Bool
+is_front_matter marks matter =
+    is_none (mark_fault matter.first_line) && is_none (mark_fault matter.last_line) && not
+    (begins_with_one marks.first_lines matter.first_line) && if_block
+    (λ block. not (bytes_eq block.opener matter.first_line)) marks
+
+-- what is wrong with prefix lines
+unfoldable pub prefix_fault : CommentMarks → Option MarksFault
+prefix_fault marks =
+    if not (are_beginnings marks.first_lines && begin_unlike_first_lines marks) then Some FirstLines
+    else if not (option_map_or (is_front_matter marks) marks.front_matter true) then Some FrontMatter
+    else None
+
 -- the first condition of good marks that marks don't keep
 abbrev pub marks_fault : CommentMarks → Option MarksFault
-marks_fault marks = option_or (first_mark_fault (marks_in marks)) (forms_fault (punctuation_in marks) marks)
+marks_fault marks =
+    option_or (first_mark_fault (marks_in marks))
+    (option_or (forms_fault (punctuation_in marks) marks) (prefix_fault marks))
 
 unfoldable pub is_good : CommentMarks → Bool
 is_good marks = is_none (marks_fault marks)

@@ -7,8 +7,8 @@ use Rattle.reuse_style.specs.declared.table.TableStyle.TheVariants.{Ml, Vim}
 use Rattle.reuse_style.specs.declared.marks.Declaration.{Declaration}
 use Rattle.reuse_style.specs.declared.marks.Declaration.TheVariants as declarations
 use Rattle.reuse_style.specs.Search.{place_of}
-use Rattle.reuse_style.specs.Marks.{LineForm, BlockForm, CommentMarks, GoodStyle, is_good, first_mark_fault}
-use Rattle.reuse_style.specs.Marks.{forms_fault, punctuation_in}
+use Rattle.reuse_style.specs.Marks.{LineForm, BlockForm, FrontMatterForm, CommentMarks, GoodStyle, is_good}
+use Rattle.reuse_style.specs.Marks.{first_mark_fault, forms_fault, prefix_fault, punctuation_in}
 
 -- ---- what a style says of comments
 
@@ -26,6 +26,12 @@ punctuation_of style = punctuation_in style.marks
 
 abbrev pub declaration_of : GoodStyle → Declaration
 declaration_of style = style.marks.declaration
+
+abbrev pub first_lines_of : GoodStyle → List (List ℕ)
+first_lines_of style = style.marks.first_lines
+
+abbrev pub front_matter_of : GoodStyle → Option FrontMatterForm
+front_matter_of style = style.marks.front_matter
 
 -- ---- the styles of the table
 
@@ -101,12 +107,18 @@ table_declaration C = declarations.PhpTag
 table_declaration Html = declarations.XmlDeclaration
 table_declaration other = declarations.Nothing
 
--- the marks of each style, which are good
+-- the marks of each style, which are good; none has first lines or front matter
 abbrev pub table_marks : TableStyle → CommentMarks
-table_marks style = record { line = table_line style; block = table_block style; declaration = table_declaration style }
+table_marks style = record {
+  line = table_line style;
+  block = table_block style;
+  declaration = table_declaration style;
+  first_lines = [];
+  front_matter = None;
+}
 
 pub table_good : (style : TableStyle) → is_good (table_marks style) ≡ true
-unfolding is_good first_mark_fault forms_fault punctuation_in place_of
+unfolding is_good first_mark_fault forms_fault prefix_fault punctuation_in place_of
 table_good Python = refl
 table_good C = refl
 table_good Css = refl

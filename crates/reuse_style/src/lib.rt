@@ -2,8 +2,18 @@
 //! the table of names, and the names that a project gives styles itself (`.reuse/styles.toml`).
 #![tactic(auto)]
 
+mod comment_table;
+mod comment_texts;
+mod comments_refusal;
+mod documents;
 mod laws;
+mod mark;
 mod marks;
+mod named_style;
+mod own_comments;
+mod own_prefix;
+mod own_style;
+mod prefix_marks;
 mod search;
 mod style;
 mod style_file;
@@ -11,10 +21,18 @@ mod style_refusal;
 mod style_table;
 mod table;
 
-pub use laws::{own_names_stand_first, punctuation_keeps_tags, style_documents_are_stated};
-pub use marks::{
-    BlockComment, Comments, Declaration, Form, LineComment, MarksFault, marks_fault, punctuation_of,
+pub use comment_table::CommentTable;
+pub use comments_refusal::CommentsRefusal;
+pub use laws::{
+    comment_documents_are_stated, own_names_stand_first, own_styles_have_their_marks,
+    punctuation_keeps_tags, style_documents_are_stated,
 };
+pub use marks::{
+    BlockComment, Comments, Declaration, Form, FrontMatter, LineComment, MarksFault, marks_fault,
+    punctuation_of,
+};
+pub use named_style::NamedStyle;
+pub use prefix_marks::begins_with_one;
 pub use search::{find_text, holds};
 pub use style::{Kind, Style};
 pub use style_refusal::StylesRefusal;

@@ -9,9 +9,12 @@ ghost use Rattle.reuse_style.specs.Marks.{begin_apart, forms_fault, marks_fault}
 ghost use Rattle.reuse_style.specs.Search.{holds};
 ghost use Rattle.reuse_style.specs.MarkViews.{block_view, comments_view};
 
+use crate::mark::first_mark_fault;
+use crate::prefix_marks::prefix_fault;
 use crate::search::{find_text, holds};
 use reuse_text::Bytes;
 use std::alloc::{AllocError, Global};
+use thiserror::Error;
 
 /// The form of a comment block: each line by itself, or one comment over all lines.
 #[derive(Clone, Copy, Debug, PartialEq, Eq)]
@@ -68,6 +71,16 @@ pub enum Declaration {
     XmlDeclaration,
 }
 
+/// Front matter that stays in front of comments: the lines from one that is the first line's text,
+/// blanks at its end apart, up to the next one that is the last line's.
+#[derive(Clone, Copy, Debug)]
+pub struct FrontMatter<'a> {
+    /// The text of its first line.
+    pub first_line: &'a [u8],
+    /// The text of its last line.
+    pub last_line: &'a [u8],
+}
+
 /// The comments of a style.
 #[derive(Clone, Copy, Debug)]
 pub struct Comments<'a> {
@@ -77,27 +90,46 @@ pub struct Comments<'a> {
     pub block: Option<BlockComment<'a>>,
     /// The line that stays in front of them.
     pub declaration: Declaration,
+    /// What the lines begin with that stay in front of them behind that one.
+    pub first_lines: &'a [Bytes],
+    /// The front matter that stays in front of them behind those, if there is such.
+    pub front_matter: Option<FrontMatter<'a>>,
 }
 
 /// Why marks are not good, in the order in which the reasons are looked for.
-#[derive(Clone, Copy, Debug, PartialEq, Eq)]
+#[derive(Clone, Copy, Debug, Drop, PartialEq, Eq, Error)]
 pub enum MarksFault {
     /// A mark has a byte that is not printable ASCII.
+    #[error("a mark has a byte that is not printable ASCII")]
     NotPlain,
     /// A mark is empty.
+    #[error("a mark is empty")]
     Empty,
     /// A mark ends in a space.
+    #[error("a mark ends in a space")]
     EndsInSpace,
     /// A lead is not the marker, or the middle, with spaces and punctuation behind it.
+    #[error("a lead is not the marker, or the middle, with spaces and punctuation behind it")]
     Lead,
     /// The marker begins with the opener, or the opener with the marker.
+    #[error("the marker begins with the opener, or the opener with the marker")]
     BeginAlike,
     /// The closer stands in the opener.
+    #[error("the closer stands in the opener")]
     CloserInOpener,
     /// The last line is not the closer behind spaces and punctuation, or holds it before.
+    #[error("the last line is not the closer behind spaces and punctuation, or holds it before")]
     LastLine,
     /// The middle is not one byte of punctuation behind spaces.
+    #[error("the middle is not one byte of punctuation behind spaces")]
     Middle,
+    /// A beginning of first lines is empty, or has a byte that is not printable ASCII, or a
+    /// comment begins with it.
+    #[error("first lines begin with nothing, with no printable ASCII, or as a comment does")]
+    FirstLines,
+    /// A line of front matter is no good mark, or its first one is a first line or the opener.
+    #[error("a line of front matter is no good mark, or its first one is a first line or the opener")]
+    FrontMatter,
 }
 
 // The marks, of which some may be missing.
@@ -182,53 +214,10 @@ pub fn marks_fault(comments: Comments<'_>, punct: &[u8]) -> Option<MarksFault>
     if let Some(fault) = first_mark_fault(&marks) {
         return Some(fault);
     }
-    forms_fault(comments, punct)
-}
-
-// What is wrong with the first mark at fault.
-#[tactic(auto, unfolding(crate::specs::Marks::first_mark_fault))]
-fn first_mark_fault(mut marks: &[Option<&[u8]>]) -> Option<MarksFault>
-    ensures { result ≡ first_mark_fault (map (λ mark. option_copied mark) marks.entry.now) }
-{
-    while let [mark, others @ ..] = marks {
-        if let Some(fault) = fault_of(*mark) {
-            return Some(fault);
-        }
-        marks = others;
+    if let Some(fault) = forms_fault(comments, punct) {
+        return Some(fault);
     }
-    None
-}
-
-// What is wrong with a mark by itself, if it is given.
-fn fault_of(mark: Option<&[u8]>) -> Option<MarksFault>
-    ensures { result ≡ option_and_then mark_fault (option_copied mark.entry) }
-{
-    match mark {
-        None => None,
-        Some(mark) => mark_fault(mark),
-    }
-}
-
-// What is wrong with a mark by itself.
-fn mark_fault(mark: &[u8]) -> Option<MarksFault>
-    ensures { result ≡ mark_fault mark.now }
-{
-    if !is_plain(mark) {
-        Some(MarksFault::NotPlain)
-    } else if mark.is_empty() {
-        Some(MarksFault::Empty)
-    } else if mark.ends_with(b" ") {
-        Some(MarksFault::EndsInSpace)
-    } else {
-        None
-    }
-}
-
-// Whether a mark is ASCII that is printed.
-fn is_plain(mark: &[u8]) -> bool
-    ensures { result ≡ list_all is_plain mark.now }
-{
-    mark.iter().all(|b| b.is_ascii_graphic() || *b == b' ')
+    prefix_fault(comments)
 }
 
 // What is wrong with marks beside each other.

@@ -2,10 +2,12 @@
 ghost use Rattle.std.specs.Prelude.{◌≡◌, true};
 ghost use Rattle.std.specs.Option.{option_map};
 ghost use Rattle.reuse_style.specs.Marks.{is_good, punctuation_in};
-ghost use Rattle.reuse_style.specs.MarkViews.{line_view, block_view, comments_view};
+ghost use Rattle.reuse_style.specs.MarkViews.{line_view, block_view, front_matter_view, comments_view};
 
-use crate::marks::{BlockComment, Comments, Declaration, LineComment};
+use crate::comment_table::CommentTable;
+use crate::marks::{BlockComment, Comments, Declaration, FrontMatter, LineComment};
 use crate::table::TableStyle;
+use reuse_text::Bytes;
 use std::marker::Model;
 
 /// A comment style. Its marks are good, and contracts see its name with them.
@@ -30,7 +32,7 @@ impl<'a> Model for Style<'a> {
 
 impl<'a> Style<'a> {
     ghost use Rattle.reuse_style.specs.Styles.{style_named, line_comment_of, block_comment_of, punctuation_of};
-    ghost use Rattle.reuse_style.specs.Styles.{declaration_of};
+    ghost use Rattle.reuse_style.specs.Styles.{declaration_of, first_lines_of, front_matter_of};
 
     /// The style of a name and of good comments, with their punctuation.
     pub fn new(name: &'a str, comments: Comments<'a>, punctuation: &'a [u8]) -> Style<'a>
@@ -91,6 +93,20 @@ impl<'a> Style<'a> {
         self.comments.declaration
     }
 
+    /// What further lines in front of its comments begin with.
+    pub fn first_lines(&self) -> &'a [Bytes]
+        ensures { result.now ≡ first_lines_of self.now }
+    {
+        self.comments.first_lines
+    }
+
+    /// The front matter that stays in front of its comments, if there is such.
+    pub fn front_matter(&self) -> Option<FrontMatter<'a>>
+        ensures { option_map front_matter_view result ≡ front_matter_of self.now }
+    {
+        self.comments.front_matter
+    }
+
     /// The bytes that count as its punctuation.
     pub fn punctuation(&self) -> &'a [u8]
         ensures { result.now ≡ punctuation_of self.now }
@@ -112,16 +128,29 @@ pub enum Kind<'a> {
 
 impl<'a> Kind<'a> {
     ghost use Rattle.std.specs.Prelude.{◌≡◌};
-    ghost use Rattle.reuse_style.specs.StyleFile.{kind_named};
+    ghost use Rattle.reuse_style.specs.StyleFile.{table_kind_named, kind_named};
 
-    // The kind that a text names, if it names one: a style's name, or `uncommentable`.
+    // The kind that a text names by itself, if it names one: a style's name, or `uncommentable`.
     pub(crate) fn of_name(name: &str) -> Option<Kind<'static>>
-        ensures { result ≡ kind_named name.now }
+        ensures { result ≡ table_kind_named name.now }
     {
         if name == "uncommentable" {
             return Some(Kind::Uncommentable);
         }
         match Style::of_name(name) {
+            None => None,
+            Some(style) => Some(Kind::Style(style)),
+        }
+    }
+
+    // The kind that a text names beside a project's own comments, if it names one.
+    pub(crate) fn named(name: &str, comments: &'a CommentTable) -> Option<Kind<'a>>
+        ensures { result ≡ kind_named comments.now name.now }
+    {
+        if let Some(kind) = Kind::of_name(name) {
+            return Some(kind);
+        }
+        match comments.named(name) {
             None => None,
             Some(style) => Some(Kind::Style(style)),
         }

@@ -2,18 +2,21 @@
 ghost use Rattle.std.specs.Prelude.{◌≡◌, List, ℕ, [], ◌∷◌, ◌++◌, Option, None, Some, Ok, IfOk, IfErr, map, codes, ◌&&◌};
 ghost use Rattle.std.specs.Option.{option_map};
 ghost use Rattle.std.specs.Str.{bytes_eq};
-ghost use Rattle.toml.specs.View.{view, table_view};
+ghost use Rattle.toml.specs.View.{table_view};
 ghost use Rattle.reuse_style.specs.declared.style.Kind.{Kind};
-ghost use Rattle.reuse_style.specs.StyleFile.{kind_named, texts_in, texts_of_document, is_version, is_bad_name};
-ghost use Rattle.reuse_style.specs.StyleFile.{refusal_at, own_names, read_document, styles_in, IsRefused, IsFirst};
+ghost use Rattle.reuse_style.specs.StyleFile.{kind_named, texts_in, texts_of_document, is_bad_name};
+ghost use Rattle.reuse_style.specs.StyleFile.{refusal_at, own_names, styles_in, IsRefused, IsFirst};
+ghost use Rattle.reuse_style.specs.Documents.{read_document};
 ghost use Rattle.reuse_style.specs.Keyed.{Keyed, IsKeyed};
 
+use crate::comment_table::CommentTable;
+use crate::documents::is_version;
 use crate::style::Kind;
 use crate::style_refusal::StylesRefusal;
 use reuse_text::Bytes;
 use std::alloc::{AllocError, Global};
 use std::collections::BTreeMap;
-use toml::{Table, Value};
+use toml::Table;
 
 // Names, each with the text that stands for its kind.
 type NamedTexts<'t> = Vec<(&'t str, &'t str)>;
@@ -21,11 +24,12 @@ type NamedTexts<'t> = Vec<(&'t str, &'t str)>;
 /// The names of a file in lower case, with their kinds.
 pub(crate) fn read_names<'a>(
     alloc: Global,
+    comments: &'a CommentTable,
     file: &[u8],
 ) -> Result<BTreeMap<Bytes, Kind<'a>>, StylesRefusal>
     ensures ok { IfOk result
-        (λ names. (own : List ℕ → Option Kind) × (styles_in (read_document file.now) ≡ Ok own) × IsKeyed names own) }
-    ensures refused { IfErr result (IsRefused (styles_in (read_document file.now))) }
+        (λ names. (own : List ℕ → Option Kind) × (styles_in comments.now (read_document file.now) ≡ Ok own) × IsKeyed names own) }
+    ensures refused { IfErr result (IsRefused (styles_in comments.now (read_document file.now))) }
 {
     let document = match toml::table_from_slice(alloc, file) {
         Ok(document) => document,
@@ -38,7 +42,7 @@ pub(crate) fn read_names<'a>(
     };
     match texts_of_document(alloc, &document)? {
         None => Err(StylesRefusal::BadShape),
-        Some(texts) => names_of_texts(alloc, &texts),
+        Some(texts) => names_of_texts(alloc, comments, &texts),
     }
 }
 
@@ -74,13 +78,6 @@ fn are_keys(first: &str, second: &str) -> bool
     first == "styles" && second == "version"
 }
 
-// Whether a value is the version of the file's form.
-fn is_version(version: &Value) -> bool
-    ensures { result ≡ is_version (view version.now) }
-{
-    version.as_integer() == Some(1)
-}
-
 // The names and texts of a table, where each value is a text.
 #[tactic(auto, unfolding(crate::specs::StyleFile::texts_in))]
 fn texts_of_table<'t>(alloc: Global, names: &'t Table) -> Result<Option<NamedTexts<'t>>, AllocError>
@@ -101,37 +98,39 @@ fn texts_of_table<'t>(alloc: Global, names: &'t Table) -> Result<Option<NamedTex
 // The names of texts in lower case, with the kinds that the texts name.
 fn names_of_texts<'a>(
     alloc: Global,
+    comments: &'a CommentTable,
     texts: &[(&str, &str)],
 ) -> Result<BTreeMap<Bytes, Kind<'a>>, StylesRefusal>
     ensures ok { IfOk result (λ names. (own : List ℕ → Option Kind)
-        × (own_names (Some (map (λ t. (t.0.now, t.1.now)) texts.now)) ≡ Ok own) × IsKeyed names own) }
-    ensures refused { IfErr result (IsRefused (own_names (Some (map (λ t. (t.0.now, t.1.now)) texts.now)))) }
+        × (own_names comments.now (Some (map (λ t. (t.0.now, t.1.now)) texts.now)) ≡ Ok own) × IsKeyed names own) }
+    ensures refused { IfErr result (IsRefused (own_names comments.now (Some (map (λ t. (t.0.now, t.1.now)) texts.now)))) }
 {
     let mut names = BTreeMap::new(alloc);
     for (name, text) in texts {
-        add_name(alloc, &mut names, name, text)?;
+        add_name(alloc, comments, &mut names, name, text)?;
     }
     Ok(names)
 }
 
 // Adds a name, with the kind that its text names.
-fn add_name(
+fn add_name<'a>(
     alloc: Global,
-    names: &mut BTreeMap<Bytes, Kind<'_>>,
+    comments: &'a CommentTable,
+    names: &mut BTreeMap<Bytes, Kind<'a>>,
     name: &str,
     text: &str,
 ) -> Result<(), StylesRefusal>
     ensures ok { (earlier : List (List ℕ)) (entries : List (List ℕ × Kind)) → Keyed names.old earlier entries
         → IfOk result
-        (λ _. (kind : Kind) × (kind_named text.now ≡ Some kind) × (refusal_at earlier (name.now, text.now) ≡ None)
+        (λ _. (kind : Kind) × (kind_named comments.now text.now ≡ Some kind) × (refusal_at comments.now earlier (name.now, text.now) ≡ None)
         × Keyed names.new (earlier ++ name.now ∷ []) (entries ++ (name.now, kind) ∷ [])) }
     ensures refused { (earlier : List (List ℕ)) (entries : List (List ℕ × Kind)) → Keyed names.old earlier entries
-        → IfErr result (IsFirst (refusal_at earlier (name.now, text.now))) }
+        → IfErr result (IsFirst (refusal_at comments.now earlier (name.now, text.now))) }
 {
     if is_bad_name(name) {
         return Err(StylesRefusal::BadName(copy_of(alloc, name)?));
     }
-    let Some(kind) = Kind::of_name(text) else {
+    let Some(kind) = Kind::named(text, comments) else {
         return Err(StylesRefusal::BadStyle(copy_of(alloc, name)?));
     };
     let lowered = Bytes::from_vec(name.as_bytes().to_ascii_lowercase(alloc)?);

@@ -8,6 +8,7 @@ ghost use Rattle.reuse_style.specs.Names.{lookup, joined, kind_in};
 ghost use Rattle.reuse_style.specs.StyleFile.{styles_of, IsRefused};
 ghost use Rattle.reuse_style.specs.Keyed.{AreKeys};
 
+use crate::comment_table::CommentTable;
 use crate::style::Kind;
 use crate::style_file::read_names;
 use crate::style_refusal::StylesRefusal;
@@ -39,18 +40,23 @@ impl<'a> Model for StyleTable<'a> {
 }
 
 impl<'a> StyleTable<'a> {
-    /// The table by a project's file of styles. Where there is no file, it is the table of names
-    /// alone.
-    pub fn read(alloc: Global, file: Option<&[u8]>) -> Result<StyleTable<'a>, StylesRefusal>
-        ensures ok { IfOk result (λ table. styles_of (option_copied file.entry) ≡ Ok (lookup table)) }
-        ensures refused { IfErr result (λ refusal. IsRefused (styles_of (option_copied file.entry)) refusal) }
+    /// The table by a project's file of styles, which may name the project's own comments. Where
+    /// there is no file, it is the table of names alone.
+    pub fn read(
+        alloc: Global,
+        comments: &'a CommentTable,
+        file: Option<&[u8]>,
+    ) -> Result<StyleTable<'a>, StylesRefusal>
+        ensures ok { IfOk result (λ table. styles_of comments.now (option_copied file.entry) ≡ Ok (lookup table)) }
+        ensures refused { IfErr result
+            (λ refusal. IsRefused (styles_of comments.now (option_copied file.entry)) refusal) }
         ensures absent { file.entry ≡ None → IsOk result }
     {
         let Some(bytes) = file else {
             let entries = Vec::new(alloc);
             return Ok(StyleTable { entries });
         };
-        let names = read_names(alloc, bytes)?;
+        let names = read_names(alloc, comments, bytes)?;
         Ok(StyleTable::of_names(alloc, names)?)
     }
 

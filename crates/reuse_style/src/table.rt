@@ -198,6 +198,8 @@ impl TableStyle {
             line: self.line_comment(),
             block: self.block_comment(),
             declaration: self.declaration(),
+            first_lines: &[],
+            front_matter: None,
         }
     }
 

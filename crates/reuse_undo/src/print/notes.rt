@@ -189,9 +189,7 @@ fn note_refusal(rt: &impl Eprint, diagnostics: &Diagnostics, refusal: &Refusal) 
     if let (Refusal::NoText(id), Some(folder)) = (refusal, &diagnostics.texts) {
         let _ = eprintln!(rt; "reuse-undo: note: the text was sought in {folder}/{id}.txt");
     }
-    if let Refusal::BadStyles(cause) = refusal {
-        let _ = eprintln!(rt; "reuse-undo: note: what is wrong with .reuse/styles.toml: {cause}");
-    }
+    note_own_files(rt, refusal);
     if let (Refusal::BadJournal(path), Some(damage)) = (refusal, diagnostics.damage) {
         let (path, words, advice) = (path.text(), damage.words(), damage.advice());
         let _ = eprintln!(rt; "reuse-undo: note: {path} {words}: {advice}");
@@ -200,6 +198,16 @@ fn note_refusal(rt: &impl Eprint, diagnostics: &Diagnostics, refusal: &Refusal) 
     let is_begun = diagnostics.pending.is_some() && !diagnostics.is_rolled_back;
     if let Some(advice) = advice(refusal, is_begun, diagnostics) {
         note(rt, advice);
+    }
+}
+
+/// Prints what is wrong with a tree's own files of styles and comments.
+fn note_own_files(rt: &impl Eprint, refusal: &Refusal) {
+    if let Refusal::BadStyles(cause) = refusal {
+        let _ = eprintln!(rt; "reuse-undo: note: what is wrong with .reuse/styles.toml: {cause}");
+    }
+    if let Refusal::BadComments(cause) = refusal {
+        let _ = eprintln!(rt; "reuse-undo: note: what is wrong with .reuse/comments.toml: {cause}");
     }
 }
 

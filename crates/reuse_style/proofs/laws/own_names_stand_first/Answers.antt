@@ -8,7 +8,7 @@ returns-clause-none c = kind_none
 
 pub returns-clause-empty : goal.returns-clause-empty
 unfolding first_refusal
-returns-clause-empty c = refl
+returns-clause-empty c = λ comments. refl
 
 pub returns-clause-others : goal.returns-clause-others
 returns-clause-others c = kind_others

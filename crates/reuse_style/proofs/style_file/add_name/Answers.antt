@@ -6,7 +6,7 @@ use Rattle.reuse_style.proofs.style_file.add_name.Goals as goal
 pub returns-clause-ok : goal.returns-clause-ok
 returns-clause-ok c =
     λ earlier entries keyed.
-    added c.args.names.now c.insert.new.self earlier entries c.args.name.now c.args.text.now c.from_vec-lowered.result
+    added c.args.comments.now c.args.names.now c.insert.new.self earlier entries c.args.name.now c.args.text.now c.from_vec-lowered.result
     c.in-Some.kind keyed
     c.if-is_bad_name.ensures c.in-Some.ensures
     (c.from_vec-lowered.ensures ∙ c.in_ok-to_ascii_lowercase.ensures.ok

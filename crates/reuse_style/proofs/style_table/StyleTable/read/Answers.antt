@@ -14,18 +14,18 @@ invariant_of-result c = subst AreKeys (sym c.new-entries.ensures.items) no_keys
 
 pub returns-in_default-clause-ok : goal.returns-in_default-clause-ok
 returns-in_default-clause-ok c =
-    ap (λ o. styles_of (option_copied o)) c.in_default.is ∙ styles_none
+    ap (λ o. styles_of c.args.comments.now (option_copied o)) c.in_default.is ∙ styles_none c.args.comments.now
     ∙ ap (λ (es : List (List ℕ × Kind)). Ok (lookup es)) (sym c.new-entries.ensures.items)
 
 pub returns-in_err-names-clause-refused : goal.returns-in_err-names-clause-refused
 returns-in_err-names-clause-refused c =
     let p = err_from_is_err_and c.from_residual.result c.from_residual.ensures.1 in
-    rw (p.1, p.2) (refused_by _ _ _ (ap (λ o. styles_of (option_copied o)) c.in-Some.is
-    ∙ styles_some c.in-Some.bytes.now) c.in_err-names.ensures.refused)
+    rw (p.1, p.2) (refused_by _ _ _ (ap (λ o. styles_of c.args.comments.now (option_copied o)) c.in-Some.is
+    ∙ styles_some c.args.comments.now c.in-Some.bytes.now) c.in_err-names.ensures.refused)
 
 pub returns-clause-ok : goal.returns-clause-ok
 returns-clause-ok c =
     let (own, is, keyed) = c.in_ok-names.ensures.ok in
-    ap (λ o. styles_of (option_copied o)) c.in-Some.is ∙ styles_some c.in-Some.bytes.now ∙ is
+    ap (λ o. styles_of c.args.comments.now (option_copied o)) c.in-Some.is ∙ styles_some c.args.comments.now c.in-Some.bytes.now ∙ is
     ∙ ap (λ (kinds : List ℕ → Option Kind). Ok kinds) (sym (own_is c.in_ok-names.names own keyed))
     ∙ ap (λ (es : List (List ℕ × Kind)). Ok (lookup es)) (sym c.in_ok-of_names.ensures)

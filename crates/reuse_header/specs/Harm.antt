@@ -1,0 +1,49 @@
+-- What a header in front of a file's first line could break (docs/RULES.md, "What a header could break").
+use Rattle.std.specs.Prelude.{ℕ, Bool, ◌&&◌, nat_eq, List, [], ◌∷◌, length, drop, Option, None, Some, is_some, codes}
+use Rattle.std.specs.Prelude.{if◌then◌else◌}
+use Rattle.std.specs.List.{starts_with, list_any}
+use Rattle.reuse_text.specs.Text.{file_lines}
+use Rattle.reuse_notice.specs.Tags.{is_blank, drop_front}
+use Rattle.reuse_style.specs.declared.style.Style.{Style}
+use Rattle.reuse_style.specs.Search.{holds}
+use Rattle.reuse_header.specs.declared.harm.Harm.{Harm}
+use Rattle.reuse_header.specs.declared.harm.Harm.TheVariants.{InnerAttribute, FrontMatter, Directive, ModeLine}
+use Rattle.reuse_header.specs.declared.harm.Harm.TheVariants.{CloudConfig, Charset}
+use Rattle.reuse_header.specs.Body.{PlacedLines, is_whole_line, count_to, body_lines}
+
+-- whether a text begins with a name and `=` behind it, perhaps with blanks between
+unfoldable pub names_value : List ℕ → List ℕ → Bool
+names_value text name =
+    starts_with nat_eq text name && starts_with nat_eq (drop_front is_blank (drop (length name) text)) (codes "=")
+
+-- whether a line is a directive of a Dockerfile, in small letters
+unfoldable pub is_directive : List ℕ → Bool
+is_directive content =
+    starts_with nat_eq content (codes "#") && list_any (names_value (drop_front is_blank (drop 1 content)))
+    (codes "syntax" ∷ codes "escape" ∷ codes "check" ∷ [])
+
+-- what a line has to be the first one for
+unfoldable pub harm_before_line : List ℕ → Option Harm
+harm_before_line content =
+    if is_directive content then Some Directive
+    else if holds (codes "-*-") content then Some ModeLine
+    else if is_whole_line (codes "#cloud-config") content then Some CloudConfig
+    else if starts_with nat_eq content (codes "@charset") then Some Charset
+    else None
+
+-- what a header in front of some lines could break: front matter between dashes, or what their first line is
+unfoldable pub harm_before : PlacedLines → Option Harm
+harm_before [] = None
+harm_before (line ∷ lines) =
+    if is_whole_line (codes "---") line.1.content && is_some (count_to (codes "---") lines) then Some FrontMatter
+    else harm_before_line line.1.content
+
+-- an attribute of Rust, which is taken for an interpreter line, or what a header in front of a body could break
+unfoldable pub harm_among : PlacedLines → PlacedLines → Option Harm
+harm_among [] body = harm_before body
+harm_among (line ∷ lines) body =
+    if starts_with nat_eq line.1.content (codes "#![") then Some InnerAttribute else harm_before body
+
+-- what a header that is put behind the prefix lines of a file could break
+abbrev pub harm_of : Style → List ℕ → Option Harm
+harm_of style file = harm_among (file_lines file) (body_lines style (file_lines file))

@@ -1,0 +1,24 @@
+-- The texts of a style as the code holds them.
+use Rattle.std.specs.Prelude.{ℕ, List, Option, Vec, map}
+use Rattle.std.specs.Borrow.{Bor}
+use Rattle.std.specs.Option.{option_copied, option_map}
+use Rattle.std.specs.declared.alloc.Global.{Global}
+use Rattle.reuse_style.specs.declared.comment_texts.CommentTexts.{CommentTexts as LentTexts}
+use Rattle.reuse_style.specs.CommentFile.{CommentTexts}
+
+-- a list of texts
+abbrev pub list_view : Option (Vec (Bor (List ℕ)) Global) → Option (List (List ℕ))
+list_view = option_map (λ texts. map (λ text. text.now) texts.items)
+
+abbrev pub texts_view : LentTexts → CommentTexts
+texts_view texts = record {
+  marker = option_copied texts.marker;
+  line_lead = option_copied texts.line_lead;
+  opener = option_copied texts.opener;
+  closer = option_copied texts.closer;
+  middle = option_copied texts.middle;
+  lead = option_copied texts.lead;
+  last_line = option_copied texts.last_line;
+  first_lines = list_view texts.first_lines;
+  front_matter = list_view texts.front_matter;
+}
