@@ -33,6 +33,7 @@ files() {
     echo "share/completions/_reuse-undo share/zsh/site-functions/_reuse-undo 644"
     echo "share/completions/reuse-undo.fish share/fish/vendor_completions.d/reuse-undo.fish 644"
     echo "share/styles.toml share/reuse-undo/styles.toml 644"
+    echo "share/comments.toml share/reuse-undo/comments.toml 644"
 }
 # Makes a folder and those above it, and prints the path from the prefix of each that wasn't there.
 make_folder() {

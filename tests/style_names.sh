@@ -1,9 +1,9 @@
 #!/usr/bin/env bash
 # Compares the names that Debian's reuse knows with those that the program knows and those of
-# share/styles.toml, name by name: both tools annotate a file of each name, and write the same first
-# line, or both a neighbour. Names that differ, and names that the program refuses, are listed here
-# with the reason, and the list is compared too. Prints the names that are left, with why. Ends with
-# status 1 at the first fault.
+# share/styles.toml and share/comments.toml, name by name: both tools annotate a file of each name,
+# and write the same first line, or both a neighbour. Names that differ, and names that the program
+# refuses, are listed here with the reason, and the list is compared too. Prints the names that are
+# left, with why. Ends with status 1 at the first fault.
 # usage: tests/style_names.sh PROGRAM
 set -euo pipefail
 # The tags below are data: REUSE-IgnoreStart
@@ -17,18 +17,6 @@ export XDG_CACHE_HOME=$room LC_ALL=C.UTF-8
 # The names that are left: reuse's word for their comment, why, and the names
 left() {
   cat << LEFT
-aspx|no style has <%--|.asax .ashx .asmx .aspx .axd
-bat|no style has REM|.bat
-bibtex|no style has @Comment|.bib
-f|no style has a letter in the first column|.f .f03 .f90 .f95 .for
-ftl|no style has <#--|.ftl
-handlebars|no style has {{!--|.hbs
-jinja|no style has {#|.jinja .jinja2
-m4|no style has dnl|.m4 configure.ac
-plantuml|no style has an apostrophe|.iuml .plantuml .pu .puml
-rst|no style has two dots|.rst
-vst|no style has #*|.vm .vtl
-xquery|no style has (:|.xq .xql .xqm .xqy .xquery
 applescript|such a file is compiled, and its text has another name|.scpt .scptd
 neighbour|such a file is the neighbour of another|.license
 LEFT
@@ -43,6 +31,7 @@ different() {
 /*|//|.less .sass .scss
 #|//|.scala
 x|#|.nim.cfg
+c|!|.f .f03 .f90 .f95 .for
 DIFFERENT
 }
 
@@ -80,7 +69,8 @@ known_by_reuse > "$room/names"
 (($(wc -l < "$room/names") >= 240)) || fail 'reuse knows fewer names than it did'
 mkdir -p "$theirs" "$ours/.reuse"
 git -C "$theirs" init -q
-cp "$top/share/styles.toml" "$ours/.reuse/"
+sed 's/^#"/"/' "$top/share/styles.toml" > "$ours/.reuse/styles.toml"
+cp "$top/share/comments.toml" "$ours/.reuse/"
 number=0
 while read -r name word file; do
   number=$((number + 1))

@@ -1,8 +1,8 @@
 #!/usr/bin/env bash
-# A tree with a file of each name that the program knows by itself or that share/styles.toml gives a
-# style: annotate writes a header or a neighbour for each, which it finds again, and undo takes all
-# back byte for byte. Annotated samples of common languages still pass their compilers or
-# interpreters, as far as those are there. Ends with status 1 at the first fault.
+# A tree with a file of each name that the program knows by itself, or that share/styles.toml and
+# share/comments.toml give a style: annotate writes a header or a neighbour for each, which it finds
+# again, and undo takes all back byte for byte. Annotated samples of common languages still pass
+# their compilers or interpreters, as far as those are there. Ends with status 1 at the first fault.
 # usage: tests/styles.sh PROGRAM
 # The tags below are data: REUSE-IgnoreStart
 set -euo pipefail
@@ -11,9 +11,17 @@ top=$(realpath "$(dirname "$0")/..")
 plain=$room/plain
 tree=$room/tree
 
-# The names: those of the sources, and those of the table for everybody
+# The names: those of the sources, those of the table for everybody, and those behind its `#`
 known() { sed -nE 's/^    \(b"([^"]+)", TableKind::.*/\1/p' "$top/crates/reuse_style/src/table.rt"; }
 own() { sed -nE 's/^"([^"]+)" *= *"[a-z]+".*/\1/p' "$top/share/styles.toml"; }
+more() { sed -nE 's/^#"([^"]+)" *= *"[a-z0-9]+".*/\1/p' "$top/share/styles.toml"; }
+
+# Gives a tree both ready files.
+make_ready() {
+  mkdir -p "$1/.reuse"
+  sed 's/^#"/"/' "$top/share/styles.toml" > "$1/.reuse/styles.toml"
+  cp "$top/share/comments.toml" "$1/.reuse/"
+}
 
 # Puts a file of each name from standard input into a folder of its own, so that names that differ
 # in case alone don't meet.
@@ -36,14 +44,15 @@ taken_back() {
   diff -r -x undo "$1" "$tree" > "$room/diff" || fail "undo: $(head -n 3 "$room/diff")"
 }
 
-mkdir -p "$plain/.reuse"
-cp "$top/share/styles.toml" "$plain/.reuse/"
+make_ready "$plain"
 known > "$room/known"
 own > "$room/own"
-[[ $(wc -l < "$room/known") == 58 && $(wc -l < "$room/own") -ge 100 ]] ||
+more > "$room/more"
+[[ $(wc -l < "$room/known") == 58 && $(wc -l < "$room/own") -ge 100 && $(wc -l < "$room/more") -ge 35 ]] ||
   fail 'fewer names than there were'
 make_files known < "$room/known"
 make_files own < "$room/own"
+make_files more < "$room/more"
 cp -r "$plain" "$tree"
 files=$(find "$plain" -type f -not -path '*/.reuse/*' | wc -l)
 annotate -r . > "$room/out"
@@ -55,6 +64,43 @@ done < "$room/out"
 [[ $(annotate -r .) == 'nothing changed' ]] || fail 'a header is not found again'
 taken_back "$plain"
 
+# A tree's own comments: each of these texts of `.reuse/comments.toml` gives a style, whose header has
+# these first lines, is found again, and is taken back. The file has the text `before`, if it is set
+own_comment() {
+  local keys=$1 wanted=$2
+  shift 2
+  rm -rf "$plain" "$tree"
+  mkdir -p "$plain/.reuse"
+  printf 'version = 1\n[comments.own-1]\n%b' "$keys" > "$plain/.reuse/comments.toml"
+  printf 'version = 1\n[styles]\n".own" = "own-1"\n' > "$plain/.reuse/styles.toml"
+  printf %b "${before:-x\n}" > "$plain/a.own"
+  cp -r "$plain" "$tree"
+  annotate "$@" a.own > "$room/out" || fail "a.own isn't annotated by $keys"
+  printf %b "$wanted" > "$room/wanted"
+  cmp "$room/wanted" "$tree/a.own" || fail "$keys: $(cat "$tree/a.own")"
+  [[ $(annotate "$@" a.own) == 'nothing changed' ]] || fail "$keys: a header is not found again"
+  taken_back "$plain"
+}
+notice='SPDX-FileCopyrightText: 2024 Jane Doe'
+license='SPDX-License-Identifier: MIT'
+own_comment 'line = "REM"\n' "REM $notice\nREM\nREM $license\n\nx\n"
+own_comment 'line = ".."\nline-lead = "..  "\n' "..  $notice\n..\n..  $license\n\nx\n"
+own_comment 'open = "{#"\nclose = "#}"\n' "{#\n$notice\n\n$license\n#}\n\nx\n"
+own_comment 'open = "<%"\nclose = "%>"\nmiddle = " %"\nlast = " %>"\n' \
+  "<%\n % $notice\n %\n % $license\n %>\n\nx\n"
+own_comment 'line = "!"\nopen = "{"\nclose = "}"\nlead = "  "\n' \
+  "{\n  $notice\n\n  $license\n}\n\nx\n" --multi-line
+
+# Lines that stay in front of a header: first lines, and front matter if it ends
+header="# $notice\n#\n# $license\n"
+keys='line = "#"\nfirst-lines = ["# syntax=", "# escape="]\n'
+before='# syntax=1\n# escape=2\n#\nx\n' \
+  own_comment "$keys" "# syntax=1\n# escape=2\n\n$header\n#\nx\n"
+header="<!--\n$notice\n\n$license\n-->\n"
+keys='open = "<!--"\nclose = "-->"\nfront-matter = ["---", "..."]\n'
+before='---\nt: 1\n...\nx\n' own_comment "$keys" "---\nt: 1\n...\n\n$header\nx\n"
+before='---\nx\n' own_comment "$keys" "$header\n---\nx\n"
+
 # Samples: a path, the command that takes its file, and the text
 samples=0 passed=0
 sample() {
@@ -63,8 +109,7 @@ sample() {
   samples=$((samples + 1))
   command -v "$1" > /dev/null || return 0
   rm -rf "$room/sample" "$room/used" "$tree"
-  mkdir -p "$room/sample/.reuse"
-  cp "$top/share/styles.toml" "$room/sample/.reuse/"
+  make_ready "$room/sample"
   printf %b "$text" > "$room/sample/$path"
   cp -r "$room/sample" "$tree"
   annotate "$path" > "$room/out" || fail "$path isn't annotated"
@@ -101,5 +146,17 @@ sample a.tcl 'puts 1\n' tclsh
 sample a.php '<?php\necho 1;\n' php -l
 sample a.go 'package a\n' gofmt -e
 sample a.rs 'fn main() {}\n' rustc --emit metadata
+sample a.f90 'program a\nprint *, 1\nend program\n' gfortran -fsyntax-only
+sample a.f '      print *, 1\n      end\n' gfortran -fsyntax-only
+sample a.m4 'define(`x'"'"', 1)dnl\nx\n' m4
+sample a.css '@charset "UTF-8";\na { color: red }\n' python3 -c \
+  'import sys; sys.exit(not open(sys.argv[1]).read().startswith("@charset \"UTF-8\";"))'
+sample a.md '---\ntitle: a\n---\nText\n' python3 -c \
+  'import sys; sys.exit(open(sys.argv[1]).read().split("\n")[:3] != ["---", "title: a", "---"])'
+sample Dockerfile '# syntax=docker/dockerfile:1\nFROM debian\n' python3 -c \
+  'import sys; sys.exit(not open(sys.argv[1]).read().startswith("# syntax=docker/dockerfile:1\n"))'
+sample a.bat '@echo off\necho 1\n' python3 -c \
+  'import sys; sys.exit(not open(sys.argv[1]).read().startswith("@echo off\n"))'
+sample a.rst 'Text\n====\n' rst2html.py
 echo "$files names are annotated and taken back; $passed of $samples samples pass their" \
   "languages' own tools, and the others' aren't there"
