@@ -90,7 +90,7 @@ _reuse_undo() {
     case ${words[*]: -2:1} in --replace-license | --replace-holder | --replace-contributor) return ;; esac
   fi
   if [[ $word == -* && -z $only_paths ]]; then
-    local every='--root --verbose --no-sync --allow-owner-change --trust-journal'
+    local every='--root --up --verbose --no-sync --allow-owner-change --trust-journal'
     case $subcommand in
       '') _reuse_undo_of "$every --help --version" ;;
       annotate)

@@ -65,6 +65,8 @@ end
 complete -c reuse-undo -f
 complete -c reuse-undo -n 'not __reuse_undo_subcommand_is help' -l root -x -a '(__fish_complete_directories)' \
     -d 'The root of the source tree'
+complete -c reuse-undo -n 'not __reuse_undo_subcommand_is help' -l up \
+    -d 'Work on the tree around the working folder'
 complete -c reuse-undo -n 'not __reuse_undo_subcommand_is help' -s v -l verbose -d 'Tell notes on standard error'
 complete -c reuse-undo -n 'not __reuse_undo_subcommand_is help' -l no-sync -d 'Leave out all syncs'
 complete -c reuse-undo -n 'not __reuse_undo_subcommand_is help' -l allow-owner-change \

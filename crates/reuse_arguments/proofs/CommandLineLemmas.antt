@@ -8,6 +8,7 @@ use Rattle.reuse_command.specs.declared.request.Call.{Call}
 use Rattle.reuse_command.specs.declared.request.Request.{Request}
 use Rattle.reuse_arguments.specs.Asking.{Invocation}
 use Rattle.reuse_arguments.specs.Choices.{change_status_of, format_of, is_dry_run}
+use Rattle.reuse_arguments.specs.Contexts.{ContextView}
 use Rattle.reuse_arguments.specs.CommandLine.{call_read, request_read, texts_read}
 use Rattle.reuse_arguments.specs.Found.{Rows}
 use Rattle.reuse_arguments.specs.LineFaults.{then_read, unread}
@@ -19,12 +20,12 @@ use Rattle.reuse_arguments.specs.declared.line.OutputFormat.{OutputFormat}
 other : (name word : List ℕ) → name ≢ word → bytes_eq name word ≡ false
 other name word h = false_from_ne_true _ (λ is. h ((bytes_eq-Decides name word).0 is))
 
-pub request_else : (name : List ℕ) (found : Rows) (moment year : ℕ) → name ≢ codes "log" → name ≢ codes "show"
+pub request_else : (name : List ℕ) (found : Rows) (moment : ℕ) (context : ContextView) → name ≢ codes "log" → name ≢ codes "show"
     → name ≢ codes "forget" → name ≢ codes "recover"
-    → request_read name found moment year ≡ then_read (call_read name found year)
+    → request_read name found moment context ≡ then_read (call_read name found context)
     (λ asked. Ok (made_or_seen asked moment (is_dry_run found)))
 unfolding request_read
-request_else name found moment year log show forget recover =
+request_else name found moment context log show forget recover =
     rw (
       other name (codes "log") log,
       other name (codes "show") show,
@@ -32,12 +33,12 @@ request_else name found moment year log show forget recover =
       other name (codes "recover") recover,
     ) refl
 
-pub call_else : (name : List ℕ) (found : Rows) (year : ℕ) → name ≢ codes "annotate" → name ≢ codes "amend"
+pub call_else : (name : List ℕ) (found : Rows) (context : ContextView) → name ≢ codes "annotate" → name ≢ codes "amend"
     → name ≢ codes "convert-dep5" → name ≢ codes "download" → name ≢ codes "undo" → name ≢ codes "redo"
     → name ≢ codes "revert"
-    → call_read name found year ≡ Err (unread (codes "a subcommand that nothing reads"))
+    → call_read name found context ≡ Err (unread (codes "a subcommand that nothing reads"))
 unfolding call_read
-call_else name found year a b c d e f g =
+call_else name found context a b c d e f g =
     rw (
       other name (codes "annotate") a,
       other name (codes "amend") b,

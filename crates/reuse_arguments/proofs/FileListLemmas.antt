@@ -14,14 +14,14 @@ use Rattle.reuse_arguments.specs.FileLists.{path_at, path_of_word}
 use Rattle.reuse_arguments.specs.Places.{place_of_word}
 
 -- a word that is UTF-8, and one that isn't
-pub named : (word text : List ℕ) (place : Option Place) (path : List ℕ) → IsUtf8 word → text ≡ word
-    → place ≡ place_of_word text → place ≡ Some (Path path) → Some path ≡ path_of_word word
-named word text place path utf8 same e is =
-    sym (ap (λ b. cond b (path_at (place_of_word word)) None) (is_utf8-from_IsUtf8 word utf8)
-    ∙ ap (λ t. path_at (place_of_word t)) (sym same) ∙ ap path_at (sym e ∙ is))
+pub named : (folder : Option (List ℕ)) (word text : List ℕ) (place : Option Place) (path : List ℕ) → IsUtf8 word
+    → text ≡ word → place ≡ place_of_word folder text → place ≡ Some (Path path) → Some path ≡ path_of_word folder word
+named folder word text place path utf8 same e is =
+    sym (ap (λ b. cond b (path_at (place_of_word folder word)) None) (is_utf8-from_IsUtf8 word utf8)
+    ∙ ap (λ t. path_at (place_of_word folder t)) (sym same) ∙ ap path_at (sym e ∙ is))
 
-pub unnamed : (word : List ℕ) → ¬ IsUtf8 word → None ≡ path_of_word word
-unnamed word h = sym (ap (λ b. cond b (path_at (place_of_word word)) None) (not_utf8 word h))
+pub unnamed : (folder : Option (List ℕ)) (word : List ℕ) → ¬ IsUtf8 word → None ≡ path_of_word folder word
+unnamed folder word h = sym (ap (λ b. cond b (path_at (place_of_word folder word)) None) (not_utf8 word h))
 
 -- the paths of one word more
 pub one_word_more : (named : List ℕ → Option (List ℕ)) (words : List (Bor (List ℕ))) (word : Bor (List ℕ))

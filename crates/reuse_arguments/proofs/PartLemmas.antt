@@ -55,26 +55,36 @@ named_front-more i parts d h =
     ∙ ap (filter is_named) (map-append (λ p. p.now) (take i parts) (get_or parts i d ∷ []))
     ∙ filter-append is_named (map (λ p. p.now) (take i parts)) ((get_or parts i d).now ∷ [])
 
--- a named part is added
-pub AreJoined-named : (is_empty : Bool) (text : List ℕ) (i : ℕ) (parts : List (Bor (List ℕ))) (d : Bor (List ℕ))
-    → i < length parts
-    → true ≡ is_named (get_or parts i d).now → AreJoined is_empty text (named_front i parts)
-    → AreJoined false (pushed is_empty text (get_or parts i d).now) (named_front (i + 1) parts)
-AreJoined-named is_empty text i parts d h named joined =
+-- a named part is one more, and another part is none
+pub named_more : (kept new : List (Bor (List ℕ))) (i : ℕ) (parts : List (Bor (List ℕ))) (d : Bor (List ℕ))
+    → i < length parts → true ≡ is_named (get_or parts i d).now → map (λ part. part.now) kept ≡ named_front i parts
+    → new ≡ kept ++ get_or parts i d ∷ [] → map (λ part. part.now) new ≡ named_front (i + 1) parts
+named_more kept new i parts d h named so_far is =
     let part = (get_or parts i d).now in
-    let kept : filter is_named (part ∷ []) ≡ part ∷ [] = ap (λ (b : Bool). cond b (part ∷ []) []) (sym named) in
-    subst (λ (l : List (List ℕ)). AreJoined false (pushed is_empty text part) l)
-    (sym (named_front-more i parts d h ∙ ap (λ l. named_front i parts ++ l) kept))
-    (AreJoined-push is_empty text (named_front i parts) part joined)
+    let one : filter is_named (part ∷ []) ≡ part ∷ [] = ap (λ (b : Bool). cond b (part ∷ []) []) (sym named) in
+    ap (map (λ p. p.now)) is ∙ map-append (λ p. p.now) kept (get_or parts i d ∷ []) ∙ ap (λ l. l ++ part ∷ []) so_far
+    ∙ sym (named_front-more i parts d h ∙ ap (λ l. named_front i parts ++ l) one)
 
--- another part changes nothing
-pub AreJoined-unnamed : (is_empty : Bool) (text : List ℕ) (i : ℕ) (parts : List (Bor (List ℕ))) (d : Bor (List ℕ))
-    → i < length parts
-    → false ≡ is_named (get_or parts i d).now → AreJoined is_empty text (named_front i parts)
-    → AreJoined is_empty text (named_front (i + 1) parts)
-AreJoined-unnamed is_empty text i parts d h unnamed joined =
+pub unnamed_more : (kept : List (Bor (List ℕ))) (i : ℕ) (parts : List (Bor (List ℕ))) (d : Bor (List ℕ))
+    → i < length parts → false ≡ is_named (get_or parts i d).now → map (λ part. part.now) kept ≡ named_front i parts
+    → map (λ part. part.now) kept ≡ named_front (i + 1) parts
+unnamed_more kept i parts d h unnamed so_far =
     let part = (get_or parts i d).now in
-    let dropped : filter is_named (part ∷ []) ≡ [] = ap (λ (b : Bool). cond b (part ∷ []) []) (sym unnamed) in
-    subst (λ (l : List (List ℕ)). AreJoined is_empty text l)
-    (sym (named_front-more i parts d h ∙ ap (λ l. named_front i parts ++ l) dropped ∙ append-nil (named_front i parts)))
-    joined
+    let none : filter is_named (part ∷ []) ≡ [] = ap (λ (b : Bool). cond b (part ∷ []) []) (sym unnamed) in
+    so_far ∙ sym (named_front-more i parts d h ∙ ap (λ l. named_front i parts ++ l) none
+    ∙ append-nil (named_front i parts))
+
+-- the texts of the first parts
+abbrev pub front_of : ℕ → List (Bor (List ℕ)) → List (List ℕ)
+front_of i parts = map (λ part. part.now) (take i parts)
+
+-- each part is added to the path
+pub AreJoined-more : (is_empty : Bool) (text : List ℕ) (i : ℕ) (parts : List (Bor (List ℕ))) (d : Bor (List ℕ))
+    → i < length parts → AreJoined is_empty text (front_of i parts)
+    → AreJoined false (pushed is_empty text (get_or parts i d).now) (front_of (i + 1) parts)
+AreJoined-more is_empty text i parts d h joined =
+    let part = (get_or parts i d).now in
+    subst (λ (l : List (List ℕ)). AreJoined false (pushed is_empty text part) l)
+    (sym (ap (map (λ p. p.now)) (take_more parts i d h) ∙ map-append (λ p. p.now) (take i parts)
+    (get_or parts i d ∷ [])))
+    (AreJoined-push is_empty text (front_of i parts) part joined)

@@ -1,7 +1,8 @@
 -- From what clap found on a command line to what is asked for (docs/REFERENCE.md).
 use Rattle.std.specs.Prelude.{◌≡◌, ◌⊎◌, ℕ, false, List, [], Option, None, Some, Result, Ok, Err, codes, option_map}
-use Rattle.std.specs.Prelude.{string_bytes, if◌then◌else◌}
+use Rattle.std.specs.Prelude.{string_bytes, if◌then◌else◌, String}
 use Rattle.std.specs.Str.{bytes_eq}
+use Rattle.std.specs.declared.alloc.Global.{Global}
 use Rattle.clap.specs.Simple.{app_of, HasMatchesOf, subcommand_rows_of}
 use Rattle.clap.specs.Values.{kind_of}
 use Rattle.clap.specs.declared.builder.command.Command.{Command}
@@ -16,11 +17,13 @@ use Rattle.reuse_command.specs.declared.request.Request.TheVariants as requests
 use Rattle.reuse_arguments.specs.Asking.{Invocation, asked_in}
 use Rattle.reuse_arguments.specs.Choices.{change_status_of, format_of, is_dry_run, settings_of, usual_settings}
 use Rattle.reuse_arguments.specs.CommandWords.{amend_read, annotate_read}
+use Rattle.reuse_arguments.specs.Contexts.{ContextView}
 use Rattle.reuse_shown.specs.Dates.{IsYearOf}
 use Rattle.reuse_arguments.specs.FileWords.{files_from_of, ids_of, root_of, step_read, steps_read, texts_folder_read}
 use Rattle.reuse_arguments.specs.Found.{Rows, flag, found_in}
 use Rattle.reuse_arguments.specs.LineFaults.{IsExpectedAs, IsReportedAs, Mistake, then_read, unread}
 use Rattle.reuse_arguments.specs.Requests.{made_or_seen}
+use Rattle.reuse_arguments.specs.declared.line.Line.{Line}
 use Rattle.reuse_arguments.specs.declared.line.LineFault.{LineFault}
 use Rattle.reuse_arguments.specs.declared.line.LineFault.TheVariants as faults
 use Rattle.reuse_arguments.specs.declared.words.ParsedArguments.{ParsedArguments}
@@ -30,10 +33,10 @@ abbrev pub download_of : Rows → SessionCommand
 download_of found = Download (ids_of found) []
 
 -- what changes the tree, by the name of the subcommand
-unfoldable pub call_read : List ℕ → Rows → ℕ → Result Call Mistake
-call_read name found year =
-    if bytes_eq name (codes "annotate") then then_read (annotate_read found year) (λ command. Ok (calls.Run command))
-    else if bytes_eq name (codes "amend") then then_read (amend_read found) (λ command. Ok (calls.Run command))
+unfoldable pub call_read : List ℕ → Rows → ContextView → Result Call Mistake
+call_read name found context =
+    if bytes_eq name (codes "annotate") then then_read (annotate_read found context) (λ command. Ok (calls.Run command))
+    else if bytes_eq name (codes "amend") then then_read (amend_read found context) (λ command. Ok (calls.Run command))
     else if bytes_eq name (codes "convert-dep5") then Ok (calls.Run ConvertDep5)
     else if bytes_eq name (codes "download") then Ok (calls.Run (download_of found))
     else if bytes_eq name (codes "undo") then Ok calls.Undo
@@ -44,13 +47,13 @@ call_read name found year =
 
 -- the history is looked at, or steps of it are forgotten, or what a stopped run left is rolled back; else the call is
 -- made at this moment, or in a dry run it is previewed
-unfoldable pub request_read : List ℕ → Rows → ℕ → ℕ → Result Request Mistake
-request_read name found moment year =
+unfoldable pub request_read : List ℕ → Rows → ℕ → ContextView → Result Request Mistake
+request_read name found moment context =
     if bytes_eq name (codes "log") then Ok requests.Log
     else if bytes_eq name (codes "show") then then_read (step_read found) (λ number. Ok (requests.Show number))
     else if bytes_eq name (codes "forget") then then_read (steps_read found) (λ steps. Ok (requests.Forget steps))
     else if bytes_eq name (codes "recover") then Ok (requests.Recover (flag found (codes "skip-moved")))
-    else then_read (call_read name found year) (λ asked. Ok (made_or_seen asked moment (is_dry_run found)))
+    else then_read (call_read name found context) (λ asked. Ok (made_or_seen asked moment (is_dry_run found)))
 
 -- the licences of a download are copied from this folder
 unfoldable pub texts_read : List ℕ → Rows → Result (Option (List ℕ)) Mistake
@@ -58,10 +61,10 @@ texts_read name found =
     if bytes_eq name (codes "download") then then_read (texts_folder_read found) (λ folder. Ok (Some folder))
     else Ok None
 
--- what the subcommand of this name asks for in the tree under the folder, at this moment of this year
-unfoldable pub subcommand_read : List ℕ → List ℕ → Rows → ℕ → ℕ → Result Invocation Mistake
-subcommand_read root name found moment year =
-    then_read (request_read name found moment year) (λ request.
+-- what the subcommand of this name asks for in the tree under the folder, at this moment
+unfoldable pub subcommand_read : List ℕ → List ℕ → Rows → ℕ → ContextView → Result Invocation Mistake
+subcommand_read root name found moment context =
+    then_read (request_read name found moment context) (λ request.
     then_read (texts_read name found) (λ texts. Ok (record {
       root = root;
       request = request;
@@ -71,27 +74,38 @@ subcommand_read root name found moment year =
     })))
 
 -- what the whole line asks for: the root stands before the subcommand
-unfoldable pub line_read : Rows → Option (List ℕ × Rows) → ℕ → ℕ → Result Invocation Mistake
-line_read above None moment year = Err (unread (codes "no subcommand"))
-line_read above (Some sub) moment year = subcommand_read (root_of above) sub.0 sub.1 moment year
+unfoldable pub line_read : Rows → Option (List ℕ × Rows) → ℕ → ContextView → Result Invocation Mistake
+line_read above None moment context = Err (unread (codes "no subcommand"))
+line_read above (Some sub) moment context = subcommand_read (root_of above) sub.0 sub.1 moment context
 
 -- what the words say, of which clap found this
-pub record IsParsed (above : Rows) (sub : Option (List ℕ × Rows)) (moment year : ℕ)
+pub record IsParsed (above : Rows) (sub : Option (List ℕ × Rows)) (moment : ℕ) (context : ContextView)
     (said : ParsedArguments) : Type 0 where
   pub verbose : said.verbose ≡ flag above (codes "verbose")
+  pub up : said.up ≡ flag above (codes "up")
   pub settings : said.settings ≡ settings_of above
   pub files_from : option_map string_bytes said.files_from ≡ files_from_of sub
-  pub line : IsExpectedAs asked_in (line_read above sub moment year) said.line
+  pub line : IsExpectedAs asked_in (line_read above sub moment context) said.line
 
 -- words that are no line; nothing else is read of them
 abbrev pub no_line : LineFault → ParsedArguments
-no_line fault = record { verbose = false; settings = usual_settings; files_from = None; line = Err fault }
+no_line fault = record { verbose = false; up = false; settings = usual_settings; files_from = None; line = Err fault }
 
--- what the words say in the year of the moment; an allocation failure may take its place
-abbrev pub Says : ArgMatches → ℕ → ParsedArguments → Type 0
-Says matches moment said =
+-- the same of the tree below this root
+abbrev pub line_at : Result Line LineFault → String Global → Result Line LineFault
+line_at (Ok line) root = Ok (record line { root = root })
+line_at (Err fault) root = Err fault
+
+abbrev pub said_at : ParsedArguments → String Global → ParsedArguments
+said_at said root = record said { line = line_at said.line root }
+
+-- what the words say in the year of the moment, where words of files start at the folder; an allocation failure may
+-- take its place
+abbrev pub Says : ArgMatches → ℕ → Option (List ℕ) → ParsedArguments → Type 0
+Says matches moment folder said =
     (said ≡ no_line faults.Memory)
-    ⊎ ((year : ℕ) × IsYearOf moment year × IsParsed (found_in matches) (subcommand_rows_of matches) moment year said)
+    ⊎ ((year : ℕ) × IsYearOf moment year × IsParsed (found_in matches) (subcommand_rows_of matches) moment
+    (record { year = year; folder = folder }) said)
 
 -- clap found this in the words, by the options of some command; of one that has groups or global options,
 -- as this program's has, clap's clause says nothing
@@ -104,6 +118,6 @@ IsRefused error said =
     (said ≡ no_line faults.Memory) ⊎ ((fault : LineFault) × IsReportedAs (kind_of error) fault × (said ≡ no_line fault))
 
 -- what the words say, to which clap answered this
-abbrev pub IsReadAs : Result ArgMatches Error → ℕ → ParsedArguments → Type 0
-IsReadAs (Ok matches) moment said = Says matches moment said
-IsReadAs (Err error) moment said = IsRefused error said
+abbrev pub IsReadAs : Result ArgMatches Error → ℕ → Option (List ℕ) → ParsedArguments → Type 0
+IsReadAs (Ok matches) moment folder said = Says matches moment folder said
+IsReadAs (Err error) moment folder said = IsRefused error said

@@ -11,6 +11,7 @@ use Rattle.reuse_command.specs.declared.command.Scope.{Scope}
 use Rattle.reuse_arguments.specs.AmendSteps.{prefix_read}
 use Rattle.reuse_arguments.specs.AmendWords.{amendments_read}
 use Rattle.reuse_arguments.specs.Choices.{how_of, unknown_of}
+use Rattle.reuse_arguments.specs.Contexts.{ContextView}
 use Rattle.reuse_arguments.specs.FileWords.{globs_read, places_read, style_read}
 use Rattle.reuse_arguments.specs.Found.{Rows, flag, value, values}
 use Rattle.reuse_arguments.specs.LineFaults.{Mistake, then_read, unless_refused}
@@ -53,16 +54,16 @@ scope_read found =
       excluded = globs;
     })))
 
-unfoldable pub annotate_read : Rows → ℕ → Result Command Mistake
-annotate_read found year =
-    then_read (places_read found) (λ places.
-    then_read (additions_read found year) (λ additions.
+unfoldable pub annotate_read : Rows → ContextView → Result Command Mistake
+annotate_read found context =
+    then_read (places_read context.folder found) (λ places.
+    then_read (additions_read found context.year) (λ additions.
     then_read (scope_read found) (λ scope.
     Ok (Annotate places additions (how_of found) scope))))
 
-unfoldable pub amend_read : Rows → Result Command Mistake
-amend_read found =
-    then_read (places_read found) (λ places.
+unfoldable pub amend_read : Rows → ContextView → Result Command Mistake
+amend_read found context =
+    then_read (places_read context.folder found) (λ places.
     then_read (amendments_read found) (λ amendments.
     then_read (scope_read found) (λ scope.
     Ok (Amend places amendments scope))))

@@ -24,21 +24,23 @@ path_at None = None
 path_at (Some place) = path_in place
 
 -- the path that a word names, as a word of the command line does; none where it isn't UTF-8
-abbrev pub path_of_word : List ℕ → Option (List ℕ)
-path_of_word word = if is_utf8 word then path_at (place_of_word word) else None
+abbrev pub path_of_word : Option (List ℕ) → List ℕ → Option (List ℕ)
+path_of_word folder word = if is_utf8 word then path_at (place_of_word folder word) else None
 
 -- a line without the carriage return of its end
 abbrev pub without_return : List ℕ → List ℕ
 without_return line = if ends_with nat_eq line (13 ∷ []) then take (length line - 1) line else line
 
 -- the path that a word names in a list with this separator: a line may end in CR LF
-abbrev pub path_listed : ℕ → List ℕ → Option (List ℕ)
-path_listed separator word = if separator == 10 then path_of_word (without_return word) else path_of_word word
+abbrev pub path_listed : Option (List ℕ) → ℕ → List ℕ → Option (List ℕ)
+path_listed folder separator word =
+    path_of_word folder (if separator == 10 then without_return word else word)
 
--- the paths that a list names
-abbrev pub listed_paths : List ℕ → List (List ℕ)
-listed_paths list = filter_map (path_listed (separator_of list)) (words_of list)
+-- the paths that a list names, where words start at the folder
+abbrev pub listed_paths : Option (List ℕ) → List ℕ → List (List ℕ)
+listed_paths folder list = filter_map (path_listed folder (separator_of list)) (words_of list)
 
 -- the paths of a list that is no longer than this, as a set
-abbrev pub paths_within : ℕ → List ℕ → Option (List (List ℕ))
-paths_within longest list = if nat_le (length list) longest then Some (set_of (listed_paths list)) else None
+abbrev pub paths_within : Option (List ℕ) → ℕ → List ℕ → Option (List (List ℕ))
+paths_within folder longest list =
+    if nat_le (length list) longest then Some (set_of (listed_paths folder list)) else None

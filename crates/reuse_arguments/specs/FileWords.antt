@@ -20,12 +20,12 @@ root_of found = unwrap_or (value found (codes "root")) (codes ".")
 abbrev pub files_from_of : Option (List ℕ × Rows) → Option (List ℕ)
 files_from_of sub = option_and_then (λ s. value s.1 (codes "files-from")) sub
 
--- the places, or the first word that names none
-abbrev pub place_read : List ℕ → Result Place Mistake
-place_read word = or_mistake (place_of_word word) (bad_path word)
+-- the places, where words start at the folder, or the first word that names none
+abbrev pub place_read : Option (List ℕ) → List ℕ → Result Place Mistake
+place_read folder word = or_mistake (place_of_word folder word) (bad_path word)
 
-abbrev pub places_read : Rows → Result (List Place) Mistake
-places_read found = each_read place_read (values found (codes "PATH"))
+abbrev pub places_read : Option (List ℕ) → Rows → Result (List Place) Mistake
+places_read folder found = each_read (place_read folder) (values found (codes "PATH"))
 
 -- the globs of the words, one after the other, or the first word that is none
 abbrev pub globs_of : List ℕ → Result (List (List GlobPiece)) Mistake

@@ -31,6 +31,7 @@ abbrev pub globs_along : Option (List ℕ) → Option (List (List GlobPiece))
 globs_along None = None
 globs_along (Some path) = read_globs (glob_texts path)
 
--- the globs of a word: it is written as the word of a place is, and names no root
+-- the globs of a word: it is written as the word of a place is, from the root, and names no
+-- root
 abbrev pub globs_of_word : List ℕ → Option (List (List GlobPiece))
-globs_of_word word = globs_along (path_at (place_of_word word))
+globs_of_word word = globs_along (path_at (place_of_word None word))

@@ -2,6 +2,7 @@ pub mod AmendSteps
 pub mod AmendWords
 pub mod Asking
 pub mod Choices
+pub mod Contexts
 pub mod CommandLine
 pub mod CommandWords
 pub mod FileLists

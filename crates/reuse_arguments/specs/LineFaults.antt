@@ -17,6 +17,7 @@ pub data Mistake : Type 0 where
   nothing_to_amend : Mistake
   bad_glob : List ℕ → Mistake
   unreadable : List ℕ → Mistake
+  no_tree : Mistake
 
 -- the mistake; an allocation failure is none
 abbrev pub mistake_of : LineFault → Option Mistake
@@ -27,6 +28,7 @@ mistake_of (faults.BadAdditions refusal) = option_map bad_additions (refusal_vie
 mistake_of faults.NothingToAmend = Some nothing_to_amend
 mistake_of (faults.BadGlob word) = Some (bad_glob (string_bytes word))
 mistake_of (faults.Unreadable file) = Some (unreadable (string_bytes file))
+mistake_of faults.NoTree = Some no_tree
 mistake_of faults.Memory = None
 
 -- words that nothing reads; clap refuses them before, but its contracts don't say so of a line with global options

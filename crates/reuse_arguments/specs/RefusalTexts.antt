@@ -13,4 +13,5 @@ line_fault_text (lines.BadAdditions refusal) = notice.refusal_text refusal
 line_fault_text lines.NothingToAmend = codes "nothing to amend"
 line_fault_text (lines.BadGlob word) = codes "bad glob: " ++ string_bytes word
 line_fault_text (lines.Unreadable file) = string_bytes file ++ codes ": cannot be read"
+line_fault_text lines.NoTree = codes "no folder from here upwards has .reuse or .git"
 line_fault_text lines.Memory = codes "out of memory"

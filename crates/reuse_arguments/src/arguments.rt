@@ -55,6 +55,9 @@ fn constrained<'a>(arg: Arg<'a>, constraint: Constraint) -> Result<Arg<'a>, Allo
         Constraint::Excludes(other) => arg.conflicts_with(other),
         Constraint::Alias(name) => arg.visible_alias(name),
         Constraint::Global(order) => Ok(arg.global(true).display_order(order)),
+        Constraint::Excluding(order, other) => {
+            arg.global(true).display_order(order).conflicts_with(other)
+        }
     }
 }
 

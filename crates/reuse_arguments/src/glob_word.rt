@@ -15,7 +15,7 @@ pub fn globs_of_word(alloc: Global, word: &str) -> Result<Option<Vec<Glob>>, All
     ensures { IfOk result (λ found. MatchOption found (globs_of_word word.now ≡ None)
         (λ globs. globs_of_word word.now ≡ Some globs.items)) }
 {
-    match place_of_word(alloc, word)? {
+    match place_of_word(alloc, None, word)? {
         Some(Place::Path(path)) => read_globs(alloc, path.text()),
         _ => Ok(None),
     }

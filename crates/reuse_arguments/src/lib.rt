@@ -8,6 +8,7 @@
 
 mod amend_options;
 mod arguments;
+mod context;
 pub mod file_list;
 mod glob_word;
 mod help;

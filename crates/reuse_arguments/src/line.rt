@@ -82,6 +82,8 @@ pub enum LineFault {
     BadGlob(String),
     /// The list of files can't be read.
     Unreadable(String),
+    /// No folder, from the working one upwards, is that of a tree.
+    NoTree,
     /// Memory ran out.
     Memory,
 }
@@ -97,6 +99,7 @@ impl fmt::Display for LineFault {
             LineFault::NothingToAmend => f.write_str("nothing to amend"),
             LineFault::BadGlob(word) => write!(f, "bad glob: {word}"),
             LineFault::Unreadable(file) => write!(f, "{file}: cannot be read"),
+            LineFault::NoTree => f.write_str("no folder from here upwards has .reuse or .git"),
             LineFault::Memory => f.write_str("out of memory"),
         }
     }

@@ -43,6 +43,8 @@ pub enum Constraint {
     Alias(&'static str),
     /// It may stand behind the subcommand as well, and is the one of this order in its help.
     Global(usize),
+    /// So it may, and it doesn't go with this option.
+    Excluding(usize, &'static str),
 }
 
 /// An option, or words without one: its long name, its short one, what it takes, what else holds of
@@ -86,31 +88,38 @@ pub const BEFORE: &[Argument] = &[
         "Work on the source tree below DIR [default: .]",
     ),
     Argument(
+        "up",
+        None,
+        ArgumentKind::Nothing,
+        Constraint::Excluding(102, "root"),
+        "Work on the tree around the working folder, at which PATHs start",
+    ),
+    Argument(
         "verbose",
         Some('v'),
         ArgumentKind::Nothing,
-        Constraint::Global(102),
+        Constraint::Global(103),
         "Print notes on standard error, as on a terminal",
     ),
     Argument(
         "no-sync",
         None,
         ArgumentKind::Nothing,
-        Constraint::Global(103),
+        Constraint::Global(104),
         "Leave out all syncs: faster, but a loss of power can empty files",
     ),
     Argument(
         "allow-owner-change",
         None,
         ArgumentKind::Nothing,
-        Constraint::Global(104),
+        Constraint::Global(105),
         "Change files even if they can't keep owner and group",
     ),
     Argument(
         "trust-journal",
         None,
         ArgumentKind::Nothing,
-        Constraint::Global(105),
+        Constraint::Global(106),
         "Open the journal even if it belongs to another user",
     ),
 ];

@@ -1,8 +1,8 @@
 //! The place that a word of the command line names.
 ghost use Rattle.std.specs.Prelude.{◌≡◌, ◌++◌, ◌∷◌, IfOk, OnOk, map, string_bytes, if◌then◌else◌};
 ghost use Rattle.std.specs.Option.{option_map};
-ghost use Rattle.reuse_arguments.specs.Places.{without_end_slash, parts_of, path_along, is_named, place_at};
-ghost use Rattle.reuse_arguments.specs.Places.{place_of_word};
+ghost use Rattle.reuse_arguments.specs.Places.{without_end_slash, parts_of, path_along, is_named, place_along, place_at};
+ghost use Rattle.reuse_arguments.specs.Places.{place_of_word, walked};
 ghost use Rattle.reuse_system.specs.Names.{between_slashes};
 
 use reuse_change::{PathError, PathText};
@@ -10,11 +10,32 @@ use reuse_command::command::Place;
 use std::alloc::{AllocError, Global};
 
 /// The place that the word names: parts `.` and a slash at the end are dropped, and `.` is the
-/// root. There is none where what is left is no path, as `/a` or `a/../b`.
-pub fn place_of_word(alloc: Global, word: &str) -> Result<Option<Place>, AllocError>
-    ensures { IfOk result (λ place. place ≡ place_of_word word.now) }
+/// root. There is none where what is left is no path, as `/a` or `a/../b`. Where words start at a
+/// folder of the tree, this is its path, or `.` for the root: then the word's parts lead on from
+/// there, a part `..` to the folder above, and there is no place above the root.
+pub fn place_of_word(
+    alloc: Global,
+    folder: Option<&str>,
+    word: &str,
+) -> Result<Option<Place>, AllocError>
+    ensures { IfOk result
+        (λ place. place ≡ place_of_word (option_map (λ text. text.now) folder.entry) word.now) }
 {
-    match path_of_word(alloc, word)? {
+    let parts = parts_of(alloc, word)?;
+    match folder {
+        None => place_along(alloc, parts.as_slice()),
+        Some(folder) => match walk(parts_of(alloc, folder)?, parts.as_slice())? {
+            Some(reached) => place_along(alloc, reached.as_slice()),
+            None => Ok(None),
+        },
+    }
+}
+
+// The place along these parts from the root.
+fn place_along(alloc: Global, parts: &[&str]) -> Result<Option<Place>, AllocError>
+    ensures { IfOk result (λ place. place ≡ place_at (path_along (map (λ part. part.now) parts.now))) }
+{
+    match path_along(alloc, parts)? {
         Some(path) => place_at(alloc, path.as_str()),
         None => Ok(Some(Place::Root)),
     }
@@ -30,19 +51,51 @@ fn place_at(alloc: Global, path: &str) -> Result<Option<Place>, AllocError>
     }
 }
 
-// The path along the word's parts, or none where there is no part.
-fn path_of_word(alloc: Global, word: &str) -> Result<Option<String>, AllocError>
-    ensures { IfOk result (λ path. option_map string_bytes path ≡ path_along (parts_of word.now)) }
+// Where these parts lead from a folder, which is given by its parts.
+#[tactic(auto, unfolding(crate::specs::Places::walked))]
+fn walk<'a>(
+    mut folder: Vec<&'a str>,
+    mut parts: &[&'a str],
+) -> Result<Option<Vec<&'a str>>, AllocError>
+    ensures { IfOk result (λ reached. option_map (λ v. map (λ part. part.now) v.items) reached
+        ≡ walked (map (λ part. part.now) folder.entry.items) (map (λ part. part.now) parts.entry.now)) }
+{
+    while let [part, others @ ..] = parts {
+        if *part != ".." {
+            folder.push(*part)?;
+        } else if folder.pop().is_none() {
+            return Ok(None);
+        }
+        parts = others;
+    }
+    Ok(Some(folder))
+}
+
+// The path along these parts, or none where there is no part.
+fn path_along(alloc: Global, parts: &[&str]) -> Result<Option<String>, AllocError>
+    ensures { IfOk result
+        (λ path. option_map string_bytes path ≡ path_along (map (λ part. part.now) parts.now)) }
 {
     let mut path = String::new(alloc);
     let mut is_empty = true;
-    for part in split_at_slashes(alloc, without_end_slash(word))?.as_slice() {
-        if is_named(part) {
-            push_part(&mut path, is_empty, part)?;
-            is_empty = false;
-        }
+    for part in parts {
+        push_part(&mut path, is_empty, part)?;
+        is_empty = false;
     }
     Ok(if is_empty { None } else { Some(path) })
+}
+
+// The word's parts that count.
+fn parts_of<'a>(alloc: Global, word: &'a str) -> Result<Vec<&'a str>, AllocError>
+    ensures { IfOk result (λ parts. map (λ part. part.now) parts.items ≡ parts_of word.now) }
+{
+    let mut parts = Vec::new(alloc);
+    for part in split_at_slashes(alloc, without_end_slash(word))?.as_slice() {
+        if is_named(part) {
+            parts.push(*part)?;
+        }
+    }
+    Ok(parts)
 }
 
 // The word without a slash at its end.

@@ -1,13 +1,13 @@
 //! From the words of a command line to what they ask for.
-ghost use Rattle.std.specs.Prelude.{◌≡◌, ◌≤◌, IfOk, Result, map, string_bytes};
+ghost use Rattle.std.specs.Prelude.{◌≡◌, IfOk, Result, map, string_bytes};
 ghost use Rattle.clap.specs.Simple.{subcommand_rows_of};
 ghost use Rattle.clap.specs.Values.{kind_of};
 ghost use Rattle.clap.specs.declared.error.Error.{Error};
 ghost use Rattle.clap.specs.declared.parser.matches.ArgMatches.{ArgMatches};
 ghost use Rattle.std.specs.Option.{option_map};
 ghost use Rattle.reuse_arguments.specs.Asking.{asked_in};
-ghost use Rattle.reuse_arguments.specs.CommandLine.{IsReadAs, IsRefused, Says, call_read, download_of, line_read};
-ghost use Rattle.reuse_arguments.specs.CommandLine.{no_line, request_read, subcommand_read, texts_read};
+ghost use Rattle.reuse_arguments.specs.CommandLine.{IsReadAs, IsRefused, Says, call_read, download_of, line_at, line_read};
+ghost use Rattle.reuse_arguments.specs.CommandLine.{no_line, request_read, said_at, subcommand_read, texts_read};
 ghost use Rattle.reuse_arguments.specs.Found.{found_in};
 ghost use Rattle.reuse_arguments.specs.LineFaults.{IsExpected, IsExpectedAs, IsReportedAs};
 
@@ -19,6 +19,7 @@ pub mod finder;
 mod found;
 mod unread_words;
 
+use crate::context::Context;
 use crate::line::{Line, LineFault};
 use crate::request::made_or_seen;
 use crate::settings::Settings;
@@ -33,7 +34,6 @@ use reuse_change::Moment;
 use reuse_command::command::Command;
 use reuse_command::licence::LicenceTexts;
 use reuse_command::request::{Call, Request};
-use reuse_shown::date::year_of;
 use std::alloc::{AllocError, Global};
 use unread_words::unread;
 
@@ -42,6 +42,8 @@ use unread_words::unread;
 pub struct ParsedArguments {
     /// Whether notes are asked for.
     pub verbose: bool,
+    /// Whether the root is the nearest folder, from the working one upwards, that is one of a tree.
+    pub up: bool,
     /// What is asked for of all calls alike.
     pub settings: Settings,
     /// The file that lists the files to be annotated or amended, where one is named.
@@ -56,15 +58,36 @@ impl ParsedArguments {
     {
         ParsedArguments {
             verbose: false,
+            up: false,
             settings: Settings::usual(),
             files_from: None,
             line: Err(fault),
         }
     }
+
+    /// The same of the tree below this root.
+    pub fn at_root(self, root: String) -> ParsedArguments
+        ensures { result ≡ said_at self root }
+    {
+        let ParsedArguments {
+            verbose,
+            up,
+            settings,
+            files_from,
+            line,
+        } = self;
+        ParsedArguments {
+            verbose,
+            up,
+            settings,
+            files_from,
+            line: line_at(line, root),
+        }
+    }
 }
 
 /// Reads the words, of which the first is the program's name. The current year is that of the
-/// moment.
+/// moment. Words of files start at the folder of the tree, or at its root where none is given.
 ///
 /// Faults come in this order: those of the words themselves, the first word that names no place,
 /// those of what `annotate` is to add or `amend` to change, and the first glob that is none.
@@ -73,26 +96,50 @@ pub fn words_to_command<F: Finder>(
     alloc: Global,
     words: &[String],
     moment: Moment,
+    folder: Option<&str>,
 ) -> ParsedArguments
     ensures { (found : Result ArgMatches Error) × F.answers finder.now (map string_bytes words.now) found
-        × IsReadAs found moment result }
+        × IsReadAs found moment (option_map (λ text. text.now) folder.entry) result }
 {
     match finder.find(alloc, words) {
-        Ok(matches) => said_in(alloc, &matches, moment),
+        Ok(matches) => said_in(alloc, &matches, moment, folder),
         Err(error) => refused(alloc, &error),
     }
 }
 
-/// What the words say, of which clap found this.
-fn said_in(alloc: Global, matches: &ArgMatches<'_>, moment: Moment) -> ParsedArguments
-    ensures { Says matches.now moment result }
+fn line_at(line: Result<Line, LineFault>, root: String) -> Result<Line, LineFault>
+    ensures { result ≡ line_at line root }
 {
+    match line {
+        Ok(line) => {
+            let mut line = line;
+            line.root = root;
+            Ok(line)
+        }
+        Err(fault) => {
+            drop(root);
+            Err(fault)
+        }
+    }
+}
+
+/// What the words say, of which clap found this.
+fn said_in(
+    alloc: Global,
+    matches: &ArgMatches<'_>,
+    moment: Moment,
+    folder: Option<&str>,
+) -> ParsedArguments
+    ensures { Says matches.now moment (option_map (λ text. text.now) folder.entry) result }
+{
+    let context = Context::of(moment, folder);
     match read_files_from(alloc, matches) {
         Ok(files_from) => ParsedArguments {
             verbose: flag(matches, "verbose"),
+            up: flag(matches, "up"),
             settings: read_settings(matches),
             files_from,
-            line: read_line(alloc, matches, moment, year_of(moment)),
+            line: read_line(alloc, matches, moment, &context),
         },
         Err(error) => ParsedArguments::fault(LineFault::from(error)),
     }
@@ -126,15 +173,14 @@ fn read_line(
     alloc: Global,
     matches: &ArgMatches<'_>,
     moment: Moment,
-    year: u16,
+    context: &Context<'_>,
 ) -> Result<Line, LineFault>
-    requires { year ≤ 9999 }
     ensures { IsExpectedAs asked_in
-        (line_read (found_in matches.now) (subcommand_rows_of matches.now) moment year) result }
+        (line_read (found_in matches.now) (subcommand_rows_of matches.now) moment context.now) result }
 {
     let root = read_root(alloc, matches)?;
     match subcommand(matches) {
-        Some((name, inner)) => read_subcommand(alloc, root, name, inner, moment, year),
+        Some((name, inner)) => read_subcommand(alloc, root, name, inner, moment, context),
         None => Err(unread(alloc, "no subcommand")?),
     }
 }
@@ -146,13 +192,12 @@ fn read_subcommand(
     name: &str,
     matches: &ArgMatches<'_>,
     moment: Moment,
-    year: u16,
+    context: &Context<'_>,
 ) -> Result<Line, LineFault>
-    requires { year ≤ 9999 }
     ensures { IsExpectedAs asked_in
-        (subcommand_read (string_bytes root) name.now (found_in matches.now) moment year) result }
+        (subcommand_read (string_bytes root) name.now (found_in matches.now) moment context.now) result }
 {
-    let request = read_request(alloc, name, matches, moment, year)?;
+    let request = read_request(alloc, name, matches, moment, context)?;
     Ok(Line {
         root,
         request,
@@ -168,10 +213,9 @@ fn read_request(
     name: &str,
     matches: &ArgMatches<'_>,
     moment: Moment,
-    year: u16,
+    context: &Context<'_>,
 ) -> Result<Request, LineFault>
-    requires { year ≤ 9999 }
-    ensures { IsExpected (request_read name.now (found_in matches.now) moment year) result }
+    ensures { IsExpected (request_read name.now (found_in matches.now) moment context.now) result }
 {
     match name {
         "log" => Ok(Request::Log),
@@ -181,7 +225,7 @@ fn read_request(
             skip_moved: flag(matches, "skip-moved"),
         }),
         _ => {
-            let call = read_call(alloc, name, matches, year)?;
+            let call = read_call(alloc, name, matches, context)?;
             Ok(made_or_seen(call, moment, is_dry_run(matches)))
         }
     }
@@ -191,14 +235,13 @@ fn read_call(
     alloc: Global,
     name: &str,
     matches: &ArgMatches<'_>,
-    year: u16,
+    context: &Context<'_>,
 ) -> Result<Call, LineFault>
-    requires { year ≤ 9999 }
-    ensures { IsExpected (call_read name.now (found_in matches.now) year) result }
+    ensures { IsExpected (call_read name.now (found_in matches.now) context.now) result }
 {
     match name {
-        "annotate" => Ok(Call::Run(read_annotate(alloc, matches, year)?)),
-        "amend" => Ok(Call::Run(read_amend(alloc, matches)?)),
+        "annotate" => Ok(Call::Run(read_annotate(alloc, matches, context)?)),
+        "amend" => Ok(Call::Run(read_amend(alloc, matches, context)?)),
         "convert-dep5" => Ok(Call::Run(Command::ConvertDep5)),
         "download" => Ok(Call::Run(read_download(alloc, matches)?)),
         "undo" => Ok(Call::Undo),

@@ -22,6 +22,7 @@ use reuse_arguments::words::{ParsedArguments, words_to_command};
 use reuse_session::Moment;
 use reuse_shown::error_output::ErrorOutput;
 use reuse_shown::shown_name::NameDisplay;
+use run::around::{SurroundingTree, surrounding_tree};
 use run::locked::{RunOptions, run_line};
 use run::run_result::RunResult;
 use std::alloc::Global;
@@ -51,29 +52,63 @@ fn read_words<R: Env + AllocGlobal>(rt: &R, alloc: Global) -> Result<Vec<String>
     }
 }
 
-/// What the words say that the program was called with.
-fn said_in<R: Env + AllocGlobal>(rt: &R, alloc: Global, moment: Moment) -> ParsedArguments {
-    match read_words(rt, alloc) {
-        Ok(words) => words_to_command(&Clap, alloc, words.as_slice(), moment),
-        Err(fault) => ParsedArguments::fault(fault),
+/// What the words say that the program was called with, and the folder of the tree at which words
+/// of files start, if they don't start at the root.
+fn said_in<R: Env + Files + AllocGlobal>(
+    rt: &R,
+    alloc: Global,
+    moment: Moment,
+) -> (ParsedArguments, Option<String>) {
+    let words = match read_words(rt, alloc) {
+        Ok(words) => words,
+        Err(fault) => return (ParsedArguments::fault(fault), None),
+    };
+    let said = words_to_command(&Clap, alloc, words.as_slice(), moment, None);
+    if said.up {
+        said_around(rt, alloc, words.as_slice(), moment)
+    } else {
+        (said, None)
     }
 }
 
-/// The line that was said, with the list of files that it names.
+/// What the words say of the tree around the working folder.
+fn said_around<R: Files + AllocGlobal>(
+    rt: &R,
+    alloc: Global,
+    words: &[String],
+    moment: Moment,
+) -> (ParsedArguments, Option<String>) {
+    match surrounding_tree(rt, alloc) {
+        Ok(SurroundingTree { root, folder }) => {
+            let start = Some(folder.as_str());
+            let said = words_to_command(&Clap, alloc, words, moment, start);
+            (said.at_root(root), Some(folder))
+        }
+        Err(fault) => (ParsedArguments::fault(fault), None),
+    }
+}
+
+/// The line that was said, with the list of files that it names, whose words start at the folder.
 fn whole_line<R: Files + Input>(
     rt: &R,
     alloc: Global,
     said: ParsedArguments,
+    folder: Option<String>,
 ) -> Result<Line, LineFault>
     ensures { IsReadWithList (option_map string_bytes said.files_from) said.line result }
 {
     let ParsedArguments {
         verbose: _,
+        up: _,
         settings: _,
         files_from,
         line,
     } = said;
-    with_list(rt, alloc, line?, files_from)
+    let start = match &folder {
+        Some(folder) => Some(folder.as_str()),
+        None => None,
+    };
+    with_list(rt, alloc, line?, files_from, start)
 }
 
 /// Which streams are terminals.
@@ -125,10 +160,10 @@ fn run_program<R: Runtime + Files<File = File> + AllocGlobal>(
     moment: Moment,
     terminals: Terminals,
 ) -> Ending {
-    let said = said_in(rt, alloc, moment);
+    let (said, folder) = said_in(rt, alloc, moment);
     let errors = ErrorOutput::new(rt, alloc, NameDisplay::on(terminals.errors));
     let run_options = terminals.run_options(&said);
-    match whole_line(rt, alloc, said) {
+    match whole_line(rt, alloc, said, folder) {
         Ok(line) => run_and_report(rt, &errors, alloc, line, run_options),
         Err(fault) => {
             let is_reported = report_arguments(rt, &errors, &fault, run_options.notes);

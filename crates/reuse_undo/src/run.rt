@@ -7,6 +7,7 @@
 mod above;
 pub(crate) mod access_refusal;
 mod answering;
+pub(crate) mod around;
 pub(crate) mod damage;
 pub(crate) mod diagnostics;
 mod line;

@@ -6,6 +6,7 @@ ghost use Rattle.reuse_arguments.specs.CommandWords.{scope_read};
 ghost use Rattle.reuse_arguments.specs.Found.{found_in};
 ghost use Rattle.reuse_arguments.specs.LineFaults.{IsExpected};
 
+use crate::context::Context;
 use crate::line::LineFault;
 use crate::words::amend_words::{prefix_in, read_amendments};
 use crate::words::choices::{read_how, read_unknown};
@@ -16,17 +17,16 @@ use reuse_command::command::{Command, Scope};
 use reuse_notice::{Additions, Prefix};
 use std::alloc::Global;
 
-/// What `annotate` is asked for, in this year.
+/// What `annotate` is asked for.
 pub fn read_annotate(
     alloc: Global,
     matches: &ArgMatches<'_>,
-    year: u16,
+    context: &Context<'_>,
 ) -> Result<Command, LineFault>
-    requires { year ≤ 9999 }
-    ensures { IsExpected (annotate_read (found_in matches.now) year) result }
+    ensures { IsExpected (annotate_read (found_in matches.now) context.now) result }
 {
-    let places = read_places(alloc, matches)?;
-    let additions = read_additions(alloc, matches, year)?;
+    let places = read_places(alloc, matches, context)?;
+    let additions = read_additions(alloc, matches, context)?;
     let scope = read_scope(alloc, matches)?;
     Ok(Command::Annotate {
         places,
@@ -37,10 +37,14 @@ pub fn read_annotate(
 }
 
 /// What `amend` is asked for.
-pub fn read_amend(alloc: Global, matches: &ArgMatches<'_>) -> Result<Command, LineFault>
-    ensures { IsExpected (amend_read (found_in matches.now)) result }
+pub fn read_amend(
+    alloc: Global,
+    matches: &ArgMatches<'_>,
+    context: &Context<'_>,
+) -> Result<Command, LineFault>
+    ensures { IsExpected (amend_read (found_in matches.now) context.now) result }
 {
-    let places = read_places(alloc, matches)?;
+    let places = read_places(alloc, matches, context)?;
     let amendments = read_amendments(alloc, matches)?;
     let scope = read_scope(alloc, matches)?;
     Ok(Command::Amend {
@@ -53,8 +57,15 @@ pub fn read_amend(alloc: Global, matches: &ArgMatches<'_>) -> Result<Command, Li
 fn read_additions(
     alloc: Global,
     matches: &ArgMatches<'_>,
-    year: u16,
+    context: &Context<'_>,
 ) -> Result<Additions, LineFault>
+    ensures { IsExpected (additions_read (found_in matches.now) context.now.year) result }
+{
+    additions_in(alloc, matches, context.year())
+}
+
+/// What is to be added in this year.
+fn additions_in(alloc: Global, matches: &ArgMatches<'_>, year: u16) -> Result<Additions, LineFault>
     requires { year ≤ 9999 }
     ensures { IsExpected (additions_read (found_in matches.now) year) result }
 {

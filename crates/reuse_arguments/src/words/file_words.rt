@@ -8,6 +8,7 @@ ghost use Rattle.reuse_arguments.specs.FileWords.{texts_folder_read};
 ghost use Rattle.reuse_arguments.specs.Found.{found_in};
 ghost use Rattle.reuse_arguments.specs.LineFaults.{IsExpected, IsExpectedAs, all_read, each_read};
 
+use crate::context::Context;
 use crate::glob_word::globs_of_word;
 use crate::line::LineFault;
 use crate::place_word::place_of_word;
@@ -19,7 +20,7 @@ use reuse_command::choice::Globs;
 use reuse_command::command::{Place, Places};
 use reuse_command::licence::Ids;
 use reuse_command::request::Steps;
-use reuse_header::Style;
+use reuse_header::NamedStyle;
 use reuse_text::Bytes;
 use reuse_toml::Glob;
 use std::alloc::{AllocError, Global};
@@ -48,26 +49,33 @@ pub fn read_files_from(
 }
 
 /// The places.
-pub fn read_places(alloc: Global, matches: &ArgMatches<'_>) -> Result<Places, LineFault>
-    ensures { IsExpected (places_read (found_in matches.now)) result }
+pub fn read_places(
+    alloc: Global,
+    matches: &ArgMatches<'_>,
+    context: &Context<'_>,
+) -> Result<Places, LineFault>
+    ensures { IsExpected (places_read context.now.folder (found_in matches.now)) result }
 {
-    Ok(Places::new(places_of(alloc, values(matches, "PATH"))?))
+    let words = values(matches, "PATH");
+    Ok(Places::new(places_of(alloc, context.folder(), words)?))
 }
 
-fn places_of(alloc: Global, words: &[&str]) -> Result<Vec<Place>, LineFault>
-    ensures { IsExpectedAs (λ places. places.items) (each_read place_read (map (λ word. word.now) words.now)) result }
+fn places_of(alloc: Global, folder: Option<&str>, words: &[&str]) -> Result<Vec<Place>, LineFault>
+    ensures { IsExpectedAs (λ places. places.items)
+        (each_read (place_read (option_map (λ text. text.now) folder.entry)) (map (λ word. word.now) words.now))
+        result }
 {
     let mut places = Vec::new(alloc);
     for word in words {
-        places.push(read_place(alloc, word)?)?;
+        places.push(read_place(alloc, folder, word)?)?;
     }
     Ok(places)
 }
 
-fn read_place(alloc: Global, word: &str) -> Result<Place, LineFault>
-    ensures { IsExpected (place_read word.now) result }
+fn read_place(alloc: Global, folder: Option<&str>, word: &str) -> Result<Place, LineFault>
+    ensures { IsExpected (place_read (option_map (λ text. text.now) folder.entry) word.now) result }
 {
-    match place_of_word(alloc, word)? {
+    match place_of_word(alloc, folder, word)? {
         Some(place) => Ok(place),
         None => Err(LineFault::BadPath(String::from_str(alloc, word)?)),
     }
@@ -101,16 +109,17 @@ fn read_glob(alloc: Global, word: &str) -> Result<Vec<Glob>, LineFault>
 }
 
 /// The style of all files, where one is named.
-pub fn read_style(
-    alloc: Global,
-    matches: &ArgMatches<'_>,
-) -> Result<Option<Style<'static>>, LineFault>
+pub fn read_style(alloc: Global, matches: &ArgMatches<'_>) -> Result<Option<NamedStyle>, LineFault>
     ensures { IsExpected (style_read (found_in matches.now)) result }
 {
     let Some(name) = value(matches, "style") else {
         return Ok(None);
     };
-    let style = or_unread(alloc, Style::of_name(name), "a style that nothing reads")?;
+    let style = or_unread(
+        alloc,
+        NamedStyle::of_name(name),
+        "a style that nothing reads",
+    )?;
     Ok(Some(style))
 }
 

@@ -9,7 +9,7 @@ use Rattle.reuse_arguments.specs.declared.line.LineFault.{LineFault}
 use Rattle.reuse_undo.specs.declared.print.status.Ending.{Ending}
 use Rattle.reuse_undo.specs.declared.print.status.Ending.TheVariants.{BadClock, NoLine, Denied, Called}
 use Rattle.reuse_arguments.specs.declared.line.LineFault.TheVariants.{Usage, Help, BadPath, BadAdditions}
-use Rattle.reuse_arguments.specs.declared.line.LineFault.TheVariants.{NothingToAmend, BadGlob, Unreadable, Memory}
+use Rattle.reuse_arguments.specs.declared.line.LineFault.TheVariants.{NothingToAmend, BadGlob, Unreadable, NoTree, Memory}
 
 -- after a call, by how many paths changed, or would change in a dry run: 1 where it was refused or failed, and 1 where
 -- a path changed and that is asked for
@@ -19,8 +19,8 @@ call_status_of on_change (Ok zero) = 0
 call_status_of Zero (Ok (suc others)) = 0
 call_status_of One (Ok (suc others)) = 1
 
--- 0 where help was asked for, 1 where memory ran out, and 2 where the words are wrong, or the list of files that they
--- name can't be read
+-- 0 where help was asked for, 1 where memory ran out, and 2 where the words are wrong, the list of files that they
+-- name can't be read, or no tree is around the working folder
 abbrev pub line_status_of : LineFault → ℕ
 line_status_of (Help text) = 0
 line_status_of Memory = 1
@@ -31,6 +31,7 @@ line_status_of (Usage text) = 2
 line_status_of (BadPath text) = 2
 line_status_of (BadGlob text) = 2
 line_status_of (Unreadable file) = 2
+line_status_of NoTree = 2
 
 -- of a run: 1 where the clock is out of range, and at least 1 where it couldn't be printed why the words are no line,
 -- or the help; and 1 where the program itself refused the call

@@ -85,6 +85,7 @@ fn line_status(fault: &LineFault) -> u8
         | LineFault::BadAdditions(_)
         | LineFault::NothingToAmend
         | LineFault::BadGlob(_)
-        | LineFault::Unreadable(_) => 2,
+        | LineFault::Unreadable(_)
+        | LineFault::NoTree => 2,
     }
 }

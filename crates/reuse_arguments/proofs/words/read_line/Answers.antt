@@ -8,8 +8,8 @@ pub returns-in-Some : goal.returns-in-Some
 unfolding line_read
 returns-in-Some c =
     expected_same _ _ _ _
-    (ap (λ sub. line_read (found_in c.args.matches.now) sub c.args.moment c.args.year) (sym c.in-Some.ensures)
-    ∙ ap (λ root. subcommand_read root c.in-Some.name.now (found_in c.in-Some.inner.now) c.args.moment c.args.year)
+    (ap (λ sub. line_read (found_in c.args.matches.now) sub c.args.moment c.args.context.now) (sym c.in-Some.ensures)
+    ∙ ap (λ root. subcommand_read root c.in-Some.name.now (found_in c.in-Some.inner.now) c.args.moment c.args.context.now)
     (sym c.in_ok-root.ensures))
     c.read_subcommand.ensures
 
@@ -17,4 +17,4 @@ pub returns-in_ok-unread-in-None : goal.returns-in_ok-unread-in-None
 unfolding line_read
 returns-in_ok-unread-in-None c =
     rw c.in_ok-unread-in-None.ensures (ap
-    (λ sub. line_read (found_in c.args.matches.now) sub c.args.moment c.args.year) (sym c.in-None.ensures))
+    (λ sub. line_read (found_in c.args.matches.now) sub c.args.moment c.args.context.now) (sym c.in-None.ensures))

@@ -15,20 +15,20 @@ returns-in_err-call-in_default c =
 
 pub returns-in-log : goal.returns-in-log
 unfolding request_read
-returns-in-log c = ap (λ name. request_read name (found_in c.args.matches.now) c.args.moment c.args.year) c.in-log.is
+returns-in-log c = ap (λ name. request_read name (found_in c.args.matches.now) c.args.moment c.args.context.now) c.in-log.is
 
 pub returns-in_err-read_step-in-show : goal.returns-in_err-read_step-in-show
 unfolding request_read
 returns-in_err-read_step-in-show c =
     expected_after _ _ _ _ c.from_residual.ensures.1
     (mistake_same _ _ _
-    (ap (λ name. request_read name (found_in c.args.matches.now) c.args.moment c.args.year) c.in-show.is)
+    (ap (λ name. request_read name (found_in c.args.matches.now) c.args.moment c.args.context.now) c.in-show.is)
     (mistake_first _ _ _ c.in_err-read_step-in-show.ensures))
 
 pub returns-in_ok-read_step-in-show : goal.returns-in_ok-read_step-in-show
 unfolding request_read
 returns-in_ok-read_step-in-show c =
-    ap (λ name. request_read name (found_in c.args.matches.now) c.args.moment c.args.year) c.in-show.is
+    ap (λ name. request_read name (found_in c.args.matches.now) c.args.moment c.args.context.now) c.in-show.is
     ∙ read_on _ _ _ c.in_ok-read_step-in-show.ensures
 
 pub returns-in_err-read_steps-in-forget : goal.returns-in_err-read_steps-in-forget
@@ -36,19 +36,19 @@ unfolding request_read
 returns-in_err-read_steps-in-forget c =
     expected_after _ _ _ _ c.from_residual-in_err-read_steps-in-forget.ensures.1
     (mistake_same _ _ _
-    (ap (λ name. request_read name (found_in c.args.matches.now) c.args.moment c.args.year) c.in-forget.is)
+    (ap (λ name. request_read name (found_in c.args.matches.now) c.args.moment c.args.context.now) c.in-forget.is)
     (mistake_first _ _ _ c.in_err-read_steps-in-forget.ensures))
 
 pub returns-in_ok-read_steps-in-forget : goal.returns-in_ok-read_steps-in-forget
 unfolding request_read
 returns-in_ok-read_steps-in-forget c =
-    ap (λ name. request_read name (found_in c.args.matches.now) c.args.moment c.args.year) c.in-forget.is
+    ap (λ name. request_read name (found_in c.args.matches.now) c.args.moment c.args.context.now) c.in-forget.is
     ∙ read_on _ _ _ c.in_ok-read_steps-in-forget.ensures
 
 pub returns-in-recover : goal.returns-in-recover
 unfolding request_read
 returns-in-recover c =
-    ap (λ name. request_read name (found_in c.args.matches.now) c.args.moment c.args.year) c.in-recover.is
+    ap (λ name. request_read name (found_in c.args.matches.now) c.args.moment c.args.context.now) c.in-recover.is
     ∙ ap (λ skip_moved. Ok (Recover skip_moved)) (sym c.flag.ensures)
 
 pub returns-in_ok-call-in_default : goal.returns-in_ok-call-in_default

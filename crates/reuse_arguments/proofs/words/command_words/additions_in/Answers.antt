@@ -4,7 +4,7 @@ use Rattle.reuse_arguments.proofs.LineFaultLemmas.{expected_after, mistake_behin
 use Rattle.reuse_arguments.proofs.CommandWordLemmas.{additions_now, additions_refused, arguments_same, prefix_same}
 use Rattle.reuse_arguments.specs.CommandWords.{additions_read}
 use Rattle.reuse_arguments.specs.Found.{found_in}
-use Rattle.reuse_arguments.proofs.words.command_words.read_additions.Goals as goal
+use Rattle.reuse_arguments.proofs.words.command_words.additions_in.Goals as goal
 
 pub returns-in_err-prefix : goal.returns-in_err-prefix
 unfolding additions_read
