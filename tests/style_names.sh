@@ -17,6 +17,7 @@ export XDG_CACHE_HOME=$room LC_ALL=C.UTF-8
 # The names that are left: reuse's word for their comment, why, and the names
 left() {
   cat << LEFT
+bibtex|an address in the header holds an @, behind which BibTeX reads an entry|.bib
 applescript|such a file is compiled, and its text has another name|.scpt .scptd
 neighbour|such a file is the neighbour of another|.license
 LEFT
