@@ -1,7 +1,8 @@
 #!/usr/bin/env bash
-# Calls from folders of a tree with --up, as root and not: PATHs, lists of files and parts `..` start
-# at the working folder, the root is the nearest one with .reuse or .git. Each call makes of the tree
-# what the one with --root and whole paths makes. Ends with status 1 at the first fault.
+# Calls from folders of a tree with --up: PATHs, lists of files and parts `..` start at the working
+# folder, the root is the nearest one with .reuse or .git. Each call, and its dry run, makes of the
+# tree what the one with --root and whole paths makes. Run as root, it calls as nobody too, also
+# below folders that nobody may not list or search. Ends with status 1 at the first fault.
 # usage: tests/up.sh PROGRAM
 set -euo pipefail
 . "$(dirname "$0")/common.sh"
@@ -65,6 +66,8 @@ refused src 'bad path: ../../x' annotate -l MIT ../../x
 refused src 'bad path: /a.py' annotate -l MIT /a.py
 refused src 'bad path: deep//c.py' annotate -l MIT deep//c.py
 refused . 'bad path: ..' annotate -l MIT -r ..
+same src/deep annotate -n -l MIT -r ../.. : annotate -n -l MIT -r .
+same src amend -n --replace-license MIT ISC -r . : amend -n --replace-license MIT ISC -r src
 refused src "cannot be used with" --root . annotate -l MIT b.py
 
 # The nearest root counts, and what was done is undone from any folder.
@@ -94,5 +97,28 @@ if [[ ! -e $(dirname "$room")/.git && ! -e $(dirname "$room")/.reuse && ! -e /.g
   (cd "$room/bare" && "$program" --up log) > "$room/told" 2>&1 || status=$?
   [[ $status == 2 && $(cat "$room/told") == 'reuse-undo: no folder from here upwards has .reuse or .git' ]] ||
     fail "without a tree: status $status, $(cat "$room/told")"
+fi
+# As nobody, below a folder that can't be listed, and below one that can't be searched either
+if ((EUID == 0)); then
+  as_nobody() { (cd "$tree/src" && setpriv --reuid=65534 --regid=65534 --clear-groups "$room/up" "$@"); }
+  tree_of
+  cp "$program" "$room/up"
+  chmod 755 "$room" "$room/up"
+  chown -R 65534:65534 "$tree"
+  chown 0:0 "$room"
+  chmod 711 "$room"
+  [[ $(as_nobody --up annotate -n -l MIT b.py) == 'would change src/b.py' ]] || fail 'a dry run as nobody'
+  [[ $(as_nobody --up annotate -l MIT b.py) == 'changed src/b.py' ]] || fail 'a call as nobody'
+  [[ $(as_nobody undo --up) == 'undone src/b.py' && $(cat "$tree/src/b.py") == 'b = 1' ]] ||
+    fail 'an undo as nobody'
+  mkdir "$room/closed"
+  mv "$tree" "$room/closed"
+  tree=$room/closed/tree
+  chmod 700 "$room/closed"
+  status=0
+  (cd "$tree/src" && setpriv --reuid=65534 --regid=65534 --clear-groups "$room/up" --up log) \
+    > "$room/told" 2>&1 || status=$?
+  [[ $status == 2 && $(cat "$room/told") == 'reuse-undo: no folder from here upwards has .reuse or .git' ]] ||
+    fail "below a closed folder: status $status, $(cat "$room/told")"
 fi
 echo 'up: ok'
