@@ -157,6 +157,8 @@ sample Dockerfile '# syntax=docker/dockerfile:1\nFROM debian\n' python3 -c \
   'import sys; sys.exit(not open(sys.argv[1]).read().startswith("# syntax=docker/dockerfile:1\n"))'
 sample a.bat '@echo off\necho 1\n' python3 -c \
   'import sys; sys.exit(not open(sys.argv[1]).read().startswith("@echo off\n"))'
+sample a.ftl '<#ftl encoding="utf-8">\n${x}\n' python3 -c \
+  'import sys; sys.exit(not open(sys.argv[1]).read().startswith("<#ftl"))'
 sample a.rst 'Text\n====\n' rst2html.py
 echo "$files names are annotated and taken back; $passed of $samples samples pass their" \
   "languages' own tools, and the others' aren't there"
