@@ -4,6 +4,9 @@ use Rattle.std.proofs.Common.{refl, sym, ◌∙◌, ap, subst, cond, append_asso
 use Rattle.std.proofs.lemmas.Slice.Eq.{bytes_eq-Decides}
 use Rattle.reuse_system.specs.FileStates.{Place, FileState, StateFile}
 use Rattle.reuse_system.specs.NameChanges.{Look, NameChange, AreEach, reported_of, change_at, change_of_free}
+use Rattle.reuse_system.specs.NameChanges.{change_to}
+use Rattle.reuse_system.specs.NewFiles.{Due, IsAsDue}
+use Rattle.reuse_system.specs.declared.system.new_status.NewStatus.{NewStatus}
 use Rattle.reuse_system.specs.NameChanges.{IsExpected, IsChangeOf, IsGuarded, OnlyChanges}
 use Rattle.reuse_system.specs.SystemLaws.{IsAlikeBut, IsLeft, IsOneFile, IsRenamed, IsSeen, MayBeRenamed, IsLinked}
 use Rattle.reuse_system.specs.SystemLaws.{MayBeLinked}
@@ -64,11 +67,16 @@ only_weaker P Q from a b only =
 
 -- ---- guarded changes
 
+-- what was reported of the place is what the look reported
+looked_here : (look : Option Look) (place : Place) (found : Found)
+    → look ≡ Some (record { place = place; reported = found }) → reported_of look place ≡ Some found
+looked_here look place found is = ap (λ l. reported_of l place) is ∙ reported_here place found
+
 -- no name changed
-pub guarded_none : (IsTempFile : Place → Type 0) (target : Place) (seen : Option FileStatus) (a b : List NameChange)
+pub guarded_none : (IsTempFile : Place → Type 0) (target : Place) (due : Due) (a b : List NameChange)
     (old new : FileState) → b ≡ a
-    → (¬ (IsTempFile target) → new target ≡ old target) → IsGuarded IsTempFile target seen a b old new
-guarded_none IsTempFile target seen a b old new e same = record {
+    → (¬ (IsTempFile target) → new target ≡ old target) → IsGuarded IsTempFile target due a b old new
+guarded_none IsTempFile target due a b old new e same = record {
   changes = [];
   grown = e;
   each = tt;
@@ -76,85 +84,98 @@ guarded_none IsTempFile target seen a b old new e same = record {
 }
 
 -- places for new files changed
-pub guarded_only : (IsTempFile : Place → Type 0) (target : Place) (seen : Option FileStatus) (a b : List NameChange)
+pub guarded_only : (IsTempFile : Place → Type 0) (target : Place) (due : Due) (a b : List NameChange)
     (old new : FileState) → OnlyChanges IsTempFile a b
-    → (¬ (IsTempFile target) → new target ≡ old target) → IsGuarded IsTempFile target seen a b old new
-guarded_only IsTempFile target seen a b old new only same =
+    → (¬ (IsTempFile target) → new target ≡ old target) → IsGuarded IsTempFile target due a b old new
+guarded_only IsTempFile target due a b old new only same =
     record {
       changes = only.changes;
       grown = only.grown;
-      each = weaker (λ change. IsTempFile change.place) (IsChangeOf IsTempFile target seen)
+      each = weaker (λ change. IsTempFile change.place) (IsChangeOf IsTempFile target due)
           (λ change at. inl at) only.changes only.each;
       same = λ none. same;
     }
 
--- the target was looked at, and then changed
-pub guarded_look : (IsTempFile : Place → Type 0) (target : Place) (seen : Option FileStatus) (found : Found)
+pub expected_due : (due : Due) (seen : Option FileStatus) (found : Found) → due.seen ≡ seen
+    → IsExpected seen (Some found) → IsExpected due.seen (Some found)
+expected_due due seen found is expected = subst (λ one. IsExpected one (Some found)) (sym is) expected
+
+-- the target was looked at, and then lost its file
+pub guarded_look : (IsTempFile : Place → Type 0) (target : Place) (due : Due) (found : Found)
     (look : Option Look) (a b c : List NameChange) (old new : FileState)
-    → b ≡ a → look ≡ Some (record { place = target; reported = found }) → IsExpected seen (Some found)
-    → c ≡ (change_at look target ∷ b) → IsGuarded IsTempFile target seen a c old new
-guarded_look IsTempFile target seen found look a b c old new same reported expected grown =
-    let at : change_at look target ≡ record {
-      place = target;
-      reported = Some found;
-    } = ap (λ l. change_at l target) reported ∙ ap
-    (λ t. let one : NameChange = record { place = target; reported = t } in one) (reported_here target found) in
-    let one : NameChange = record { place = target; reported = Some found } in
+    → b ≡ a → look ≡ Some (record { place = target; reported = found }) → IsExpected due.seen (Some found)
+    → c ≡ (change_at look target ∷ b) → IsGuarded IsTempFile target due a c old new
+guarded_look IsTempFile target due found look a b c old new same reported expected grown =
     record {
-      changes = one ∷ [];
-      grown = grown ∙ ap (λ x. x ∷ b) at ∙ ap (λ l. one ∷ l) same;
-      each = (inr (refl, expected), tt);
+      changes = change_at look target ∷ [];
+      grown = grown ∙ ap (λ l. change_at look target ∷ l) same;
+      each = (inr (refl, subst (IsExpected due.seen) (sym (looked_here look target found reported)) expected, tt), tt);
+      same = λ none. absurd (none.0 refl);
+    }
+
+-- the target was looked at, and then given to this file
+pub guarded_name : (IsTempFile : Place → Type 0) (target : Place) (due : Due) (found : Found) (status : NewStatus)
+    (look : Option Look) (a b c : List NameChange) (old new : FileState)
+    → b ≡ a → look ≡ Some (record { place = target; reported = found }) → IsExpected due.seen (Some found)
+    → IsAsDue due status → c ≡ (change_to look target status ∷ b) → IsGuarded IsTempFile target due a c old new
+guarded_name IsTempFile target due found status look a b c old new same reported expected as_due grown =
+    record {
+      changes = change_to look target status ∷ [];
+      grown = grown ∙ ap (λ l. change_to look target status ∷ l) same;
+      each =
+          (inr (refl, subst (IsExpected due.seen) (sym (looked_here look target found reported)) expected, as_due), tt);
       same = λ none. absurd (none.0 refl);
     }
 
 -- the target got its name by a link
-pub guarded_link : (IsTempFile : Place → Type 0) (target : Place) (a b : List NameChange) (old new : FileState)
-    → b ≡ (change_of_free target ∷ a) → IsGuarded IsTempFile target None a b old new
-guarded_link IsTempFile target a b old new grown =
+pub guarded_link : (IsTempFile : Place → Type 0) (target : Place) (due : Due) (status : NewStatus)
+    (a b : List NameChange) (old new : FileState) → due.seen ≡ None → IsAsDue due status
+    → b ≡ (change_of_free target status ∷ a) → IsGuarded IsTempFile target due a b old new
+guarded_link IsTempFile target due status a b old new none as_due grown =
     record {
-      changes = change_of_free target ∷ [];
+      changes = change_of_free target status ∷ [];
       grown = grown;
-      each = (inr (refl, refl), tt);
+      each = (inr (refl, subst (λ seen. IsExpected seen (Some found.Nothing)) (sym none) refl, as_due), tt);
       same = λ none. absurd (none.0 refl);
     }
 
 -- a place for new files changed
-pub guarded_temp_file : (IsTempFile : Place → Type 0) (target at : Place) (seen : Option FileStatus)
+pub guarded_temp_file : (IsTempFile : Place → Type 0) (target at : Place) (due : Due)
     (look : Option Look) (a b : List NameChange) (old new : FileState)
     → IsTempFile at → b ≡ (change_at look at ∷ a) → (¬ (IsTempFile target) → new target ≡ old target)
-    → IsGuarded IsTempFile target seen a b old new
-guarded_temp_file IsTempFile target at seen look a b old new is grown same =
+    → IsGuarded IsTempFile target due a b old new
+guarded_temp_file IsTempFile target at due look a b old new is grown same =
     record { changes = change_at look at ∷ []; grown = grown; each = (inl is, tt); same = λ none. same }
 
-pub guarded_then : (IsTempFile : Place → Type 0) (target : Place) (seen : Option FileStatus) (a b c : List NameChange)
+pub guarded_then : (IsTempFile : Place → Type 0) (target : Place) (due : Due) (a b c : List NameChange)
     (old mid new : FileState)
-    → IsGuarded IsTempFile target seen a b old mid → IsGuarded IsTempFile target seen b c mid new
-    → IsGuarded IsTempFile target seen a c old new
-guarded_then IsTempFile target seen a b c old mid new one two =
+    → IsGuarded IsTempFile target due a b old mid → IsGuarded IsTempFile target due b c mid new
+    → IsGuarded IsTempFile target due a c old new
+guarded_then IsTempFile target due a b c old mid new one two =
     record {
       changes = two.changes ++ one.changes;
       grown = two.grown ∙ ap (λ l. two.changes ++ l) one.grown ∙ sym (append_assoc two.changes one.changes a);
-      each = both (IsChangeOf IsTempFile target seen) two.changes one.changes two.each one.each;
+      each = both (IsChangeOf IsTempFile target due) two.changes one.changes two.each one.each;
       same = λ none no.
           two.same (front_of (λ change. change.place ≢ target) two.changes one.changes none) no
           ∙ one.same (back_of (λ change. change.place ≢ target) two.changes one.changes none) no;
     }
 
-change_weaker : (P Q : Place → Type 0) (target : Place) (seen : Option FileStatus)
-    → ((place : Place) → P place → Q place) → (change : NameChange) → IsChangeOf P target seen change
-    → IsChangeOf Q target seen change
-change_weaker P Q target seen from change (inl at) = inl (from change.place at)
-change_weaker P Q target seen from change (inr at) = inr at
+change_weaker : (P Q : Place → Type 0) (target : Place) (due : Due)
+    → ((place : Place) → P place → Q place) → (change : NameChange) → IsChangeOf P target due change
+    → IsChangeOf Q target due change
+change_weaker P Q target due from change (inl at) = inl (from change.place at)
+change_weaker P Q target due from change (inr at) = inr at
 
-pub guarded_weaker : (P Q : Place → Type 0) (target : Place) (seen : Option FileStatus)
+pub guarded_weaker : (P Q : Place → Type 0) (target : Place) (due : Due)
     → ((place : Place) → P place → Q place) → (a b : List NameChange) (old new : FileState)
-    → IsGuarded P target seen a b old new → IsGuarded Q target seen a b old new
-guarded_weaker P Q target seen from a b old new one =
+    → IsGuarded P target due a b old new → IsGuarded Q target due a b old new
+guarded_weaker P Q target due from a b old new one =
     record {
       changes = one.changes;
       grown = one.grown;
-      each = weaker (IsChangeOf P target seen) (IsChangeOf Q target seen)
-          (change_weaker P Q target seen from) one.changes one.each;
+      each = weaker (IsChangeOf P target due) (IsChangeOf Q target due)
+          (change_weaker P Q target due from) one.changes one.each;
       same = λ none no. one.same none (λ at. no (from target at));
     }
 

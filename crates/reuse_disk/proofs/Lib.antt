@@ -6,6 +6,7 @@ pub mod NextNames
 pub mod PlaceLemmas
 pub mod OpenFoldersLemmas
 pub mod WrittenLemmas
+mod DueLemmas
 pub mod EditLemmas
 pub mod LeftLemmas
 pub mod NoteLemmas

@@ -10,7 +10,7 @@ use Rattle.reuse_disk.specs.Written.{StandsAlone, IsMoved, IsFresh, IsPlaced, Is
 -- ---- a file that stands alone
 
 -- of a file that stands alone nothing else differs
-alone_alike : (key : FileKey) (from : Place) (had : List ℕ) (was : Bool) (a b : FileState)
+pub alone_alike : (key : FileKey) (from : Place) (had : List ℕ) (was : Bool) (a b : FileState)
     → StandsAlone from key had was a → IsAlikeButFile key a b → IsAlikeBut from a b
 alone_alike key from had was a b alone alike other apart = alike other (alone.alone other apart)
 

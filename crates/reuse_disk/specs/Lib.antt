@@ -1,3 +1,4 @@
+pub mod Due
 pub mod LeftFiles
 pub mod Noted
 pub mod OpenFolders

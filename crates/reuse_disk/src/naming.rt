@@ -2,6 +2,7 @@
 //! before, and a file that is made takes its name by a link, which takes no name that is there.
 ghost use Rattle.std.specs.Prelude.{◌≡◌, ◌≢◌, Bool, List, ℕ, MatchResult, None, Some, IfOk, IsTrue};
 ghost use Rattle.reuse_system.specs.NameChanges.{IsExpected, IsGuarded};
+ghost use Rattle.reuse_system.specs.NewFiles.{Due, IsAsDue};
 ghost use Rattle.reuse_system.specs.SystemLaws.{IsAlikeBut, IsOneFile, IsRemoved, IsRenamed, MayBeRenamed};
 ghost use Rattle.reuse_system.specs.TempFiles.{name_in, place_of, key_of};
 ghost use Rattle.reuse_system.specs.FileStates.{file};
@@ -68,8 +69,9 @@ fn replace<S: System>(
         → IfOk result (λ _. S.holds system.new (place_of temp_file.now) ≡ None) }
     ensures free { S.honest system.new → seen ≡ None
         → IfOk result (λ _. S.holds system.old (name_in target.entry.folder.now target.entry.name.now) ≡ None) }
-    ensures guarded { IsGuarded (λ place. place ≡ place_of temp_file.now)
-        (name_in target.entry.folder.now target.entry.name.now) seen
+    ensures guarded { (due : Due) → due.seen ≡ seen → IsAsDue due temp_file.now.status
+        → IsGuarded (λ place. place ≡ place_of temp_file.now)
+        (name_in target.entry.folder.now target.entry.name.now) due
         (S.changes system.old) (S.changes system.new) (S.holds system.old) (S.holds system.new) }
     ensures still { S.folders system.new ≡ S.folders system.old }
     ensures earlier { S.honest system.new → S.honest system.old }
@@ -96,8 +98,9 @@ fn take_name<S: System>(
         → ¬ (IsOneFile (S.holds system.old (place_of temp_file.now))
         (S.holds system.old (name_in target.entry.folder.now target.entry.name.now)))
         → IfOk result (λ _. S.holds system.new (place_of temp_file.now) ≡ None) }
-    ensures guarded { IsGuarded (λ place. place ≡ place_of temp_file.now)
-        (name_in target.entry.folder.now target.entry.name.now) None
+    ensures guarded { (due : Due) → due.seen ≡ None → IsAsDue due temp_file.now.status
+        → IsGuarded (λ place. place ≡ place_of temp_file.now)
+        (name_in target.entry.folder.now target.entry.name.now) due
         (S.changes system.old) (S.changes system.new) (S.holds system.old) (S.holds system.new) }
     ensures still { S.folders system.new ≡ S.folders system.old }
     ensures earlier { S.honest system.new → S.honest system.old }
@@ -130,8 +133,9 @@ fn give_name<S: System>(
         → ¬ (IsOneFile (S.holds system.old (place_of temp_file.now))
         (S.holds system.old (name_in target.entry.folder.now target.entry.name.now)))
         → IfOk result (λ _. S.holds system.new (place_of temp_file.now) ≡ None) }
-    ensures guarded { IsGuarded (λ place. place ≡ place_of temp_file.now)
-        (name_in target.entry.folder.now target.entry.name.now) seen
+    ensures guarded { (due : Due) → due.seen ≡ seen → IsAsDue due temp_file.now.status
+        → IsGuarded (λ place. place ≡ place_of temp_file.now)
+        (name_in target.entry.folder.now target.entry.name.now) due
         (S.changes system.old) (S.changes system.new) (S.holds system.old) (S.holds system.new) }
     ensures still { S.folders system.new ≡ S.folders system.old }
     ensures earlier { S.honest system.new → S.honest system.old }
@@ -154,7 +158,8 @@ pub fn remove_seen<S: System>(
         (S.holds system.new))
         (λ _. IsAlikeBut (name_in target.entry.folder.now target.entry.name.now) (S.holds system.old)
         (S.holds system.new)) }
-    ensures guarded { IsGuarded (λ _. ⊥) (name_in target.entry.folder.now target.entry.name.now) (Some seen)
+    ensures guarded { (due : Due) → due.seen ≡ Some seen
+        → IsGuarded (λ _. ⊥) (name_in target.entry.folder.now target.entry.name.now) due
         (S.changes system.old) (S.changes system.new) (S.holds system.old) (S.holds system.new) }
     ensures still { S.folders system.new ≡ S.folders system.old }
     ensures earlier { S.honest system.new → S.honest system.old }
@@ -183,8 +188,9 @@ pub fn name_temp_file<S: System>(
         → ¬ (IsOneFile (S.holds system.old (place_of temp_file.now))
         (S.holds system.old (name_in target.entry.folder.now target.entry.name.now)))
         → IsTrue (is_named result) → S.holds system.new (place_of temp_file.now) ≡ None }
-    ensures guarded { IsGuarded (λ place. place ≡ place_of temp_file.now)
-        (name_in target.entry.folder.now target.entry.name.now) seen
+    ensures guarded { (due : Due) → due.seen ≡ seen → IsAsDue due temp_file.now.status
+        → IsGuarded (λ place. place ≡ place_of temp_file.now)
+        (name_in target.entry.folder.now target.entry.name.now) due
         (S.changes system.old) (S.changes system.new) (S.holds system.old) (S.holds system.new) }
     ensures still { S.folders system.new ≡ S.folders system.old }
     ensures earlier { S.honest system.new → S.honest system.old }

@@ -1,11 +1,15 @@
 //! Writing a file as a whole or not at all: a new one is written to a temporary file, and its data
 //! is synced before it is given its name.
-ghost use Rattle.std.specs.Prelude.{◌≡◌, ◌⊎◌, [], None, MatchResult, false, is_ok, IfOk, IsErr, codes};
+ghost use Rattle.std.specs.Prelude.{◌≡◌, ◌⊎◌, [], None, Some, MatchResult, false, is_ok, IfOk, IsErr, codes};
 ghost use Rattle.reuse_change.specs.Parts.{joined};
 ghost use Rattle.reuse_system.specs.NameChanges.{IsGuarded, OnlyChanges};
+ghost use Rattle.reuse_system.specs.NewFiles.{made_mode, made_status, IsAsDue, IsSameFile};
+ghost use Rattle.reuse_system.specs.Owners.{kept_owner};
 ghost use Rattle.reuse_system.specs.SystemLaws.{IsAlikeBut, IsAlikeButFile, IsAlikeUnless, IsFilled};
 ghost use Rattle.reuse_system.specs.TempFiles.{name_in, place_of, key_of, beside_name, new_name, IsNewIn, IsNewNameIn};
 ghost use Rattle.reuse_system.specs.TempFiles.{IsNewPlace};
+ghost use Rattle.reuse_system.specs.declared.owner.Owner.{Owner};
+ghost use Rattle.reuse_disk.specs.Due.{asked_for, due_of};
 ghost use Rattle.reuse_disk.specs.Written.{StandsAlone, IsWritten, IsPlaced, LeavesNone, is_kept, is_named};
 
 use crate::naming::{Target, name_temp_file};
@@ -19,7 +23,7 @@ use reuse_system::new_name::{NewName, beside_name};
 use reuse_system::owner::{Owner, Process};
 use reuse_system::parts_writer::write_parts;
 use reuse_system::place::{FileStatus, Found};
-use reuse_system::system::{System, TempFile};
+use reuse_system::system::{Grants, System, TempFile};
 use std::alloc::Global;
 use std::io::{self, ErrorKind};
 
@@ -46,7 +50,9 @@ pub struct Content<'a> {
 
 impl Content<'_> {
     /// The bits that the file is to have in place of those of a new file.
-    fn mode(&self) -> Option<u32> {
+    fn mode(&self) -> Option<u32>
+        ensures { result ≡ asked_for self.now.found }
+    {
         self.found.map(|status| status.mode)
     }
 }
@@ -55,10 +61,8 @@ impl Content<'_> {
 #[derive(Drop)]
 pub struct NewFile {
     folder: OpenFolder,
-    /// A mode that a file was created with here, and that it was seen to have.
-    granted: Option<u32>,
-    /// Whose a file is that was created here.
-    made: Option<Owner>,
+    /// What the system gives to files that are made here.
+    grants: Grants,
     /// Whose the last file is that was written.
     kept: Option<Owner>,
     /// The parts of the last short file, joined: its memory serves the next one.
@@ -75,6 +79,7 @@ fn make<S: System>(
 ) -> io::Result<TempFile>
     ensures made { IfOk result (λ temp_file. (place_of temp_file ≡ name_in folder.now name.now)
         × StandsAlone (place_of temp_file) (key_of temp_file) [] false (S.holds system.new)) }
+    ensures status { IfOk result (λ temp_file. temp_file.status ≡ made_status mode) }
     ensures others { IsAlikeBut (name_in folder.now name.now) (S.holds system.old) (S.holds system.new) }
     ensures still { S.folders system.new ≡ S.folders system.old }
     ensures earlier { S.honest system.new → S.honest system.old }
@@ -97,26 +102,10 @@ impl NewFile {
     {
         NewFile {
             folder,
-            granted: None,
-            made: None,
+            grants: Grants::none(),
             kept: None,
             joined: Vec::new(alloc),
         }
-    }
-
-    /// Gives these bits to a file that was created with them here. It lacks those that the user's
-    /// mask takes away; a mode that was granted once is granted again.
-    fn set_mode(&mut self, temp_file: &TempFile, mode: u32) -> io::Result<()>
-        ensures { self.new.folder ≡ self.old.folder }
-    {
-        if self.granted == Some(mode) {
-            return Ok(());
-        }
-        if temp_file.mode()? == mode {
-            self.granted = Some(mode);
-            return Ok(());
-        }
-        temp_file.set_mode(mode)
     }
 
     /// Whose the file is that was written last.
@@ -126,36 +115,34 @@ impl NewFile {
 
     /// Gives a file that was created here to the owner that it is to have, as far as may be.
     /// Nothing is written to it before, so nobody reads what he may not.
-    fn keep_owner(&mut self, temp_file: &TempFile, wanted: Wanted<'_>) -> io::Result<()>
-        ensures { self.new.folder ≡ self.old.folder }
+    fn keep_owner(&mut self, temp_file: &mut TempFile, wanted: Wanted<'_>) -> io::Result<()>
+        ensures folder { self.new.folder ≡ self.old.folder }
+        ensures same { IsSameFile temp_file.old temp_file.new }
+        ensures mode { temp_file.new.status.mode ≡ temp_file.old.status.mode }
+        ensures owner { IfOk result (λ _. (made : Owner)
+            × (temp_file.new.status.owner ≡ Some (kept_owner wanted.entry.process.now wanted.entry.owner made))) }
     {
-        let made = match self.made {
-            Some(made) => made,
-            None => temp_file.owner()?,
-        };
-        self.made = Some(made);
+        let made = self.grants.owner_of(temp_file)?;
         let owner = wanted.process.kept_owner(wanted.owner, made);
         self.kept = Some(owner);
-        if owner == made {
-            return Ok(());
-        }
-        let user = (owner.user != made.user).then_some(owner.user);
-        let group = (owner.group != made.group).then_some(owner.group);
-        temp_file.give_to(user, group)
+        temp_file.give_to(owner)
     }
 
     /// Writes the content to a file that was created with its bits.
     fn fill<S: System>(
         &mut self,
         system: &mut S,
-        temp_file: &TempFile,
+        temp_file: &mut TempFile,
         content: Content<'_>,
     ) -> io::Result<()>
         ensures folder { self.new.folder ≡ self.old.folder }
         ensures filled { MatchResult result
-            (λ _. IsFilled (key_of temp_file.now) (joined content.entry.parts) false (S.holds system.old)
+            (λ _. IsFilled (key_of temp_file.old) (joined content.entry.parts) false (S.holds system.old)
             (S.holds system.new))
-            (λ _. IsAlikeButFile (key_of temp_file.now) (S.holds system.old) (S.holds system.new)) }
+            (λ _. IsAlikeButFile (key_of temp_file.old) (S.holds system.old) (S.holds system.new)) }
+        ensures same { IsSameFile temp_file.old temp_file.new }
+        ensures kept { temp_file.old.status.mode ≡ made_mode (asked_for content.entry.found)
+            → IfOk result (λ _. IsAsDue (due_of content.entry) temp_file.new.status) }
         ensures still { S.folders system.new ≡ S.folders system.old }
         ensures earlier { S.honest system.new → S.honest system.old }
         ensures changes { S.changes system.new ≡ S.changes system.old }
@@ -163,7 +150,7 @@ impl NewFile {
         self.keep_owner(temp_file, content.wanted)?;
         write_parts(system, temp_file, &mut self.joined, content.parts)?;
         match content.mode() {
-            Some(mode) => self.set_mode(temp_file, mode),
+            Some(mode) => self.grants.give_mode(temp_file, mode),
             None => Ok(()),
         }
     }
@@ -172,7 +159,7 @@ impl NewFile {
     fn complete<S: System>(
         &mut self,
         system: &mut S,
-        temp_file: &TempFile,
+        temp_file: &mut TempFile,
         path: &str,
         content: Content<'_>,
         unsynced: &mut Unsynced,
@@ -181,9 +168,12 @@ impl NewFile {
         ensures syncs { unsynced.new.syncs ≡ unsynced.old.syncs }
         ensures folders { unsynced.new.folders ≡ unsynced.old.folders }
         ensures filled { MatchResult result
-            (λ _. IsFilled (key_of temp_file.now) (joined content.entry.parts) (is_kept unsynced.old.syncs)
+            (λ _. IsFilled (key_of temp_file.old) (joined content.entry.parts) (is_kept unsynced.old.syncs)
             (S.holds system.old) (S.holds system.new))
-            (λ _. IsAlikeButFile (key_of temp_file.now) (S.holds system.old) (S.holds system.new)) }
+            (λ _. IsAlikeButFile (key_of temp_file.old) (S.holds system.old) (S.holds system.new)) }
+        ensures same { IsSameFile temp_file.old temp_file.new }
+        ensures kept { temp_file.old.status.mode ≡ made_mode (asked_for content.entry.found)
+            → IfOk result (λ _. IsAsDue (due_of content.entry) temp_file.new.status) }
         ensures still { S.folders system.new ≡ S.folders system.old }
         ensures earlier { S.honest system.new → S.honest system.old }
         ensures changes { S.changes system.new ≡ S.changes system.old }
@@ -197,7 +187,7 @@ impl NewFile {
     fn put_in_place<S: System>(
         &mut self,
         system: &mut S,
-        temp_file: &TempFile,
+        temp_file: &mut TempFile,
         target: Target<'_>,
         content: Content<'_>,
         unsynced: &mut Unsynced,
@@ -205,15 +195,17 @@ impl NewFile {
         ensures folder { self.new.folder ≡ self.old.folder }
         ensures syncs { unsynced.new.syncs ≡ unsynced.old.syncs }
         ensures folders { unsynced.new.folders ≡ unsynced.old.folders }
-        ensures placed { StandsAlone (place_of temp_file.now) (key_of temp_file.now) [] false (S.holds system.old)
-            → IsPlaced (S.honest system.new) (place_of temp_file.now)
+        ensures placed { StandsAlone (place_of temp_file.old) (key_of temp_file.old) [] false (S.holds system.old)
+            → IsPlaced (S.honest system.new) (place_of temp_file.old)
             (name_in target.entry.folder.now target.entry.name.now) (joined content.entry.parts)
             (is_kept unsynced.old.syncs) (S.holds system.old) (S.holds system.new) (is_named result) (is_named result) }
+        ensures same { IsSameFile temp_file.old temp_file.new }
         ensures still { S.folders system.new ≡ S.folders system.old }
         ensures earlier { S.honest system.new → S.honest system.old }
-        ensures guarded { StandsAlone (place_of temp_file.now) (key_of temp_file.now) [] false (S.holds system.old)
-            → IsGuarded (λ place. place ≡ place_of temp_file.now)
-            (name_in target.entry.folder.now target.entry.name.now) content.entry.found
+        ensures guarded { StandsAlone (place_of temp_file.old) (key_of temp_file.old) [] false (S.holds system.old)
+            → temp_file.old.status.mode ≡ made_mode (asked_for content.entry.found)
+            → IsGuarded (λ place. place ≡ place_of temp_file.old)
+            (name_in target.entry.folder.now target.entry.name.now) (due_of content.entry)
             (S.changes system.old) (S.changes system.new) (S.holds system.old) (S.holds system.new) }
     {
         self.complete(system, temp_file, target.path, content, unsynced)?;
@@ -224,7 +216,7 @@ impl NewFile {
     fn put_or_discard<S: System>(
         &mut self,
         system: &mut S,
-        temp_file: &TempFile,
+        temp_file: &mut TempFile,
         target: Target<'_>,
         content: Content<'_>,
         unsynced: &mut Unsynced,
@@ -232,15 +224,17 @@ impl NewFile {
         ensures folder { self.new.folder ≡ self.old.folder }
         ensures syncs { unsynced.new.syncs ≡ unsynced.old.syncs }
         ensures folders { unsynced.new.folders ≡ unsynced.old.folders }
-        ensures placed { StandsAlone (place_of temp_file.now) (key_of temp_file.now) [] false (S.holds system.old)
-            → IsPlaced (S.honest system.new) (place_of temp_file.now)
+        ensures placed { StandsAlone (place_of temp_file.old) (key_of temp_file.old) [] false (S.holds system.old)
+            → IsPlaced (S.honest system.new) (place_of temp_file.old)
             (name_in target.entry.folder.now target.entry.name.now) (joined content.entry.parts)
             (is_kept unsynced.old.syncs) (S.holds system.old) (S.holds system.new) (is_named result) (is_ok result) }
+        ensures same { IsSameFile temp_file.old temp_file.new }
         ensures still { S.folders system.new ≡ S.folders system.old }
         ensures earlier { S.honest system.new → S.honest system.old }
-        ensures guarded { StandsAlone (place_of temp_file.now) (key_of temp_file.now) [] false (S.holds system.old)
-            → IsGuarded (λ place. place ≡ place_of temp_file.now)
-            (name_in target.entry.folder.now target.entry.name.now) content.entry.found
+        ensures guarded { StandsAlone (place_of temp_file.old) (key_of temp_file.old) [] false (S.holds system.old)
+            → temp_file.old.status.mode ≡ made_mode (asked_for content.entry.found)
+            → IsGuarded (λ place. place ≡ place_of temp_file.old)
+            (name_in target.entry.folder.now target.entry.name.now) (due_of content.entry)
             (S.changes system.old) (S.changes system.new) (S.holds system.old) (S.holds system.new) }
     {
         let named = self.put_in_place(system, temp_file, target, content, unsynced);
@@ -258,8 +252,7 @@ impl NewFile {
     fn forget_granted(&mut self)
         ensures { self.new.folder ≡ self.old.folder }
     {
-        self.granted = None;
-        self.made = None;
+        self.grants = Grants::none();
     }
 
     /// Fails if a file of the target could be taken for one that is written to a temporary file
@@ -295,11 +288,11 @@ impl NewFile {
         ensures still { S.folders system.new ≡ S.folders system.old }
         ensures earlier { S.honest system.new → S.honest system.old }
         ensures guarded { IsGuarded (IsNewPlace self.old.folder.identity target.entry.folder.now.identity)
-            (name_in target.entry.folder.now target.entry.name.now) content.entry.found
+            (name_in target.entry.folder.now target.entry.name.now) (due_of content.entry)
             (S.changes system.old) (S.changes system.new) (S.holds system.old) (S.holds system.new) }
     {
-        let temp_file = make(system, &self.folder, NEW, content.mode())?;
-        self.put_or_discard(system, &temp_file, target, content, unsynced)
+        let mut temp_file = make(system, &self.folder, NEW, content.mode())?;
+        self.put_or_discard(system, &mut temp_file, target, content, unsynced)
     }
 
     /// Writes the content beside the file that it is to be, and gives it the name of that.
@@ -321,13 +314,13 @@ impl NewFile {
         ensures still { S.folders system.new ≡ S.folders system.old }
         ensures earlier { S.honest system.new → S.honest system.old }
         ensures guarded { IsGuarded (IsNewPlace self.old.folder.identity target.entry.folder.now.identity)
-            (name_in target.entry.folder.now target.entry.name.now) content.entry.found
+            (name_in target.entry.folder.now target.entry.name.now) (due_of content.entry)
             (S.changes system.old) (S.changes system.new) (S.holds system.old) (S.holds system.new) }
     {
         let name = beside_name(alloc, self.folder.identity())?;
-        let temp_file = make(system, target.folder, name.as_str(), content.mode())?;
+        let mut temp_file = make(system, target.folder, name.as_str(), content.mode())?;
         self.forget_granted();
-        let named = self.put_or_discard(system, &temp_file, target, content, unsynced);
+        let named = self.put_or_discard(system, &mut temp_file, target, content, unsynced);
         self.forget_granted();
         if named? {
             return Ok(());
@@ -362,7 +355,7 @@ impl NewFile {
         ensures still { S.folders system.new ≡ S.folders system.old }
         ensures earlier { S.honest system.new → S.honest system.old }
         ensures guarded { IsGuarded (IsNewPlace self.old.folder.identity target.entry.folder.now.identity)
-            (name_in target.entry.folder.now target.entry.name.now) content.entry.found
+            (name_in target.entry.folder.now target.entry.name.now) (due_of content.entry)
             (S.changes system.old) (S.changes system.new) (S.holds system.old) (S.holds system.new) }
     {
         self.check(target)?;
@@ -384,6 +377,7 @@ impl NewFile {
         ensures filled { IfOk result (λ temp_file. (place_of temp_file ≡ name_in self.old.folder (new_name number))
             × StandsAlone (place_of temp_file) (key_of temp_file) (joined content.entry.parts) false
             (S.holds system.new)) }
+        ensures kept { IfOk result (λ temp_file. IsAsDue (due_of content.entry) temp_file.status) }
         ensures others { IsAlikeBut (name_in self.old.folder (new_name number)) (S.holds system.old)
             (S.holds system.new) }
         ensures still { S.folders system.new ≡ S.folders system.old }
@@ -391,8 +385,8 @@ impl NewFile {
         ensures changes { OnlyChanges (IsNewIn self.old.folder.identity) (S.changes system.old) (S.changes system.new) }
     {
         let name = NewName::of_number(alloc, number)?;
-        let temp_file = make(system, &self.folder, name.as_str(), content.mode())?;
-        if let Err(error) = self.fill(system, &temp_file, content) {
+        let mut temp_file = make(system, &self.folder, name.as_str(), content.mode())?;
+        if let Err(error) = self.fill(system, &mut temp_file, content) {
             let _ = system.discard(&temp_file);
             return Err(error.into());
         }

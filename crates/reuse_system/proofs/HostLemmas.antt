@@ -8,6 +8,7 @@ use Rattle.std.proofs.lemmas.Slice.Eq.{bytes_eq-Decides}
 use Rattle.std.specs.Str.{bytes_eq}
 use Rattle.std.specs.declared.io.Error.{Error}
 use Rattle.reuse_system.specs.declared.system.TempFile.{TempFile}
+use Rattle.reuse_system.specs.declared.system.new_status.NewStatus.{NewStatus}
 use Rattle.reuse_system.specs.TempFiles.{place_of, key_of}
 use Rattle.reuse_system.specs.FileStates.{FileKey, StateFile, Place, FileState, file, IsNot}
 use Rattle.reuse_system.specs.FileStates.FileKey.{Found, Made}
@@ -116,12 +117,12 @@ left_by from to held false differ =
 
 -- what a renaming that was done leaves at the old name
 pub left_noted : (files : List (Place × (ℕ × (List ℕ × Bool)))) (effects : List ℕ) (calls : List SystemCall)
-    (from to : Place) (answer : Result (Unit {0}) Error)
+    (from to : Place) (given : NewStatus) (answer : Result (Unit {0}) Error)
     → IfOk answer (λ _. IsLeft from to (held_after files effects calls)
-    (held_after files effects (RenameCall from to (is_ok answer) ∷ calls)))
-left_noted files effects calls from to (Ok done) =
+    (held_after files effects (RenameCall from to given (is_ok answer) ∷ calls)))
+left_noted files effects calls from to given (Ok done) =
     left_by from to (held_after files effects calls) (bytes_eq from to) refl
-left_noted files effects calls from to (Err error) = tt
+left_noted files effects calls from to given (Err error) = tt
 
 may_rename : (effect : ℕ) (from to : Place) (held : FileState)
     → MayBeRenamed from to held (renamed_by effect from to held)
@@ -130,12 +131,12 @@ may_rename (suc effect) from to held = inr (renames from to held)
 
 -- what a file that was to be renamed leaves
 pub rename_noted : (files : List (Place × (ℕ × (List ℕ × Bool)))) (effects : List ℕ) (calls : List SystemCall)
-    (from to : Place) (answer : Result (Unit {0}) Error)
-    → let new = held_after files effects (RenameCall from to (is_ok answer) ∷ calls) in
+    (from to : Place) (given : NewStatus) (answer : Result (Unit {0}) Error)
+    → let new = held_after files effects (RenameCall from to given (is_ok answer) ∷ calls) in
     MatchResult answer (λ _. IsRenamed from to (held_after files effects calls) new)
     (λ _. MayBeRenamed from to (held_after files effects calls) new)
-rename_noted files effects calls from to (Ok done) = renames from to (held_after files effects calls)
-rename_noted files effects calls from to (Err error) =
+rename_noted files effects calls from to given (Ok done) = renames from to (held_after files effects calls)
+rename_noted files effects calls from to given (Err error) =
     may_rename (effect_at effects (length calls)) from to (held_after files effects calls)
 
 -- ---- a file that is made is none of those that were made before
@@ -229,10 +230,10 @@ step-below effect (AppendCall number bytes false) calls held old =
     λ place. filled_if-below (made_of calls) number (take effect bytes) false (held place) (old place)
 step-below effect (SyncCall number is) calls held old =
     λ place. filled_if-below (made_of calls) number [] is (held place) (old place)
-step-below effect (RenameCall from to true) calls held old = renamed-below (made_of calls) from to held old
-step-below effect (RenameCall from to false) calls held old = renamed_by-below (made_of calls) effect from to held old
-step-below effect (LinkCall from to true) calls held old = linked-below (made_of calls) from to held old
-step-below effect (LinkCall from to false) calls held old = linked_by-below (made_of calls) effect from to held old
+step-below effect (RenameCall from to given true) calls held old = renamed-below (made_of calls) from to held old
+step-below effect (RenameCall from to given false) calls held old = renamed_by-below (made_of calls) effect from to held old
+step-below effect (LinkCall from to given true) calls held old = linked-below (made_of calls) from to held old
+step-below effect (LinkCall from to given false) calls held old = linked_by-below (made_of calls) effect from to held old
 step-below effect (RemoveCall at true) calls held old = set-below (made_of calls) held at None tt old
 step-below effect (RemoveCall at false) calls held old = set_by-below (made_of calls) effect held at None tt old
 step-below effect (LookCall at answer) calls held old = old
@@ -313,11 +314,11 @@ may_link (suc effect) from to held = linked_or_not from to held (bytes_eq from t
 
 -- what a file that was to be linked leaves
 pub link_noted : (files : List (Place × (ℕ × (List ℕ × Bool)))) (effects : List ℕ) (calls : List SystemCall)
-    (from to : Place) (answer : Result (Unit {0}) Error)
+    (from to : Place) (given : NewStatus) (answer : Result (Unit {0}) Error)
     → IfOk answer (λ _. from ≢ to)
-    → let new = held_after files effects (LinkCall from to (is_ok answer) ∷ calls) in
+    → let new = held_after files effects (LinkCall from to given (is_ok answer) ∷ calls) in
     MatchResult answer (λ _. IsLinked from to (held_after files effects calls) new)
     (λ _. MayBeLinked from to (held_after files effects calls) new)
-link_noted files effects calls from to (Ok done) apart = links from to (held_after files effects calls) apart
-link_noted files effects calls from to (Err error) apart =
+link_noted files effects calls from to given (Ok done) apart = links from to (held_after files effects calls) apart
+link_noted files effects calls from to given (Err error) apart =
     may_link (effect_at effects (length calls)) from to (held_after files effects calls)

@@ -6,6 +6,7 @@ pub mod Folders
 pub mod Ignored
 pub mod NameChanges
 pub mod Names
+pub mod NewFiles
 pub mod Owners
 pub mod Readings
 pub mod SystemCall

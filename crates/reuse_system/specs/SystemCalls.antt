@@ -7,7 +7,7 @@ use Rattle.std.specs.Str.{bytes_eq}
 use Rattle.reuse_system.specs.FileStates.{FileKey, StateFile, Place, FileState, file, place_in}
 use Rattle.reuse_system.specs.FileStates.FileKey.{Found, Made}
 use Rattle.reuse_system.specs.Folders.{Folders, folder_in}
-use Rattle.reuse_system.specs.NameChanges.{Look, NameChange, change_at, change_of_free}
+use Rattle.reuse_system.specs.NameChanges.{Look, NameChange, change_at, change_of_free, change_to}
 use Rattle.reuse_system.specs.SystemCall.{SystemCall, made_of}
 use Rattle.reuse_system.specs.SystemCall.SystemCall.{MakeCall, AppendCall, SyncCall, RenameCall, LinkCall, RemoveCall}
 use Rattle.reuse_system.specs.SystemCall.SystemCall.{LookCall, ReadCall, RootCall, OpenCall, NoFolderCall}
@@ -113,10 +113,10 @@ held_by effect made (MakeCall place false) held = set_by effect held place (file
 held_by effect made (AppendCall number bytes true) held = filled number bytes false held
 held_by effect made (AppendCall number bytes false) held = filled number (take effect bytes) false held
 held_by effect made (SyncCall number is_done) held = filled number [] is_done held
-held_by effect made (RenameCall from to true) held = renamed from to held
-held_by effect made (RenameCall from to false) held = renamed_by effect from to held
-held_by effect made (LinkCall from to true) held = linked from to held
-held_by effect made (LinkCall from to false) held = linked_by effect from to held
+held_by effect made (RenameCall from to given true) held = renamed from to held
+held_by effect made (RenameCall from to given false) held = renamed_by effect from to held
+held_by effect made (LinkCall from to given true) held = linked from to held
+held_by effect made (LinkCall from to given false) held = linked_by effect from to held
 held_by effect made (RemoveCall place true) held = set held place None
 held_by effect made (RemoveCall place false) held = set_by effect held place None
 held_by effect made (LookCall place answer) held = held
@@ -165,8 +165,8 @@ folders_by effect (RemoveFolderCall place false) folders = without_folder_by eff
 folders_by effect (MakeCall place is_done) folders = folders
 folders_by effect (AppendCall number bytes is_done) folders = folders
 folders_by effect (SyncCall number is_done) folders = folders
-folders_by effect (RenameCall from to is_done) folders = folders
-folders_by effect (LinkCall from to is_done) folders = folders
+folders_by effect (RenameCall from to given is_done) folders = folders
+folders_by effect (LinkCall from to given is_done) folders = folders
 folders_by effect (RemoveCall place is_done) folders = folders
 folders_by effect (LookCall place answer) folders = folders
 folders_by effect (ReadCall place said limit answer) folders = folders
@@ -198,8 +198,8 @@ looked_of calls = None
 -- the names that files were given or lost by these calls, the newest first
 abbrev pub changes_of : List SystemCall → List NameChange
 changes_of [] = []
-changes_of (RenameCall from to is_done ∷ calls) = change_at (looked_of calls) to ∷ changes_of calls
-changes_of (LinkCall from to is_done ∷ calls) = change_of_free to ∷ changes_of calls
+changes_of (RenameCall from to given is_done ∷ calls) = change_to (looked_of calls) to given ∷ changes_of calls
+changes_of (LinkCall from to given is_done ∷ calls) = change_of_free to given ∷ changes_of calls
 changes_of (RemoveCall place is_done ∷ calls) = change_at (looked_of calls) place ∷ changes_of calls
 changes_of (MakeCall place is_done ∷ calls) = changes_of calls
 changes_of (AppendCall number bytes is_done ∷ calls) = changes_of calls
@@ -235,8 +235,9 @@ abbrev pub call_of : CallKind → List ℕ → List ℕ → SystemCall
 call_of (kind.Make folder is_done) name other = MakeCall (place_in folder name) is_done
 call_of (kind.Append number is_done) bytes other = AppendCall number bytes is_done
 call_of (kind.Sync number is_done) name other = SyncCall number is_done
-call_of (kind.Rename from to is_done) name other = RenameCall (place_in from name) (place_in to other) is_done
-call_of (kind.Link from to is_done) name other = LinkCall (place_in from name) (place_in to other) is_done
+call_of (kind.Rename from to given is_done) name other =
+    RenameCall (place_in from name) (place_in to other) given is_done
+call_of (kind.Link from to given is_done) name other = LinkCall (place_in from name) (place_in to other) given is_done
 call_of (kind.Remove folder is_done) name other = RemoveCall (place_in folder name) is_done
 call_of (kind.Look folder answer) name other = LookCall (place_in folder name) answer
 call_of (kind.Root opened) name other = RootCall opened

@@ -190,12 +190,16 @@ impl OpenFolder {
     }
 
     /// Whose the folder is.
-    pub fn owner(&self) -> Owner {
+    pub fn owner(&self) -> Owner
+        ensures { result ≡ self.now.owner }
+    {
         self.owner
     }
 
     /// Whether the folder passes its group on to what is made in it.
-    pub fn passes_group(&self) -> bool {
+    pub fn passes_group(&self) -> bool
+        ensures { result ≡ self.now.passes_group }
+    {
         self.passes_group
     }
 

@@ -7,22 +7,24 @@ ghost use Rattle.reuse_system.specs.Folders.{Folders};
 ghost use Rattle.reuse_system.specs.NameChanges.{Look, NameChange};
 ghost use Rattle.reuse_system.specs.declared.place.Identity.{Identity};
 
+mod grants;
 mod host;
 mod make_file;
+mod new_status;
 mod open_file;
 mod record;
 
 use crate::fault::FolderFault;
 use crate::handle::{Below, OpenFolder, Start};
-use crate::owner::Owner;
-use crate::place::{FileStatus, Found, Identity, kept_bits};
+use crate::place::{FileStatus, Found, Identity};
 use crate::process::ProcessIds;
+pub use grants::Grants;
 pub use host::HostSystem;
+pub use new_status::{NewMode, NewStatus};
 use reuse_store::Reading;
 use std::alloc::Global;
-use std::fs::{File, Permissions};
+use std::fs::File;
 use std::io;
-use std::os::unix::fs::{PermissionsExt, fchown};
 
 /// A new temporary file that is written and has no name of its own yet.
 #[derive(Drop)]
@@ -35,28 +37,8 @@ pub struct TempFile {
     name: String,
     /// How many files were made before.
     number: u64,
-}
-
-impl TempFile {
-    /// Whose it is.
-    pub fn owner(&self) -> io::Result<Owner> {
-        Ok(Owner::of(&self.file.metadata()?))
-    }
-
-    /// The bits of its mode that a rewritten file keeps.
-    pub fn mode(&self) -> io::Result<u32> {
-        Ok(kept_bits(&self.file.metadata()?))
-    }
-
-    /// Gives it these bits.
-    pub fn set_mode(&self, mode: u32) -> io::Result<()> {
-        self.file.set_permissions(Permissions::from_mode(mode))
-    }
-
-    /// Gives it to this user and group.
-    pub fn give_to(&self, user: Option<u32>, group: Option<u32>) -> io::Result<()> {
-        fchown(&self.file, user, group)
-    }
+    /// What is known of its bits and its owner.
+    status: NewStatus,
 }
 
 /// A regular file that is open for reading.
@@ -75,7 +57,8 @@ pub trait System {
     ghost use Rattle.reuse_system.specs.SystemLaws.{IsRenamed, IsLeft, IsRemoved, IsLinked, MayBeLinked, MayBeRenamed};
     ghost use Rattle.reuse_system.specs.SystemLaws.{IsFolderMade, IsFolderRemoved, IsSeen, IsReadOf, IsOpenedBelow};
     ghost use Rattle.reuse_system.specs.TempFiles.{name_in, place_of, opened_at, key_of};
-    ghost use Rattle.reuse_system.specs.NameChanges.{change_at, change_of_free};
+    ghost use Rattle.reuse_system.specs.NameChanges.{change_at, change_of_free, change_to};
+    ghost use Rattle.reuse_system.specs.NewFiles.{made_status};
     ghost use Rattle.reuse_system.specs.Within.{IsWithin};
 
     /// The regular file that each name in a folder leads to.
@@ -88,7 +71,8 @@ pub trait System {
     ghost looked: { Self → Option Look };
 
     /// The names that files were given or lost so far, the newest first, each with what a look
-    /// directly before reported of it. It reports what was there, whoever has written it.
+    /// directly before reported of it, and with what is known of a file that was given it. A look
+    /// reports what was there, whoever has written it.
     ghost changes: { Self → List NameChange };
 
     /// The folders that were synced so far, the newest first.
@@ -105,6 +89,7 @@ pub trait System {
             (λ temp_file. (place_of temp_file ≡ name_in folder.now name.now)
             × IsMade (name_in folder.now name.now) (key_of temp_file) (holds self.old) (holds self.new))
             (λ _. IsAlikeBut (name_in folder.now name.now) (holds self.old) (holds self.new)) }
+        ensures status { IfOk result (λ temp_file. temp_file.status ≡ made_status mode) }
         ensures still { folders self.new ≡ folders self.old }
         ensures earlier { honest self.new → honest self.old }
         ensures changes { changes self.new ≡ changes self.old }
@@ -140,8 +125,8 @@ pub trait System {
             (λ _. IsLeft (place_of temp_file.now) (name_in folder.now name.now) (holds self.old) (holds self.new)) }
         ensures still { folders self.new ≡ folders self.old }
         ensures earlier { honest self.new → honest self.old }
-        ensures changes { changes self.new ≡ change_at (looked self.old)
-            (name_in folder.now name.now) ∷ changes self.old }
+        ensures changes { changes self.new ≡ change_to (looked self.old)
+            (name_in folder.now name.now) temp_file.now.status ∷ changes self.old }
         ensures no_sync { synced self.new ≡ synced self.old };
 
     /// Gives the file this name too. It fails where anything has the name; where it fails
@@ -153,7 +138,8 @@ pub trait System {
             (holds self.new)) }
         ensures still { folders self.new ≡ folders self.old }
         ensures earlier { honest self.new → honest self.old }
-        ensures changes { changes self.new ≡ change_of_free (name_in folder.now name.now) ∷ changes self.old }
+        ensures changes { changes self.new ≡ change_of_free (name_in folder.now name.now)
+            temp_file.now.status ∷ changes self.old }
         ensures no_sync { synced self.new ≡ synced self.old };
 
     /// Removes what stands where the file was made. Where that fails, it may be done.

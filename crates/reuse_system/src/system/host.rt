@@ -156,7 +156,12 @@ impl<R: Files<File = File> + AllocGlobal + Drop> System for HostSystem<R> {
 
     fn rename(&mut self, temp_file: &TempFile, folder: &OpenFolder, name: &str) -> io::Result<()> {
         let answer = rename_to(&self.rt, temp_file, folder, name);
-        let kind = CallKind::Rename(temp_file.folder, folder.identity(), answer.is_ok());
+        let kind = CallKind::Rename(
+            temp_file.folder,
+            folder.identity(),
+            temp_file.status,
+            answer.is_ok(),
+        );
         self.noted
             .note(&kind, temp_file.name.as_bytes(), name.as_bytes());
         answer
@@ -164,7 +169,12 @@ impl<R: Files<File = File> + AllocGlobal + Drop> System for HostSystem<R> {
 
     fn link(&mut self, temp_file: &TempFile, folder: &OpenFolder, name: &str) -> io::Result<()> {
         let answer = link_to(&self.rt, temp_file, folder, name);
-        let kind = CallKind::Link(temp_file.folder, folder.identity(), answer.is_ok());
+        let kind = CallKind::Link(
+            temp_file.folder,
+            folder.identity(),
+            temp_file.status,
+            answer.is_ok(),
+        );
         self.noted
             .note(&kind, temp_file.name.as_bytes(), name.as_bytes());
         answer

@@ -8,6 +8,7 @@ ghost use Rattle.reuse_system.specs.SystemCall.SystemCall.{ReadCall};
 
 use crate::fault::FolderFault;
 use crate::place::{Found, Identity};
+use crate::system::new_status::NewStatus;
 use reuse_record::Record;
 use reuse_store::Reading;
 use std::marker::{Model, PhantomData};
@@ -22,10 +23,11 @@ pub enum CallKind {
     Append(u64, bool),
     /// The bytes of this file were to be made durable.
     Sync(u64, bool),
-    /// A name in the first folder was to become one in the second.
-    Rename(Identity, Identity, bool),
-    /// The file that has a name in the first folder was to get one in the second, too.
-    Link(Identity, Identity, bool),
+    /// A name in the first folder was to become one in the second, for a file of which this is known.
+    Rename(Identity, Identity, NewStatus, bool),
+    /// A file of which this is known has a name in the first folder, and was to get one in the
+    /// second, too.
+    Link(Identity, Identity, NewStatus, bool),
     /// A name in this folder was to be removed.
     Remove(Identity, bool),
     /// A name in this folder was looked at, and this was reported of it.

@@ -3,6 +3,7 @@ use Rattle.std.specs.Prelude.{codes}
 use Rattle.reuse_change.specs.Parts.{joined}
 use Rattle.reuse_system.specs.TempFiles.{beside_name, name_in, IsNewPlace}
 use Rattle.reuse_system.specs.FileStates.{place_in}
+use Rattle.reuse_disk.specs.Due.{due_of}
 use Rattle.reuse_disk.specs.Written.{is_kept, is_named, IsPlaced, LeavesNone}
 use Rattle.reuse_disk.proofs.EditLemmas.{guarded_then}
 use Rattle.reuse_disk.proofs.WrittenLemmas.{if_ok, none_left_by, none_left_twice, written_again, written_of_placed}
@@ -102,7 +103,7 @@ returns-clause-guarded g c =
     let b = c.write_here.new.system in
     let d = c.write_beside.new.system in
     guarded_then (IsNewPlace c.args.self.now.folder.identity c.args.target.folder.now.identity)
-    (name_in c.args.target.folder.now c.args.target.name.now) c.args.content.found (s.changes a)
+    (name_in c.args.target.folder.now c.args.target.name.now) (due_of c.args.content) (s.changes a)
     (s.changes b) (s.changes d)
     (s.holds a) (s.holds b) (s.holds d) c.write_here.ensures.guarded
     (rw c.write_here.ensures.folder at c.write_beside.ensures.guarded)

@@ -3,7 +3,9 @@ use Rattle.reuse_change.specs.Parts.{joined}
 use Rattle.reuse_system.specs.TempFiles.{beside_name, name_in, place_of, IsNewPlace}
 use Rattle.reuse_system.specs.FileStates.{Place, place_in}
 use Rattle.reuse_system.specs.SystemLaws.{IsAlikeBut}
+use Rattle.reuse_disk.specs.Due.{due_of}
 use Rattle.reuse_disk.specs.Written.{is_kept, is_named}
+use Rattle.reuse_disk.proofs.DueLemmas.{asked_mode}
 use Rattle.reuse_disk.proofs.EditLemmas.{guarded_only, guarded_then, guarded_weaker, only_weaker}
 use Rattle.reuse_disk.proofs.WrittenLemmas.{placed_from, placed_worse}
 use Rattle.reuse_disk.proofs.new_file.NewFile.write_beside.Goals as goal
@@ -20,7 +22,7 @@ returns-in_err-temp_file-clause-guarded g c =
     (e ∙ ap (place_in to) (c.as_str.ensures.value ∙ c.in_ok-name.ensures ∙ ap beside_name c.identity.ensures)) in
     let a = c.args.system.now in
     let b = c.make.new.system in
-    guarded_only (IsNewPlace folder to) target c.args.content.found (s.changes a) (s.changes b) (s.holds a) (s.holds b)
+    guarded_only (IsNewPlace folder to) target (due_of c.args.content) (s.changes a) (s.changes b) (s.holds a) (s.holds b)
     (only_weaker (λ other. other ≡ place) (IsNewPlace folder to) is (s.changes a) (s.changes b) c.make.ensures.changes)
     (λ no. c.make.ensures.others target (λ e. no (is target e)))
 
@@ -30,7 +32,7 @@ returns-in_err-named-clause-guarded g c =
     let folder = c.args.self.now.folder.identity in
     let to = c.args.target.folder.now.identity in
     let target = name_in c.args.target.folder.now c.args.target.name.now in
-    let seen = c.args.content.found in
+    let seen = due_of c.args.content in
     let place = name_in c.args.target.folder.now c.as_str.result.now in
     let is : (other : Place) → other ≡ place → IsNewPlace folder to other =
     λ other e. inr
@@ -46,7 +48,9 @@ returns-in_err-named-clause-guarded g c =
     (λ away. c.make.ensures.others target (λ e. away (is target e))))
     (guarded_weaker (λ other. other ≡ from) (IsNewPlace folder to) target seen
     (λ other e. is other (e ∙ c.in_ok-temp_file.ensures.made.0)) (s.changes b) (s.changes d) (s.holds b) (s.holds d)
-    (c.put_or_discard-named.ensures.guarded c.in_ok-temp_file.ensures.made.1))
+    (c.put_or_discard-named.ensures.guarded c.in_ok-temp_file.ensures.made.1
+    (asked_mode c.in_ok-temp_file.temp_file.status c.mode.result c.args.content.found c.in_ok-temp_file.ensures.status
+    c.mode.ensures)))
 
 pub returns-then-branch-clause-guarded : goal.returns-then-branch-clause-guarded
 returns-then-branch-clause-guarded g c =
@@ -54,7 +58,7 @@ returns-then-branch-clause-guarded g c =
     let folder = c.args.self.now.folder.identity in
     let to = c.args.target.folder.now.identity in
     let target = name_in c.args.target.folder.now c.args.target.name.now in
-    let seen = c.args.content.found in
+    let seen = due_of c.args.content in
     let place = name_in c.args.target.folder.now c.as_str.result.now in
     let is : (other : Place) → other ≡ place → IsNewPlace folder to other =
     λ other e. inr
@@ -70,7 +74,9 @@ returns-then-branch-clause-guarded g c =
     (λ away. c.make.ensures.others target (λ e. away (is target e))))
     (guarded_weaker (λ other. other ≡ from) (IsNewPlace folder to) target seen
     (λ other e. is other (e ∙ c.in_ok-temp_file.ensures.made.0)) (s.changes b) (s.changes d) (s.holds b) (s.holds d)
-    (c.put_or_discard-named.ensures.guarded c.in_ok-temp_file.ensures.made.1))
+    (c.put_or_discard-named.ensures.guarded c.in_ok-temp_file.ensures.made.1
+    (asked_mode c.in_ok-temp_file.temp_file.status c.mode.result c.args.content.found c.in_ok-temp_file.ensures.status
+    c.mode.ensures)))
 
 pub returns-clause-guarded : goal.returns-clause-guarded
 returns-clause-guarded g c =
@@ -78,7 +84,7 @@ returns-clause-guarded g c =
     let folder = c.args.self.now.folder.identity in
     let to = c.args.target.folder.now.identity in
     let target = name_in c.args.target.folder.now c.args.target.name.now in
-    let seen = c.args.content.found in
+    let seen = due_of c.args.content in
     let place = name_in c.args.target.folder.now c.as_str.result.now in
     let is : (other : Place) → other ≡ place → IsNewPlace folder to other =
     λ other e. inr
@@ -94,7 +100,9 @@ returns-clause-guarded g c =
     (λ away. c.make.ensures.others target (λ e. away (is target e))))
     (guarded_weaker (λ other. other ≡ from) (IsNewPlace folder to) target seen
     (λ other e. is other (e ∙ c.in_ok-temp_file.ensures.made.0)) (s.changes b) (s.changes d) (s.holds b) (s.holds d)
-    (c.put_or_discard-named.ensures.guarded c.in_ok-temp_file.ensures.made.1))
+    (c.put_or_discard-named.ensures.guarded c.in_ok-temp_file.ensures.made.1
+    (asked_mode c.in_ok-temp_file.temp_file.status c.mode.result c.args.content.found c.in_ok-temp_file.ensures.status
+    c.mode.ensures)))
 
 pub returns-in_err-named-clause-placed : goal.returns-in_err-named-clause-placed
 returns-in_err-named-clause-placed g c =

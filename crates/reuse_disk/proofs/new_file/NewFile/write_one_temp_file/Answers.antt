@@ -1,4 +1,4 @@
-use Rattle.std.proofs.Common.{◌≡◌, refl, sym, subst}
+use Rattle.std.proofs.Common.{◌≡◌, ◌∙◌, refl, sym, subst}
 use Rattle.reuse_system.specs.TempFiles.{name_in, place_of, IsNewIn}
 use Rattle.reuse_system.specs.FileStates.{Place}
 use Rattle.reuse_system.specs.NameChanges.{change_at}
@@ -27,11 +27,11 @@ returns-in-Err-clause-changes g c =
     let made = s.changes c.make.new.system in
     let filled = s.changes c.fill.new.system in
     let last = s.changes c.discard.new.self in
-    let from = place_of c.in_ok-temp_file.temp_file in
+    let at = place_of c.fill.new.temp_file in
     only_then IsOne first made last (only_weaker (λ other. other ≡ place) IsOne is first made c.make.ensures.changes)
     (only_then IsOne made filled last (only_none IsOne made filled c.fill.ensures.changes)
-    (only_one IsOne filled last (change_at (s.looked c.fill.new.system) from) c.discard.ensures.changes
-    (is from c.in_ok-temp_file.ensures.made.0)))
+    (only_one IsOne filled last (change_at (s.looked c.fill.new.system) at) c.discard.ensures.changes
+    (is at (c.fill.ensures.same.place ∙ c.in_ok-temp_file.ensures.made.0))))
 
 pub returns-clause-changes : goal.returns-clause-changes
 returns-clause-changes g c =

@@ -7,12 +7,12 @@ pub returns-clause-renamed : goal.returns-clause-renamed
 returns-clause-renamed g c =
     let noted = c.args.self.now.noted in
     let left = rename_noted noted.files noted.effects noted.calls (place_of c.args.temp_file.now)
-    (name_in c.args.folder.now c.args.name.now) c.rename_to-answer.result in
+    (name_in c.args.folder.now c.args.name.now) c.args.temp_file.now.status c.rename_to-answer.result in
     search rules
 
 pub returns-clause-left : goal.returns-clause-left
 returns-clause-left g c =
     let noted = c.args.self.now.noted in
     let left = left_noted noted.files noted.effects noted.calls (place_of c.args.temp_file.now)
-    (name_in c.args.folder.now c.args.name.now) c.rename_to-answer.result in
+    (name_in c.args.folder.now c.args.name.now) c.args.temp_file.now.status c.rename_to-answer.result in
     search rules
