@@ -1,7 +1,7 @@
 -- Which folders are noted for the next barrier.
 use Rattle.std.proofs.Common.{◌≡◌, ◌≢◌, ◌⊎◌, ◌<◌, ◌+◌, inl, inr, ℕ, suc, List, [], ◌∷◌, ◌++◌, length, get_or}
 use Rattle.std.proofs.Common.{drop, true}
-use Rattle.std.proofs.Common.{slice_index, length-drop, Option, refl, sym, ◌∙◌, ap, subst, arith}
+use Rattle.std.proofs.Common.{slice_index, length-drop, refl, sym, ◌∙◌, ap, subst, arith}
 use Rattle.std.specs.BTreeSet.{contains_text}
 use Rattle.std.proofs.lemmas.List.{get_or-drop}
 use Rattle.reuse_store.specs.declared.file_write.FileWrite.{FileWrite}
@@ -9,7 +9,7 @@ use Rattle.reuse_system.specs.TempFiles.{IsNewIn, IsNewPlace}
 use Rattle.reuse_system.specs.FileStates.{FileState, Place, place_in}
 use Rattle.reuse_system.specs.NameChanges.{NameChange, AreEach, IsChangeOf, IsGuarded, OnlyChanges}
 use Rattle.reuse_system.specs.Names.{IsNameOf, IsSplit}
-use Rattle.reuse_system.specs.declared.place.FileStatus.{FileStatus}
+use Rattle.reuse_system.specs.NewFiles.{Due}
 use Rattle.reuse_system.specs.declared.place.Identity.{Identity}
 use Rattle.reuse_disk.specs.Noted.{IsNoted, StayNoted}
 use Rattle.reuse_disk.specs.declared.syncs.Unsynced.{Unsynced}
@@ -109,35 +109,35 @@ above_of unsynced path above name split noted =
     record { above = above; name = name; is_split = split; is_noted = noted }
 
 each_noted : (unsynced : Unsynced) (path name : List ℕ) (folder : Identity) (P : Place → Type 0)
-    (seen : Option FileStatus) → IsNotedAbove unsynced path → IsNameOf path name
+    (due : Due) → IsNotedAbove unsynced path → IsNameOf path name
     → ((place : Place) → P place → IsNewFile place) → (changes : List NameChange)
-    → AreEach (IsChangeOf P (place_in folder name) seen) changes
+    → AreEach (IsChangeOf P (place_in folder name) due) changes
     → AreEach (λ change. IsNewFile change.place ⊎ IsNotedAt unsynced path change.place) changes
-each_noted unsynced path name folder P seen noted named new [] all = tt
-each_noted unsynced path name folder P seen noted named new (change ∷ changes) all =
-    (by all.0, each_noted unsynced path name folder P seen noted named new changes all.1)
+each_noted unsynced path name folder P due noted named new [] all = tt
+each_noted unsynced path name folder P due noted named new (change ∷ changes) all =
+    (by all.0, each_noted unsynced path name folder P due noted named new changes all.1)
   where
-    by : IsChangeOf P (place_in folder name) seen change
+    by : IsChangeOf P (place_in folder name) due change
         → IsNewFile change.place ⊎ IsNotedAt unsynced path change.place
     by (inl other) = inl (new change.place other)
-    by (inr (at, reported)) = inr (at_own unsynced path name folder change.place noted named at)
+    by (inr own) = inr (at_own unsynced path name folder change.place noted named own.0)
 
 -- names of new files changed, and the path's own, whose folder is noted
 pub guarded_noted : (unsynced : Unsynced) (path name : List ℕ) (folder : Identity) (P : Place → Type 0)
-    (seen : Option FileStatus) (a b : List NameChange) (old new : FileState) → IsNotedAbove unsynced path
+    (due : Due) (a b : List NameChange) (old new : FileState) → IsNotedAbove unsynced path
     → IsNameOf path name → ((place : Place) → P place → IsNewFile place)
-    → IsGuarded P (place_in folder name) seen a b old new → HasNoted unsynced path a b
-guarded_noted unsynced path name folder P seen a b old new noted named is_new guarded =
+    → IsGuarded P (place_in folder name) due a b old new → HasNoted unsynced path a b
+guarded_noted unsynced path name folder P due a b old new noted named is_new guarded =
     record {
       changes = guarded.changes;
       grown = guarded.grown;
-      each = each_noted unsynced path name folder P seen noted named is_new guarded.changes guarded.each;
+      each = each_noted unsynced path name folder P due noted named is_new guarded.changes guarded.each;
     }
 
 pub has_noted : (unsynced : Unsynced) (path : List ℕ) (one : Expected) (a b : List NameChange) (old new : FileState)
     → IsNotedAbove unsynced path → LosesNoEdit path one a b old new → HasNoted unsynced path a b
 has_noted unsynced path one a b old new noted loses =
-    guarded_noted unsynced path loses.name loses.folder (IsNewPlace loses.new_files loses.folder) loses.seen a b old new
+    guarded_noted unsynced path loses.name loses.folder (IsNewPlace loses.new_files loses.folder) loses.due a b old new
     noted loses.is_named (λ place is. (loses.new_files, loses.folder, is)) loses.guarded
 
 pub has_then : (unsynced : Unsynced) (path : List ℕ) (a b c : List NameChange) → HasNoted unsynced path a b

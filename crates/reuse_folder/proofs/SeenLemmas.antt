@@ -1,6 +1,6 @@
 -- What reads report of paths, and what follows for writes.
 use Rattle.std.proofs.Common.{◌≡◌, ◌≢◌, ◌⊎◌, ◌<◌, inl, inr, ℕ, zero, suc, List, [], ◌∷◌, ◌++◌, length, get_or, take}
-use Rattle.std.proofs.Common.{drop, length-drop, ◌+◌, ◌-◌, Option, None, Some, refl, sym, ◌∙◌, ap, subst, append_assoc}
+use Rattle.std.proofs.Common.{drop, length-drop, ◌+◌, ◌-◌, Option, None, Some, Bool, IfSome, refl, sym, ◌∙◌, ap, subst, append_assoc}
 use Rattle.std.proofs.Common.{take-append-drop, arith}
 use Rattle.std.specs.List.{All}
 use Rattle.std.proofs.lemmas.List.{get_or-drop, take_rest}
@@ -8,13 +8,18 @@ use Rattle.reuse_system.specs.TempFiles.{IsNewIn, IsNewPlace, place_of}
 use Rattle.reuse_system.specs.FileStates.{Place, FileState, place_in}
 use Rattle.reuse_system.specs.NameChanges.{NameChange, AreEach, IsChangeOf, IsGuarded, OnlyChanges}
 use Rattle.reuse_system.specs.Names.{IsNameOf}
+use Rattle.reuse_system.specs.NewFiles.{Due, IsAsDue}
+use Rattle.reuse_system.specs.declared.owner.Owner.{Owner}
+use Rattle.reuse_system.specs.declared.owner.Process.{Process}
 use Rattle.reuse_system.specs.SystemLaws.{IsAlikeUnless}
 use Rattle.reuse_system.specs.declared.place.FileStatus.{FileStatus}
 use Rattle.reuse_system.specs.declared.place.Identity.{Identity}
+use Rattle.reuse_system.specs.declared.system.new_status.NewStatus.{NewStatus}
 use Rattle.reuse_store.specs.declared.file_write.FileWrite.{FileWrite}
 use Rattle.reuse_folder.specs.Seen.{expected_of, IsUnread, IsReportedBy, IsSeenBefore, IsSeenAs, IsKnown}
 use Rattle.reuse_folder.specs.Seen.{IsKnownTempFile, AreKnown, IsNewFile, IsChangeOfSome, LosesNoEdit, LosesNoEditAfter}
-use Rattle.reuse_folder.specs.Seen.{LoseNoEdits}
+use Rattle.reuse_folder.specs.Seen.{IsAsSeen, KeepsOwner, LoseNoEdits}
+use Rattle.reuse_folder.specs.OwnerChanges.{owner_for}
 use Rattle.reuse_folder.specs.declared.folder.batch.NewContent.{NewContent}
 use Rattle.reuse_folder.specs.declared.folder.seen.Expected.{Expected}
 use Rattle.reuse_folder.specs.declared.folder.seen.Expected.TheVariants as expected
@@ -74,69 +79,90 @@ seen_at reads k other path short same =
 
 -- ---- one write
 
-some_seen : (one : Expected) → (seen : Option FileStatus) × IsSeenAs one seen
-some_seen expected.Found = (None, tt)
-some_seen expected.Nothing = (None, refl)
-some_seen (expected.File status) = (Some status, refl)
+owner_in : Option FileStatus → Owner
+owner_in None = record { user = 0; group = 0 }
+owner_in (Some seen) = seen.owner
+
+pub any_due : Process → Option FileStatus → Due
+any_due process seen = record { seen = seen; owner = owner_in seen; process = process }
+
+some_due : Process → (one : Expected) → (due : Due) × IsSeenAs one due.seen × KeepsOwner due
+some_due process expected.Found = (any_due process None, tt, tt)
+some_due process expected.Nothing = (any_due process None, refl, tt)
+some_due process (expected.File status) = (any_due process (Some status), refl, refl)
+
+-- whose a file is to be, where one was seen
+pub owner_kept : (process : Process) (seen : Option FileStatus) (folder : Owner) (passes_group : Bool) (owner : Owner)
+    → owner ≡ owner_for process seen folder passes_group → IfSome seen (λ file. owner ≡ file.owner)
+owner_kept process None folder passes_group owner is = tt
+owner_kept process (Some seen) folder passes_group owner is = is
+
+-- a file is as it is to be in place of what was seen
+pub as_seen : (seen : Option FileStatus) (due : Due) (status : NewStatus) → due.seen ≡ seen → KeepsOwner due
+    → IsAsDue due status → IsAsSeen seen status
+as_seen seen due status is keeps as_due = record { due = due; is_seen = is; keeps = keeps; as_due = as_due }
 
 -- only new files in a folder changed
-pub loses_only : (path : List ℕ) (one : Expected) (new_files : Identity) (before after : List NameChange)
-    (old new : FileState) → OnlyChanges (IsNewIn new_files) before after → IsAlikeUnless (IsNewIn new_files) old new
+pub loses_only : (path : List ℕ) (one : Expected) (process : Process) (new_files : Identity)
+    (before after : List NameChange) (old new : FileState) → OnlyChanges (IsNewIn new_files) before after → IsAlikeUnless (IsNewIn new_files) old new
     → LosesNoEdit path one before after old new
-loses_only path one new_files before after old new only alike =
+loses_only path one process new_files before after old new only alike =
     let name = some_name path in
-    let seen = some_seen one in
+    let due = some_due process one in
     record {
       new_files = new_files;
       folder = new_files;
       name = name.0;
       is_named = name.1;
-      seen = seen.0;
-      is_seen = seen.1;
-      guarded = guarded_only (IsNewPlace new_files new_files) (place_in new_files name.0) seen.0 before after old new
+      due = due.0;
+      is_seen = due.1;
+      keeps = due.2;
+      guarded = guarded_only (IsNewPlace new_files new_files) (place_in new_files name.0) due.0 before after old new
           (only_weaker (IsNewIn new_files) (IsNewPlace new_files new_files) (λ place at. inl at) before after only)
           (λ no. alike (place_in new_files name.0) (λ at. no (inl at)));
     }
 
 -- nothing changed
-pub loses_none : (path : List ℕ) (one : Expected) (before after : List NameChange) (old new : FileState)
-    → after ≡ before → new ≡ old → LosesNoEdit path one before after old new
-loses_none path one before after old new same kept =
-    loses_only path one (record { device = 0; number = 0 }) before after old new
+pub loses_none : (path : List ℕ) (one : Expected) (process : Process) (before after : List NameChange)
+    (old new : FileState) → after ≡ before → new ≡ old → LosesNoEdit path one before after old new
+loses_none path one process before after old new same kept =
+    loses_only path one process (record { device = 0; number = 0 }) before after old new
     (record { changes = []; grown = same; each = tt }) (λ place apart. ap (λ held. held place) kept)
 
 -- the path's own name changed, after new files were cleared
-pub loses_put : (path name : List ℕ) (one : Expected) (seen : Option FileStatus) (new_files folder : Identity)
-    (a b c : List NameChange) (old mid new : FileState) → IsNameOf path name → IsSeenAs one seen
+pub loses_put : (path name : List ℕ) (one : Expected) (due : Due) (new_files folder : Identity)
+    (a b c : List NameChange) (old mid new : FileState) → IsNameOf path name → IsSeenAs one due.seen → KeepsOwner due
     → OnlyChanges (IsNewIn new_files) a b → IsAlikeUnless (IsNewIn new_files) old mid
-    → IsGuarded (IsNewPlace new_files folder) (place_in folder name) seen b c mid new → LosesNoEdit path one a c old new
-loses_put path name one seen new_files folder a b c old mid new named is_seen only alike guarded =
+    → IsGuarded (IsNewPlace new_files folder) (place_in folder name) due b c mid new → LosesNoEdit path one a c old new
+loses_put path name one due new_files folder a b c old mid new named is_seen keeps only alike guarded =
     record {
       new_files = new_files;
       folder = folder;
       name = name;
       is_named = named;
-      seen = seen;
+      due = due;
       is_seen = is_seen;
-      guarded = guarded_then (IsNewPlace new_files folder) (place_in folder name) seen a b c old mid new
-          (guarded_only (IsNewPlace new_files folder) (place_in folder name) seen a b old mid
+      keeps = keeps;
+      guarded = guarded_then (IsNewPlace new_files folder) (place_in folder name) due a b c old mid new
+          (guarded_only (IsNewPlace new_files folder) (place_in folder name) due a b old mid
           (only_weaker (IsNewIn new_files) (IsNewPlace new_files folder) (λ place at. inl at) a b only)
           (λ no. alike (place_in folder name) (λ at. no (inl at)))) guarded;
     }
 
 -- the path's own name was removed
-pub loses_removed : (path name : List ℕ) (one : Expected) (seen : Option FileStatus) (folder : Identity)
-    (a c : List NameChange) (old new : FileState) → IsNameOf path name → IsSeenAs one seen
-    → IsGuarded (λ _. ⊥) (place_in folder name) seen a c old new → LosesNoEdit path one a c old new
-loses_removed path name one seen folder a c old new named is_seen guarded =
+pub loses_removed : (path name : List ℕ) (one : Expected) (due : Due) (folder : Identity)
+    (a c : List NameChange) (old new : FileState) → IsNameOf path name → IsSeenAs one due.seen → KeepsOwner due
+    → IsGuarded (λ _. ⊥) (place_in folder name) due a c old new → LosesNoEdit path one a c old new
+loses_removed path name one due folder a c old new named is_seen keeps guarded =
     record {
       new_files = folder;
       folder = folder;
       name = name;
       is_named = named;
-      seen = seen;
+      due = due;
       is_seen = is_seen;
-      guarded = guarded_weaker (λ _. ⊥) (IsNewPlace folder folder) (place_in folder name) seen
+      keeps = keeps;
+      guarded = guarded_weaker (λ _. ⊥) (IsNewPlace folder folder) (place_in folder name) due
           (λ place bad. absurd bad) a c old new guarded;
     }
 
@@ -179,20 +205,23 @@ lose_then reads writes a b c one two =
 
 -- what is said of one path holds of the write of that path
 change_of_path : (reads : List ReadPath) (path : List ℕ) (write : FileWrite) (new_files folder : Identity)
-    (name : List ℕ) (seen : Option FileStatus) → write.path.now ≡ path → IsNameOf path name → IsKnown reads path seen
-    → (change : NameChange) → IsChangeOf (IsNewPlace new_files folder) (place_in folder name) seen change
+    (name : List ℕ) (due : Due) → write.path.now ≡ path → IsNameOf path name → IsKnown reads path due.seen
+    → KeepsOwner due
+    → (change : NameChange) → IsChangeOf (IsNewPlace new_files folder) (place_in folder name) due change
     → IsNewFile change.place ⊎ IsChangeOfSome reads (write ∷ []) change
-change_of_path reads path write new_files folder name seen same named known change (inl at) =
+change_of_path reads path write new_files folder name due same named known keeps change (inl at) =
     inl (new_files, folder, at)
-change_of_path reads path write new_files folder name seen same named known change (inr at) =
+change_of_path reads path write new_files folder name due same named known keeps change (inr at) =
     inr (inl (record {
       folder = folder;
       name = name;
       is_named = rw same named;
       at = at.0;
-      seen = seen;
+      due = due;
       is_known = rw same known;
+      keeps = keeps;
       is_expected = at.1;
+      is_given = at.2;
     }))
 
 pub lose_one : (reads : List ReadPath) (write : FileWrite) (path : List ℕ) (one : Expected)
@@ -203,10 +232,10 @@ lose_one reads write path one before after old new same seen loses =
       changes = loses.guarded.changes;
       grown = loses.guarded.grown;
       each = each_weaker
-          (IsChangeOf (IsNewPlace loses.new_files loses.folder) (place_in loses.folder loses.name) loses.seen)
+          (IsChangeOf (IsNewPlace loses.new_files loses.folder) (place_in loses.folder loses.name) loses.due)
           (λ change. IsNewFile change.place ⊎ IsChangeOfSome reads (write ∷ []) change)
-          (change_of_path reads path write loses.new_files loses.folder loses.name loses.seen same loses.is_named
-          (one, seen, loses.is_seen)) loses.guarded.changes loses.guarded.each;
+          (change_of_path reads path write loses.new_files loses.folder loses.name loses.due same loses.is_named
+          (one, seen, loses.is_seen) loses.keeps) loses.guarded.changes loses.guarded.each;
     }
 
 -- what holds of some of the writes holds of all
@@ -285,63 +314,67 @@ known_more reads (first ∷ writes) (other ∷ temp_files) one write known short
     (known.0, known_more reads writes temp_files one write known.1 (omega (arith, short)) here)
 
 named_change : (reads : List ReadPath) (write : FileWrite) (name : List ℕ) (folder : Identity) (from : Place)
-    (seen : Option FileStatus) → IsNameOf write.path.now name → IsKnown reads write.path.now seen → IsNewFile from
-    → (change : NameChange) → IsChangeOf (λ place. place ≡ from) (place_in folder name) seen change
+    (due : Due) → IsNameOf write.path.now name → IsKnown reads write.path.now due.seen → KeepsOwner due → IsNewFile from
+    → (change : NameChange) → IsChangeOf (λ place. place ≡ from) (place_in folder name) due change
     → IsNewFile change.place ⊎ IsChangeOfSome reads (write ∷ []) change
-named_change reads write name folder from seen named known new change (inl at) = inl (subst IsNewFile (sym at) new)
-named_change reads write name folder from seen named known new change (inr at) =
+named_change reads write name folder from due named known keeps new change (inl at) = inl (subst IsNewFile (sym at) new)
+named_change reads write name folder from due named known keeps new change (inr at) =
     inr (inl (record {
       folder = folder;
       name = name;
       is_named = named;
       at = at.0;
-      seen = seen;
+      due = due;
       is_known = known;
+      keeps = keeps;
       is_expected = at.1;
+      is_given = at.2;
     }))
 
 -- a temporary file was given its name, or wasn't
 pub lose_named : (reads : List ReadPath) (write : FileWrite) (name : List ℕ) (folder : Identity) (from : Place)
-    (seen : Option FileStatus) (before after : List NameChange) (old new : FileState) → IsNameOf write.path.now name
-    → IsKnown reads write.path.now seen → IsNewFile from → IsGuarded (λ place. place ≡ from)
-    (place_in folder name) seen before after old new → LoseNoEdits reads (write ∷ []) before after
-lose_named reads write name folder from seen before after old new named known is_new guarded =
+    (due : Due) (before after : List NameChange) (old new : FileState) → IsNameOf write.path.now name
+    → IsKnown reads write.path.now due.seen → KeepsOwner due → IsNewFile from → IsGuarded (λ place. place ≡ from)
+    (place_in folder name) due before after old new → LoseNoEdits reads (write ∷ []) before after
+lose_named reads write name folder from due before after old new named known keeps is_new guarded =
     record {
       changes = guarded.changes;
       grown = guarded.grown;
-      each = each_weaker (IsChangeOf (λ place. place ≡ from) (place_in folder name) seen)
+      each = each_weaker (IsChangeOf (λ place. place ≡ from) (place_in folder name) due)
           (λ change. IsNewFile change.place ⊎ IsChangeOfSome reads (write ∷ []) change)
-          (named_change reads write name folder from seen named known is_new) guarded.changes guarded.each;
+          (named_change reads write name folder from due named known keeps is_new) guarded.changes guarded.each;
     }
 
 again_change : (reads : List ReadPath) (write : FileWrite) (new_files folder : Identity) (name : List ℕ)
-    (seen : Option FileStatus) → IsNameOf write.path.now name → IsKnown reads write.path.now seen
-    → (change : NameChange) → IsChangeOf (IsNewPlace new_files folder) (place_in folder name) seen change
+    (due : Due) → IsNameOf write.path.now name → IsKnown reads write.path.now due.seen → KeepsOwner due
+    → (change : NameChange) → IsChangeOf (IsNewPlace new_files folder) (place_in folder name) due change
     → IsNewFile change.place ⊎ IsChangeOfSome reads (write ∷ []) change
-again_change reads write new_files folder name seen named known change (inl at) = inl (new_files, folder, at)
-again_change reads write new_files folder name seen named known change (inr at) =
+again_change reads write new_files folder name due named known keeps change (inl at) = inl (new_files, folder, at)
+again_change reads write new_files folder name due named known keeps change (inr at) =
     inr (inl (record {
       folder = folder;
       name = name;
       is_named = named;
       at = at.0;
-      seen = seen;
+      due = due;
       is_known = known;
+      keeps = keeps;
       is_expected = at.1;
+      is_given = at.2;
     }))
 
 -- the file was written beside, where it was seen so
 pub lose_beside : (reads : List ReadPath) (write : FileWrite) (new_files folder : Identity) (name : List ℕ)
-    (seen : Option FileStatus) (before after : List NameChange) (old new : FileState) → IsNameOf write.path.now name
-    → IsKnown reads write.path.now seen → IsGuarded (IsNewPlace new_files folder)
-    (place_in folder name) seen before after old new → LoseNoEdits reads (write ∷ []) before after
-lose_beside reads write new_files folder name seen before after old new named known guarded =
+    (due : Due) (before after : List NameChange) (old new : FileState) → IsNameOf write.path.now name
+    → IsKnown reads write.path.now due.seen → KeepsOwner due → IsGuarded (IsNewPlace new_files folder)
+    (place_in folder name) due before after old new → LoseNoEdits reads (write ∷ []) before after
+lose_beside reads write new_files folder name due before after old new named known keeps guarded =
     record {
       changes = guarded.changes;
       grown = guarded.grown;
-      each = each_weaker (IsChangeOf (IsNewPlace new_files folder) (place_in folder name) seen)
+      each = each_weaker (IsChangeOf (IsNewPlace new_files folder) (place_in folder name) due)
           (λ change. IsNewFile change.place ⊎ IsChangeOfSome reads (write ∷ []) change)
-          (again_change reads write new_files folder name seen named known) guarded.changes guarded.each;
+          (again_change reads write new_files folder name due named known keeps) guarded.changes guarded.each;
     }
 
 -- names of new files in a folder are names of new files

@@ -5,7 +5,7 @@
 ghost use Rattle.std.specs.Prelude.{◌≡◌, ◌↔◌, IsErr, IfErr, true};
 ghost use Rattle.reuse_system.specs.Ignored.{begins_journal};
 ghost use Rattle.reuse_system.specs.Owners.{cannot_keep, rights_of_mode};
-ghost use Rattle.reuse_folder.specs.OwnerChanges.{is_lost, may_write};
+ghost use Rattle.reuse_folder.specs.OwnerChanges.{is_lost, may_write, owner_for};
 ghost use Rattle.reuse_system.specs.Names.{between_slashes};
 ghost use Rattle.reuse_system.specs.declared.fault.FolderFault.TheVariants.{Device};
 ghost use Rattle.reuse_system.specs.declared.fault.IoReason.TheVariants.{Owned};
@@ -138,7 +138,11 @@ impl OwnershipPolicy {
     }
 
     /// Whose a file in this folder is to be: as it was, if it was there.
-    pub fn wanted(&self, folder: &OpenFolder, found: Option<FileStatus>) -> Wanted<'_> {
+    pub fn wanted(&self, folder: &OpenFolder, found: Option<FileStatus>) -> Wanted<'_>
+        ensures owner { result.owner
+            ≡ owner_for self.now.process found folder.now.owner folder.now.passes_group }
+        ensures process { result.process.now ≡ self.now.process }
+    {
         let owner = match found {
             Some(status) => status.owner,
             None => self

@@ -482,7 +482,8 @@ impl<R: Files<File = File> + AllocGlobal + Clone + Drop> RootFolder<R> {
             (is_ok result) }
         ensures syncs { self.new.unsynced.syncs ≡ self.old.unsynced.syncs }
         ensures folders { self.new.unsynced.folders ≡ self.old.unsynced.folders }
-        ensures noted { IsNewFile (place_of new.now.temp_file) → IsNotedAbove self.old.unsynced write.now.path.now
+        ensures noted { (reads : List ReadPath) → IsKnownTempFile reads write.now.path.now new.now
+            → IsNotedAbove self.old.unsynced write.now.path.now
             → HasNoted self.new.unsynced write.now.path.now (⟦<HostSystem<R> as System>⟧.changes self.old.system)
             (⟦<HostSystem<R> as System>⟧.changes self.new.system) }
         ensures earlier { ⟦<HostSystem<R> as System>⟧.honest self.new.system

@@ -1,4 +1,4 @@
-use Rattle.std.proofs.Common.{rules, ◌≡◌, ◌∙◌, ◌∷◌, ◌++◌, ◌<◌, ◌^◌, [], length, inl, ap, subst, sym}
+use Rattle.std.proofs.Common.{rules, ◌≡◌, ◌∙◌, ◌∷◌, ◌++◌, ◌<◌, ◌^◌, [], length, inl, ap, refl, subst, sym}
 use Rattle.reuse_system.specs.TempFiles.{place_of, IsNewIn}
 use Rattle.reuse_system.specs.NameChanges.{change_at}
 use Rattle.reuse_system.specs.SystemCalls.{changes_of, looked_of}
@@ -8,7 +8,7 @@ use Rattle.reuse_disk.proofs.PlaceLemmas.{numbered_in}
 use Rattle.reuse_folder.specs.Rounds.{new_place}
 use Rattle.reuse_folder.specs.Seen.{IsNewFile}
 use Rattle.reuse_folder.specs.declared.folder.batch.NewContent.{NewContent}
-use Rattle.reuse_folder.proofs.SeenLemmas.{only_new}
+use Rattle.reuse_folder.proofs.SeenLemmas.{as_seen, only_new, owner_kept}
 use Rattle.reuse_folder.proofs.folder.RootFolder.add_temp_file.Goals as goal
 
 pub returns-in_err-temp_file-clause-changes : goal.returns-in_err-temp_file-clause-changes
@@ -97,5 +97,10 @@ returns-in-Ok-clause-known g c =
     let new = subst (IsNewIn new_files) (sym place) (numbered_in new_files (length temp_files) fits) in (
       one,
       items,
-      ((new_files, new_files, inl new), (c.next_at.result, c.next_at.ensures.expected, c.in_ok-found.ensures.seen)),
+      (
+        (new_files, new_files, inl new),
+        (c.next_at.result, c.next_at.ensures.expected, c.in_ok-found.ensures.seen),
+        as_seen _ _ _ refl (owner_kept _ c.in_ok-found.found _ _ _ c.wanted.ensures.owner)
+            c.in_ok-temp_file.ensures.kept,
+      ),
     )

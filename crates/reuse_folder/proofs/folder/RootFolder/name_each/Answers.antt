@@ -120,7 +120,7 @@ loop-made-preserved g c =
           let noted_here = above_same c.args.self.now.unsynced old write.path.now so_far.folders
           (above k write inner c.index-writes-made.is) in
           let made = have_more old new writes k write a b d c.loop-made-test.true c.index-writes-made.is
-          c.name_one.ensures.folders (so_far.noted reads known above) (c.name_one.ensures.noted here.0 noted_here) in
+          c.name_one.ensures.folders (so_far.noted reads known above) (c.name_one.ensures.noted reads here noted_here) in
           made;
       earlier = λ honest. so_far.earlier (c.name_one.ensures.earlier honest);
       keeps_edits = λ reads known.
@@ -165,7 +165,7 @@ returns-in-Err-clause-noted g c reads known above =
     let noted_here = above_same c.args.self.now.unsynced old write.path.now so_far.folders
     (above k write inner c.index-writes-made.is) in
     let made = have_more old new writes k write a b d c.loop-made-test.true c.index-writes-made.is
-    c.name_one.ensures.folders (so_far.noted reads known above) (c.name_one.ensures.noted here.0 noted_here) in
+    c.name_one.ensures.folders (so_far.noted reads known above) (c.name_one.ensures.noted reads here noted_here) in
     let e = changes_of c.remove_all.new.system.noted.calls in
     have_then new writes a d e made
     (have_only new writes d e (c.remove_all.ensures.changes (known_behind reads writes temp_files k known)))

@@ -10,12 +10,12 @@ use Rattle.reuse_disk.specs.Written.{is_kept, is_named, IsWritten}
 use Rattle.reuse_disk.proofs.EditLemmas.{only_one}
 use Rattle.reuse_disk.proofs.WrittenLemmas.{discarded_alike}
 use Rattle.reuse_folder.specs.Rounds.{IsNamed, StandsTempFile}
-use Rattle.reuse_folder.specs.Seen.{IsNewFile}
+use Rattle.reuse_folder.specs.Seen.{IsKnown, IsNewFile}
 use Rattle.reuse_folder.proofs.NamedLemmas.{bytes_temp_file, named_beside, named_here, named_stuck, naming_failed}
 use Rattle.reuse_folder.proofs.NamedLemmas.{written_from}
 use Rattle.reuse_folder.proofs.Noted.{disk_after, disk_with, folders_of, held_of, Honest_of}
 use Rattle.reuse_folder.proofs.PutLemmas.{above_here}
-use Rattle.reuse_folder.proofs.SeenLemmas.{lose_beside, lose_named, lose_none, lose_only, lose_then}
+use Rattle.reuse_folder.proofs.SeenLemmas.{lose_beside, lose_named, lose_none, lose_only, lose_then, owner_kept}
 use Rattle.reuse_folder.proofs.BarrierLemmas.{above_same, guarded_noted, has_later, has_none, has_only, has_then}
 use Rattle.reuse_folder.proofs.folder.RootFolder.name_one.Goals as goal
 
@@ -163,13 +163,16 @@ returns-in_err-name_temp_file-clause-keeps_edits g c reads known =
     let name = c.folder_and_name.result.1.now in
     let named : IsNameOf write.path.now name = search rules in
     let from = place_of c.args.new.now.temp_file in
-    let seen = c.args.new.now.seen in
+    let due = known.2.due in
+    let is_known : IsKnown reads write.path.now due.seen =
+    subst (λ seen. IsKnown reads write.path.now seen) (sym known.2.is_seen) known.1 in
+    let guarded = c.name_temp_file.ensures.guarded due known.2.is_seen known.2.as_due in
     let folder = c.in_ok-current.field-0.now.identity in
     let a = changes_of c.args.self.now.system.noted.calls in
     let b = changes_of c.enter_seen.new.system.noted.calls in
     let d = changes_of c.name_temp_file.new.system.noted.calls in
     let before = lose_then reads (write ∷ []) a b d (lose_none reads (write ∷ []) a b c.enter_seen.ensures.changes)
-    (lose_named reads write name folder from seen b d _ _ named known.1 known.0 c.name_temp_file.ensures.guarded) in
+    (lose_named reads write name folder from due b d _ _ named is_known known.2.keeps known.0 guarded) in
     before
 
 pub returns-then-branch-clause-keeps_edits : goal.returns-then-branch-clause-keeps_edits
@@ -178,13 +181,16 @@ returns-then-branch-clause-keeps_edits g c reads known =
     let name = c.folder_and_name.result.1.now in
     let named : IsNameOf write.path.now name = search rules in
     let from = place_of c.args.new.now.temp_file in
-    let seen = c.args.new.now.seen in
+    let due = known.2.due in
+    let is_known : IsKnown reads write.path.now due.seen =
+    subst (λ seen. IsKnown reads write.path.now seen) (sym known.2.is_seen) known.1 in
+    let guarded = c.name_temp_file.ensures.guarded due known.2.is_seen known.2.as_due in
     let folder = c.in_ok-current.field-0.now.identity in
     let a = changes_of c.args.self.now.system.noted.calls in
     let b = changes_of c.enter_seen.new.system.noted.calls in
     let d = changes_of c.name_temp_file.new.system.noted.calls in
     let before = lose_then reads (write ∷ []) a b d (lose_none reads (write ∷ []) a b c.enter_seen.ensures.changes)
-    (lose_named reads write name folder from seen b d _ _ named known.1 known.0 c.name_temp_file.ensures.guarded) in
+    (lose_named reads write name folder from due b d _ _ named is_known known.2.keeps known.0 guarded) in
     before
 
 pub returns-in_err-discard-clause-keeps_edits : goal.returns-in_err-discard-clause-keeps_edits
@@ -193,13 +199,16 @@ returns-in_err-discard-clause-keeps_edits g c reads known =
     let name = c.folder_and_name.result.1.now in
     let named : IsNameOf write.path.now name = search rules in
     let from = place_of c.args.new.now.temp_file in
-    let seen = c.args.new.now.seen in
+    let due = known.2.due in
+    let is_known : IsKnown reads write.path.now due.seen =
+    subst (λ seen. IsKnown reads write.path.now seen) (sym known.2.is_seen) known.1 in
+    let guarded = c.name_temp_file.ensures.guarded due known.2.is_seen known.2.as_due in
     let folder = c.in_ok-current.field-0.now.identity in
     let a = changes_of c.args.self.now.system.noted.calls in
     let b = changes_of c.enter_seen.new.system.noted.calls in
     let d = changes_of c.name_temp_file.new.system.noted.calls in
     let before = lose_then reads (write ∷ []) a b d (lose_none reads (write ∷ []) a b c.enter_seen.ensures.changes)
-    (lose_named reads write name folder from seen b d _ _ named known.1 known.0 c.name_temp_file.ensures.guarded) in
+    (lose_named reads write name folder from due b d _ _ named is_known known.2.keeps known.0 guarded) in
     let e = changes_of c.discard.new.self.noted.calls in
     let gone = lose_only reads (write ∷ []) d e (only_one IsNewFile d e
     (change_at (looked_of c.name_temp_file.new.system.noted.calls) from) c.discard.ensures.changes known.0) in
@@ -211,13 +220,16 @@ returns-in_default-clause-keeps_edits g c reads known =
     let name = c.folder_and_name.result.1.now in
     let named : IsNameOf write.path.now name = search rules in
     let from = place_of c.args.new.now.temp_file in
-    let seen = c.args.new.now.seen in
+    let due = known.2.due in
+    let is_known : IsKnown reads write.path.now due.seen =
+    subst (λ seen. IsKnown reads write.path.now seen) (sym known.2.is_seen) known.1 in
+    let guarded = c.name_temp_file.ensures.guarded due known.2.is_seen known.2.as_due in
     let folder = c.in_ok-current.field-0.now.identity in
     let a = changes_of c.args.self.now.system.noted.calls in
     let b = changes_of c.enter_seen.new.system.noted.calls in
     let d = changes_of c.name_temp_file.new.system.noted.calls in
     let before = lose_then reads (write ∷ []) a b d (lose_none reads (write ∷ []) a b c.enter_seen.ensures.changes)
-    (lose_named reads write name folder from seen b d _ _ named known.1 known.0 c.name_temp_file.ensures.guarded) in
+    (lose_named reads write name folder from due b d _ _ named is_known known.2.keeps known.0 guarded) in
     let e = changes_of c.discard.new.self.noted.calls in
     let gone = lose_only reads (write ∷ []) d e (only_one IsNewFile d e
     (change_at (looked_of c.name_temp_file.new.system.noted.calls) from) c.discard.ensures.changes known.0) in
@@ -229,20 +241,23 @@ returns-clause-keeps_edits g c reads known =
     let name = c.folder_and_name.result.1.now in
     let named : IsNameOf write.path.now name = search rules in
     let from = place_of c.args.new.now.temp_file in
-    let seen = c.args.new.now.seen in
+    let due = known.2.due in
+    let is_known : IsKnown reads write.path.now due.seen =
+    subst (λ seen. IsKnown reads write.path.now seen) (sym known.2.is_seen) known.1 in
+    let guarded = c.name_temp_file.ensures.guarded due known.2.is_seen known.2.as_due in
     let folder = c.in_ok-current.field-0.now.identity in
     let a = changes_of c.args.self.now.system.noted.calls in
     let b = changes_of c.enter_seen.new.system.noted.calls in
     let d = changes_of c.name_temp_file.new.system.noted.calls in
     let before = lose_then reads (write ∷ []) a b d (lose_none reads (write ∷ []) a b c.enter_seen.ensures.changes)
-    (lose_named reads write name folder from seen b d _ _ named known.1 known.0 c.name_temp_file.ensures.guarded) in
+    (lose_named reads write name folder from due b d _ _ named is_known known.2.keeps known.0 guarded) in
     let e = changes_of c.discard.new.self.noted.calls in
     let gone = lose_only reads (write ∷ []) d e (only_one IsNewFile d e
     (change_at (looked_of c.name_temp_file.new.system.noted.calls) from) c.discard.ensures.changes known.0) in
     let f = changes_of c.write_beside.new.system.noted.calls in
     lose_then reads (write ∷ []) a e f (lose_then reads (write ∷ []) a d e before gone)
-    (lose_beside reads write c.args.new_file.now.folder.identity folder name seen e f _ _ named known.1
-    c.write_beside.ensures.guarded)
+    (lose_beside reads write c.args.new_file.now.folder.identity folder name _ e f _ _ named known.1
+    (owner_kept _ c.args.new.now.seen _ _ _ c.wanted.ensures.owner) c.write_beside.ensures.guarded)
 
 pub invariant_of-self-in-Break-branch-5 : goal.invariant_of-self-in-Break-branch-5
 invariant_of-self-in-Break-branch-5 g c =
@@ -263,7 +278,7 @@ invariant_of-self-2 g c =
     }
 
 pub returns-in_err-name_temp_file-clause-noted : goal.returns-in_err-name_temp_file-clause-noted
-returns-in_err-name_temp_file-clause-noted g c new above =
+returns-in_err-name_temp_file-clause-noted g c reads known above =
     let write = c.args.write.now in
     let path = write.path.now in
     let name = c.folder_and_name.result.1.now in
@@ -274,14 +289,16 @@ returns-in_err-name_temp_file-clause-noted g c new above =
     let b = changes_of c.enter_seen.new.system.noted.calls in
     let d = changes_of c.name_temp_file.new.system.noted.calls in
     let unsynced = c.args.self.now.unsynced in
+    let new = known.0 in
+    let guarded = c.name_temp_file.ensures.guarded known.2.due known.2.is_seen known.2.as_due in
     let same : (place : Place) → place ≡ from → IsNewFile place = λ place is. subst IsNewFile (sym is) new in
     let before = has_then unsynced path a b d (has_none unsynced path a b c.enter_seen.ensures.changes)
-    (guarded_noted unsynced path name folder (λ place. place ≡ from) c.args.new.now.seen b d _ _ above named same
-    c.name_temp_file.ensures.guarded) in
+    (guarded_noted unsynced path name folder (λ place. place ≡ from) known.2.due b d _ _ above named same
+    guarded) in
     before
 
 pub returns-then-branch-clause-noted : goal.returns-then-branch-clause-noted
-returns-then-branch-clause-noted g c new above =
+returns-then-branch-clause-noted g c reads known above =
     let write = c.args.write.now in
     let path = write.path.now in
     let name = c.folder_and_name.result.1.now in
@@ -292,14 +309,16 @@ returns-then-branch-clause-noted g c new above =
     let b = changes_of c.enter_seen.new.system.noted.calls in
     let d = changes_of c.name_temp_file.new.system.noted.calls in
     let unsynced = c.args.self.now.unsynced in
+    let new = known.0 in
+    let guarded = c.name_temp_file.ensures.guarded known.2.due known.2.is_seen known.2.as_due in
     let same : (place : Place) → place ≡ from → IsNewFile place = λ place is. subst IsNewFile (sym is) new in
     let before = has_then unsynced path a b d (has_none unsynced path a b c.enter_seen.ensures.changes)
-    (guarded_noted unsynced path name folder (λ place. place ≡ from) c.args.new.now.seen b d _ _ above named same
-    c.name_temp_file.ensures.guarded) in
+    (guarded_noted unsynced path name folder (λ place. place ≡ from) known.2.due b d _ _ above named same
+    guarded) in
     before
 
 pub returns-in_err-discard-clause-noted : goal.returns-in_err-discard-clause-noted
-returns-in_err-discard-clause-noted g c new above =
+returns-in_err-discard-clause-noted g c reads known above =
     let write = c.args.write.now in
     let path = write.path.now in
     let name = c.folder_and_name.result.1.now in
@@ -310,17 +329,19 @@ returns-in_err-discard-clause-noted g c new above =
     let b = changes_of c.enter_seen.new.system.noted.calls in
     let d = changes_of c.name_temp_file.new.system.noted.calls in
     let unsynced = c.args.self.now.unsynced in
+    let new = known.0 in
+    let guarded = c.name_temp_file.ensures.guarded known.2.due known.2.is_seen known.2.as_due in
     let same : (place : Place) → place ≡ from → IsNewFile place = λ place is. subst IsNewFile (sym is) new in
     let before = has_then unsynced path a b d (has_none unsynced path a b c.enter_seen.ensures.changes)
-    (guarded_noted unsynced path name folder (λ place. place ≡ from) c.args.new.now.seen b d _ _ above named same
-    c.name_temp_file.ensures.guarded) in
+    (guarded_noted unsynced path name folder (λ place. place ≡ from) known.2.due b d _ _ above named same
+    guarded) in
     let e = changes_of c.discard.new.self.noted.calls in
     let gone = has_only unsynced path d e (only_one IsNewFile d e
     (change_at (looked_of c.name_temp_file.new.system.noted.calls) from) c.discard.ensures.changes new) in
     has_then unsynced path a d e before gone
 
 pub returns-in_default-clause-noted : goal.returns-in_default-clause-noted
-returns-in_default-clause-noted g c new above =
+returns-in_default-clause-noted g c reads known above =
     let write = c.args.write.now in
     let path = write.path.now in
     let name = c.folder_and_name.result.1.now in
@@ -331,17 +352,19 @@ returns-in_default-clause-noted g c new above =
     let b = changes_of c.enter_seen.new.system.noted.calls in
     let d = changes_of c.name_temp_file.new.system.noted.calls in
     let unsynced = c.args.self.now.unsynced in
+    let new = known.0 in
+    let guarded = c.name_temp_file.ensures.guarded known.2.due known.2.is_seen known.2.as_due in
     let same : (place : Place) → place ≡ from → IsNewFile place = λ place is. subst IsNewFile (sym is) new in
     let before = has_then unsynced path a b d (has_none unsynced path a b c.enter_seen.ensures.changes)
-    (guarded_noted unsynced path name folder (λ place. place ≡ from) c.args.new.now.seen b d _ _ above named same
-    c.name_temp_file.ensures.guarded) in
+    (guarded_noted unsynced path name folder (λ place. place ≡ from) known.2.due b d _ _ above named same
+    guarded) in
     let e = changes_of c.discard.new.self.noted.calls in
     let gone = has_only unsynced path d e (only_one IsNewFile d e
     (change_at (looked_of c.name_temp_file.new.system.noted.calls) from) c.discard.ensures.changes new) in
     has_then unsynced path a d e before gone
 
 pub returns-clause-noted : goal.returns-clause-noted
-returns-clause-noted g c new above =
+returns-clause-noted g c reads known above =
     let write = c.args.write.now in
     let path = write.path.now in
     let name = c.folder_and_name.result.1.now in
@@ -352,10 +375,12 @@ returns-clause-noted g c new above =
     let b = changes_of c.enter_seen.new.system.noted.calls in
     let d = changes_of c.name_temp_file.new.system.noted.calls in
     let unsynced = c.args.self.now.unsynced in
+    let new = known.0 in
+    let guarded = c.name_temp_file.ensures.guarded known.2.due known.2.is_seen known.2.as_due in
     let same : (place : Place) → place ≡ from → IsNewFile place = λ place is. subst IsNewFile (sym is) new in
     let before = has_then unsynced path a b d (has_none unsynced path a b c.enter_seen.ensures.changes)
-    (guarded_noted unsynced path name folder (λ place. place ≡ from) c.args.new.now.seen b d _ _ above named same
-    c.name_temp_file.ensures.guarded) in
+    (guarded_noted unsynced path name folder (λ place. place ≡ from) known.2.due b d _ _ above named same
+    guarded) in
     let e = changes_of c.discard.new.self.noted.calls in
     let gone = has_only unsynced path d e (only_one IsNewFile d e
     (change_at (looked_of c.name_temp_file.new.system.noted.calls) from) c.discard.ensures.changes new) in
@@ -363,7 +388,7 @@ returns-clause-noted g c new above =
     let last = c.write_beside.new.unsynced in
     let later = above_same unsynced last path c.write_beside.ensures.folders above in
     let beside = guarded_noted last path name folder (IsNewPlace c.args.new_file.now.folder.identity folder)
-    c.args.new.now.seen e f _ _ later named (λ place is. (c.args.new_file.now.folder.identity, folder, is))
+    _ e f _ _ later named (λ place is. (c.args.new_file.now.folder.identity, folder, is))
     c.write_beside.ensures.guarded in
     has_then last path a e f
     (has_later unsynced last path a e c.write_beside.ensures.folders (has_then unsynced path a d e before gone)) beside

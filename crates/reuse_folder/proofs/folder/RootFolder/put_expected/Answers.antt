@@ -22,7 +22,7 @@ returns-in_err-found-clause-place g c honest =
 
 pub returns-in_err-found-clause-keeps_edits : goal.returns-in_err-found-clause-keeps_edits
 returns-in_err-found-clause-keeps_edits g c =
-    loses_none c.args.path.now c.args.expected _ _ _ _ c.make_room.ensures.changes c.make_room.ensures.kept
+    loses_none c.args.path.now c.args.expected c.args.self.now.ownership.process _ _ _ _ c.make_room.ensures.changes c.make_room.ensures.kept
 
 pub returns-clause-written : goal.returns-clause-written
 returns-clause-written g c = rw (c.make_room.ensures.kept, c.make_room.ensures.syncs) at c.write.ensures.written
