@@ -1,5 +1,6 @@
 pub mod BarrierLemmas
 pub mod BatchLemmas
+pub mod EditLemmas
 pub mod FolderLemmas
 pub mod HonestFiles
 pub mod LeftBySyncs

@@ -49,8 +49,9 @@ abbrev pub KeepsOwner : Due → Type 0
 KeepsOwner due = IfSome due.seen (λ seen. due.owner ≡ seen.owner)
 
 -- No edit is lost at the path: the names that changed are those of new files, in some folder or beside the path's own,
--- and the path's own name in some folder, if what was expected stood there directly before. A file that was given it has
--- the bits and the owner of what stood there, as far as may be. Else the file of that name is the same before and after.
+-- and the path's own name in some folder, if what was expected stood there directly before. A file that was given that
+-- name has the bits and the owner of what stood there, as far as may be. Else the file of that name is the same before
+-- and after.
 pub record LosesNoEdit (path : List ℕ) (one : Expected) (before after : List NameChange)
     (old new : FileState) : Type 0 where
   pub new_files : Identity

@@ -1,6 +1,7 @@
 use Rattle.std.proofs.Common.{rules, ◌≡◌, ◌∙◌, ◌∷◌, ◌++◌, ◌<◌, ◌^◌, [], length, inl, ap, refl, subst, sym}
 use Rattle.reuse_system.specs.TempFiles.{place_of, IsNewIn}
 use Rattle.reuse_system.specs.NameChanges.{change_at}
+use Rattle.reuse_system.specs.NewFiles.{Due}
 use Rattle.reuse_system.specs.SystemCalls.{changes_of, looked_of}
 use Rattle.reuse_disk.specs.OpenFolders.{AreOpened}
 use Rattle.reuse_disk.proofs.EditLemmas.{only_none, only_one, only_then}
@@ -8,7 +9,8 @@ use Rattle.reuse_disk.proofs.PlaceLemmas.{numbered_in}
 use Rattle.reuse_folder.specs.Rounds.{new_place}
 use Rattle.reuse_folder.specs.Seen.{IsNewFile}
 use Rattle.reuse_folder.specs.declared.folder.batch.NewContent.{NewContent}
-use Rattle.reuse_folder.proofs.SeenLemmas.{as_seen, only_new, owner_kept}
+use Rattle.reuse_folder.proofs.EditLemmas.{as_seen, owner_kept}
+use Rattle.reuse_folder.proofs.SeenLemmas.{only_new}
 use Rattle.reuse_folder.proofs.folder.RootFolder.add_temp_file.Goals as goal
 
 pub returns-in_err-temp_file-clause-changes : goal.returns-in_err-temp_file-clause-changes
@@ -94,13 +96,20 @@ returns-in-Ok-clause-known g c =
     let items : c.push.new.self.items ≡ (temp_files ++ (one ∷ [])) = search rules in
     let place : place_of one.temp_file ≡ new_place new_files (length temp_files) =
     c.in_ok-temp_file.ensures.filled.0 ∙ ap (new_place new_files) number in
-    let new = subst (IsNewIn new_files) (sym place) (numbered_in new_files (length temp_files) fits) in (
+    let new = subst (IsNewIn new_files) (sym place) (numbered_in new_files (length temp_files) fits) in
+    let folder = c.in_ok-current.field-0.now in
+    let due : Due = record {
+      seen = c.in_ok-found.found;
+      owner = c.wanted.result.owner;
+      process = c.wanted.result.process.now;
+    } in (
       one,
       items,
       (
         (new_files, new_files, inl new),
         (c.next_at.result, c.next_at.ensures.expected, c.in_ok-found.ensures.seen),
-        as_seen _ _ _ refl (owner_kept _ c.in_ok-found.found _ _ _ c.wanted.ensures.owner)
-            c.in_ok-temp_file.ensures.kept,
+        as_seen c.in_ok-found.found due c.in_ok-temp_file.temp_file.status refl
+            (owner_kept c.make_room.new.self.ownership.process c.in_ok-found.found folder.owner folder.passes_group
+            c.wanted.result.owner c.wanted.ensures.owner) c.in_ok-temp_file.ensures.kept,
       ),
     )

@@ -120,7 +120,8 @@ loop-made-preserved g c =
           let noted_here = above_same c.args.self.now.unsynced old write.path.now so_far.folders
           (above k write inner c.index-writes-made.is) in
           let made = have_more old new writes k write a b d c.loop-made-test.true c.index-writes-made.is
-          c.name_one.ensures.folders (so_far.noted reads known above) (c.name_one.ensures.noted reads here noted_here) in
+          c.name_one.ensures.folders (so_far.noted reads known above)
+          (c.name_one.ensures.noted reads here noted_here) in
           made;
       earlier = λ honest. so_far.earlier (c.name_one.ensures.earlier honest);
       keeps_edits = λ reads known.

@@ -15,7 +15,8 @@ use Rattle.reuse_folder.proofs.NamedLemmas.{bytes_temp_file, named_beside, named
 use Rattle.reuse_folder.proofs.NamedLemmas.{written_from}
 use Rattle.reuse_folder.proofs.Noted.{disk_after, disk_with, folders_of, held_of, Honest_of}
 use Rattle.reuse_folder.proofs.PutLemmas.{above_here}
-use Rattle.reuse_folder.proofs.SeenLemmas.{lose_beside, lose_named, lose_none, lose_only, lose_then, owner_kept}
+use Rattle.reuse_folder.proofs.EditLemmas.{owner_kept}
+use Rattle.reuse_folder.proofs.SeenLemmas.{lose_beside, lose_named, lose_none, lose_only, lose_then}
 use Rattle.reuse_folder.proofs.BarrierLemmas.{above_same, guarded_noted, has_later, has_none, has_only, has_then}
 use Rattle.reuse_folder.proofs.folder.RootFolder.name_one.Goals as goal
 
@@ -257,7 +258,9 @@ returns-clause-keeps_edits g c reads known =
     let f = changes_of c.write_beside.new.system.noted.calls in
     lose_then reads (write ∷ []) a e f (lose_then reads (write ∷ []) a d e before gone)
     (lose_beside reads write c.args.new_file.now.folder.identity folder name _ e f _ _ named known.1
-    (owner_kept _ c.args.new.now.seen _ _ _ c.wanted.ensures.owner) c.write_beside.ensures.guarded)
+    (owner_kept c.args.self.now.ownership.process c.args.new.now.seen c.in_ok-current.field-0.now.owner
+    c.in_ok-current.field-0.now.passes_group c.wanted.result.owner c.wanted.ensures.owner)
+    c.write_beside.ensures.guarded)
 
 pub invariant_of-self-in-Break-branch-5 : goal.invariant_of-self-in-Break-branch-5
 invariant_of-self-in-Break-branch-5 g c =

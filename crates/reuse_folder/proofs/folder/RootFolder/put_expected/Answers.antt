@@ -3,7 +3,7 @@ use Rattle.reuse_change.specs.Parts.{joined}
 use Rattle.reuse_disk.specs.Written.{is_kept}
 use Rattle.reuse_folder.proofs.Noted.{folders_of, held_of}
 use Rattle.reuse_folder.proofs.PutLemmas.{nothing_put_by, nothing_put_in, stored_if}
-use Rattle.reuse_folder.proofs.SeenLemmas.{loses_none}
+use Rattle.reuse_folder.proofs.EditLemmas.{loses_none}
 use Rattle.reuse_folder.proofs.folder.RootFolder.put_expected.Goals as goal
 
 pub returns-in_err-found-clause-written : goal.returns-in_err-found-clause-written
@@ -22,7 +22,8 @@ returns-in_err-found-clause-place g c honest =
 
 pub returns-in_err-found-clause-keeps_edits : goal.returns-in_err-found-clause-keeps_edits
 returns-in_err-found-clause-keeps_edits g c =
-    loses_none c.args.path.now c.args.expected c.args.self.now.ownership.process _ _ _ _ c.make_room.ensures.changes c.make_room.ensures.kept
+    loses_none c.args.path.now c.args.expected c.args.self.now.ownership.process _ _ _ _
+    c.make_room.ensures.changes c.make_room.ensures.kept
 
 pub returns-clause-written : goal.returns-clause-written
 returns-clause-written g c = rw (c.make_room.ensures.kept, c.make_room.ensures.syncs) at c.write.ensures.written

@@ -6,7 +6,7 @@ use Rattle.reuse_system.specs.Names.{IsNameOf}
 use Rattle.reuse_system.specs.SystemCalls.{folders_after, held_after}
 use Rattle.reuse_folder.proofs.FolderLemmas.{nothing_removed, removed_at}
 use Rattle.reuse_folder.proofs.ReadLemmas.{always, gone_if, gone_reported, no_file_of, removed_in}
-use Rattle.reuse_folder.proofs.SeenLemmas.{any_due, loses_none, loses_removed}
+use Rattle.reuse_folder.proofs.EditLemmas.{any_due, loses_none, loses_removed}
 use Rattle.reuse_system.specs.FileStates.{place_in}
 use Rattle.reuse_disk.specs.Written.{LeavesNone}
 use Rattle.reuse_folder.proofs.Noted.{held_of}
@@ -29,19 +29,23 @@ pub returns-in_err-current-in-File-clause-removed : goal.returns-in_err-current-
 returns-in_err-current-in-File-clause-removed g c = rw c.look_unless_seen.ensures.kept (nothing_removed _ _)
 
 pub returns-in_err-status-clause-keeps_edits : goal.returns-in_err-status-clause-keeps_edits
-returns-in_err-status-clause-keeps_edits g c = loses_none c.args.path.now c.args.expected c.args.self.now.ownership.process _ _ _ _
+returns-in_err-status-clause-keeps_edits g c =
+    loses_none c.args.path.now c.args.expected c.args.self.now.ownership.process _ _ _ _
     c.look_unless_seen.ensures.changes c.look_unless_seen.ensures.kept
 
 pub returns-in_err-seen-in-File-clause-keeps_edits : goal.returns-in_err-seen-in-File-clause-keeps_edits
-returns-in_err-seen-in-File-clause-keeps_edits g c = loses_none c.args.path.now c.args.expected c.args.self.now.ownership.process _ _ _ _
+returns-in_err-seen-in-File-clause-keeps_edits g c =
+    loses_none c.args.path.now c.args.expected c.args.self.now.ownership.process _ _ _ _
     c.look_unless_seen.ensures.changes c.look_unless_seen.ensures.kept
 
 pub returns-in_err-note-in-File-clause-keeps_edits : goal.returns-in_err-note-in-File-clause-keeps_edits
-returns-in_err-note-in-File-clause-keeps_edits g c = loses_none c.args.path.now c.args.expected c.args.self.now.ownership.process _ _ _ _
+returns-in_err-note-in-File-clause-keeps_edits g c =
+    loses_none c.args.path.now c.args.expected c.args.self.now.ownership.process _ _ _ _
     c.look_unless_seen.ensures.changes c.look_unless_seen.ensures.kept
 
 pub returns-in_err-current-in-File-clause-keeps_edits : goal.returns-in_err-current-in-File-clause-keeps_edits
-returns-in_err-current-in-File-clause-keeps_edits g c = loses_none c.args.path.now c.args.expected c.args.self.now.ownership.process _ _ _ _
+returns-in_err-current-in-File-clause-keeps_edits g c =
+    loses_none c.args.path.now c.args.expected c.args.self.now.ownership.process _ _ _ _
     c.look_unless_seen.ensures.changes c.look_unless_seen.ensures.kept
 
 pub returns-in_ok-current-in-File-clause-removed : goal.returns-in_ok-current-in-File-clause-removed
@@ -96,7 +100,8 @@ returns-in_ok-current-in-File-clause-keeps_edits g c =
     let due = any_due c.args.self.now.ownership.process (Some c.in_ok-seen-in-File.seen) in
     loses_removed path name c.args.expected due
     c.in_ok-current-in-File.field-0.now.identity _ _ _ _ named c.in_ok-seen-in-File.ensures refl
-    (rw (c.look_unless_seen.ensures.changes, c.look_unless_seen.ensures.kept) at (c.remove_seen.ensures.guarded due refl))
+    (rw (c.look_unless_seen.ensures.changes, c.look_unless_seen.ensures.kept) at
+    (c.remove_seen.ensures.guarded due refl))
 
 pub returns-in_default : goal.returns-in_default
 returns-in_default g c =
@@ -117,11 +122,13 @@ returns-in_default g c =
           (λ at any. inl (ap (λ f. f at) c.look_unless_seen.ensures.kept));
       earlier = c.look_unless_seen.ensures.earlier;
       syncs = ap (λ unsynced. unsynced.syncs) c.look_unless_seen.ensures.unsynced;
-      stay_noted = λ folder noted. subst (λ unsynced. IsNoted unsynced folder) (sym c.look_unless_seen.ensures.unsynced) noted;
+      stay_noted = λ folder noted.
+          subst (λ unsynced. IsNoted unsynced folder) (sym c.look_unless_seen.ensures.unsynced) noted;
       noted = λ kept. has_none _ path _ _ c.look_unless_seen.ensures.changes;
       new_file = c.look_unless_seen.ensures.new_file;
       keeps_edits =
-          loses_none path c.args.expected c.args.self.now.ownership.process _ _ _ _ c.look_unless_seen.ensures.changes c.look_unless_seen.ensures.kept;
+          loses_none path c.args.expected c.args.self.now.ownership.process _ _ _ _
+          c.look_unless_seen.ensures.changes c.look_unless_seen.ensures.kept;
     }
 
 pub returns-in_ok-current-in-File-clause-none_left : goal.returns-in_ok-current-in-File-clause-none_left

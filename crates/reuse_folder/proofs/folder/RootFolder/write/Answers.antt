@@ -11,7 +11,7 @@ use Rattle.reuse_disk.specs.Written.{IsWritten, LeavesNone, is_kept}
 use Rattle.reuse_folder.proofs.Noted.{folders_of, held_of}
 use Rattle.reuse_folder.proofs.PutLemmas.{not_put_by, not_put_in, nothing_put_by, nothing_put_in, of_ok, put_by, put_in}
 use Rattle.reuse_folder.proofs.ReadLemmas.{named_of}
-use Rattle.reuse_folder.proofs.SeenLemmas.{loses_none, loses_only, loses_put, owner_kept}
+use Rattle.reuse_folder.proofs.EditLemmas.{loses_none, loses_only, loses_put, owner_kept}
 use Rattle.std.specs.BTreeSet.{contains_text}
 use Rattle.reuse_disk.specs.Noted.{IsNoted}
 use Rattle.reuse_folder.specs.declared.folder.seen.Expected.TheVariants as expected
@@ -150,23 +150,27 @@ invariant_of-self-2 g c =
     }
 
 pub returns-in_err-note-clause-keeps_edits : goal.returns-in_err-note-clause-keeps_edits
-returns-in_err-note-clause-keeps_edits g c expected seen = loses_none c.args.path.now expected c.args.self.now.ownership.process _ _ _ _ refl refl
+returns-in_err-note-clause-keeps_edits g c expected seen =
+    loses_none c.args.path.now expected c.args.self.now.ownership.process _ _ _ _ refl refl
 
 pub returns-in_err-new_file-clause-keeps_edits : goal.returns-in_err-new_file-clause-keeps_edits
 returns-in_err-new_file-clause-keeps_edits g c expected seen =
     let cleared = c.take_new_file.ensures.cleared in
-    loses_only c.args.path.now expected c.args.self.now.ownership.process cleared.folder _ _ _ _ cleared.changed cleared.others
+    loses_only c.args.path.now expected c.args.self.now.ownership.process cleared.folder _ _ _ _
+    cleared.changed cleared.others
 
 pub returns-in_err-enter_seen-clause-keeps_edits : goal.returns-in_err-enter_seen-clause-keeps_edits
 returns-in_err-enter_seen-clause-keeps_edits g c expected seen =
     let cleared = c.take_new_file.ensures.cleared in
-    loses_only c.args.path.now expected c.args.self.now.ownership.process cleared.folder _ _ _ _ (rw c.enter_seen.ensures.changes cleared.changed)
+    loses_only c.args.path.now expected c.args.self.now.ownership.process cleared.folder _ _ _ _
+    (rw c.enter_seen.ensures.changes cleared.changed)
     (rw c.enter_seen.ensures.kept cleared.others)
 
 pub returns-in_err-current-clause-keeps_edits : goal.returns-in_err-current-clause-keeps_edits
 returns-in_err-current-clause-keeps_edits g c expected seen =
     let cleared = c.take_new_file.ensures.cleared in
-    loses_only c.args.path.now expected c.args.self.now.ownership.process cleared.folder _ _ _ _ (rw c.enter_seen.ensures.changes cleared.changed)
+    loses_only c.args.path.now expected c.args.self.now.ownership.process cleared.folder _ _ _ _
+    (rw c.enter_seen.ensures.changes cleared.changed)
     (rw c.enter_seen.ensures.kept cleared.others)
 
 pub returns-clause-keeps_edits : goal.returns-clause-keeps_edits
@@ -193,7 +197,9 @@ returns-clause-keeps_edits g c expected seen =
     rw c.enter_seen.ensures.changes cleared_only in
     rw c.note_written.ensures.system (loses_put path name expected _ new_files folder (changes_of first.calls)
     (changes_of second.calls) (changes_of third.calls) a b d named seen
-    (owner_kept _ c.args.found _ _ _ c.wanted.ensures.owner) only alike c.write-written.ensures.guarded)
+    (owner_kept c.take_new_file.new.self.ownership.process c.args.found c.in_ok-current.field-0.now.owner
+    c.in_ok-current.field-0.now.passes_group c.wanted.result.owner c.wanted.ensures.owner) only alike
+    c.write-written.ensures.guarded)
 
 pub returns-in_err-new_file-clause-noted : goal.returns-in_err-new_file-clause-noted
 returns-in_err-new_file-clause-noted g c kept =
