@@ -13,4 +13,6 @@ pub enum CommandName {
     Revert,
     /// `amend`.
     Amend,
+    /// `styles`.
+    AddStyles,
 }

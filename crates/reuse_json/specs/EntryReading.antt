@@ -15,7 +15,7 @@ use Rattle.reuse_change.specs.declared.change.Change.TheVariants.{Make, Drop, Sp
 use Rattle.reuse_json.specs.declared.entry.Entry.{Entry}
 use Rattle.reuse_change.specs.declared.command_name.CommandName.{CommandName}
 use Rattle.reuse_change.specs.declared.command_name.CommandName.TheVariants.{Annotate, ConvertDep5, Download, Revert}
-use Rattle.reuse_change.specs.declared.command_name.CommandName.TheVariants.{Amend}
+use Rattle.reuse_change.specs.declared.command_name.CommandName.TheVariants.{Amend, AddStyles}
 
 -- the value is this text
 abbrev pub if_text : List ℕ → Data → Option Unit
@@ -40,6 +40,7 @@ command_from name =
     else if bytes_eq name (codes "download") then Some Download
     else if bytes_eq name (codes "revert") then Some Revert
     else if bytes_eq name (codes "amend") then Some Amend
+    else if bytes_eq name (codes "styles") then Some AddStyles
     else None
 
 abbrev pub command_in : Data → Option CommandName

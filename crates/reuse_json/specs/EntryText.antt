@@ -17,7 +17,7 @@ use Rattle.reuse_json.specs.Json.{IsJson, count, object_of, array_of}
 use Rattle.reuse_json.specs.declared.entry.Entry.{Entry}
 use Rattle.reuse_change.specs.declared.command_name.CommandName.{CommandName}
 use Rattle.reuse_change.specs.declared.command_name.CommandName.TheVariants.{Annotate, ConvertDep5, Download, Revert}
-use Rattle.reuse_change.specs.declared.command_name.CommandName.TheVariants.{Amend}
+use Rattle.reuse_change.specs.declared.command_name.CommandName.TheVariants.{Amend, AddStyles}
 
 -- ---- the text that is written
 
@@ -28,6 +28,7 @@ command_name ConvertDep5 = codes "convert-dep5"
 command_name Download = codes "download"
 command_name Revert = codes "revert"
 command_name Amend = codes "amend"
+command_name AddStyles = codes "styles"
 
 -- bytes in small hexadecimal digits, as a JSON string
 abbrev pub hex_text : List ℕ → List ℕ

@@ -8,7 +8,7 @@ use Rattle.reuse_shown.specs.JoinedTexts.{AreJoined}
 use Rattle.reuse_command.specs.declared.reply.Row.{Row}
 use Rattle.reuse_change.specs.declared.command_name.CommandName.{CommandName}
 use Rattle.reuse_change.specs.declared.command_name.CommandName.TheVariants.{Annotate, ConvertDep5, Download, Revert}
-use Rattle.reuse_change.specs.declared.command_name.CommandName.TheVariants.{Amend}
+use Rattle.reuse_change.specs.declared.command_name.CommandName.TheVariants.{Amend, AddStyles}
 
 abbrev pub command_word : CommandName → List ℕ
 command_word Annotate = codes "annotate"
@@ -16,6 +16,7 @@ command_word ConvertDep5 = codes "convert-dep5"
 command_word Download = codes "download"
 command_word Revert = codes "revert"
 command_word Amend = codes "amend"
+command_word AddStyles = codes "styles"
 
 abbrev pub state_word : Bool → List ℕ
 state_word done = if done then codes "done" else codes "undone"

@@ -65,6 +65,7 @@ pub fn command_word(command: CommandName) -> &'static str
         CommandName::Download => "download",
         CommandName::Revert => "revert",
         CommandName::Amend => "amend",
+        CommandName::AddStyles => "styles",
     }
 }
 

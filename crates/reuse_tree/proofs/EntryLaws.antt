@@ -34,7 +34,7 @@ use Rattle.reuse_change.specs.declared.change.Change.TheVariants.{Make, Drop, Sp
 use Rattle.reuse_json.specs.declared.entry.Entry.{Entry}
 use Rattle.reuse_change.specs.declared.command_name.CommandName.{CommandName}
 use Rattle.reuse_change.specs.declared.command_name.CommandName.TheVariants.{Annotate, ConvertDep5, Download, Revert}
-use Rattle.reuse_change.specs.declared.command_name.CommandName.TheVariants.{Amend}
+use Rattle.reuse_change.specs.declared.command_name.CommandName.TheVariants.{Amend, AddStyles}
 use Rattle.reuse_json.proofs.JsonPrinting.{IsReadable, read-compact_text}
 use Rattle.reuse_tree.proofs.JoinedTexts.{◌⊹◌, length-join-le, IsUtf8-join, AllByRecursion-weaker}
 use Rattle.reuse_tree.proofs.EntryTexts.{entry_compact}
@@ -189,6 +189,7 @@ name_utf8 ConvertDep5 = IsUtf8-are_ascii _ refl
 name_utf8 Download = IsUtf8-are_ascii _ refl
 name_utf8 Revert = IsUtf8-are_ascii _ refl
 name_utf8 Amend = IsUtf8-are_ascii _ refl
+name_utf8 AddStyles = IsUtf8-are_ascii _ refl
 
 entry_utf8 : (e : Entry) → IsEntryInMemory e → IsUtf8 (entry_text e)
 entry_utf8 e sound =
@@ -322,6 +323,7 @@ name_length ConvertDep5 = omega arith
 name_length Download = omega arith
 name_length Revert = omega arith
 name_length Amend = omega arith
+name_length AddStyles = omega arith
 
 format_length : (second : Bool) → length (decimal (format_number second)) ≤ 20
 format_length second = number_length (format_number second) (few_formats second)

@@ -32,7 +32,7 @@ use Rattle.reuse_change.specs.declared.change.Change.TheVariants.{Make, Drop, Sp
 use Rattle.reuse_json.specs.declared.entry.Entry.{Entry}
 use Rattle.reuse_change.specs.declared.command_name.CommandName.{CommandName}
 use Rattle.reuse_change.specs.declared.command_name.CommandName.TheVariants.{Annotate, ConvertDep5, Download, Revert}
-use Rattle.reuse_change.specs.declared.command_name.CommandName.TheVariants.{Amend}
+use Rattle.reuse_change.specs.declared.command_name.CommandName.TheVariants.{Amend, AddStyles}
 use Rattle.reuse_json.proofs.JsonParts.{either, named, bind_some, first_member_found, field_found, field_is}
 use Rattle.reuse_json.proofs.JsonParts.{none_left_found, object_found, array_found, string_found, number_found}
 use Rattle.reuse_json.proofs.JsonParts.{format_found, format_again, same_json}
@@ -84,7 +84,11 @@ command_found name w e = elim (either (bytes_eq name (codes "annotate")) Annotat
       | inl is ↦ named command_name name Download w is
       | inr fourth ↦ elim (either (bytes_eq name (codes "revert")) Revert w _ fourth) [
         | inl is ↦ named command_name name Revert w is
-        | inr last ↦ named command_name name Amend w (cond_some (bytes_eq name (codes "amend")) Amend w last)
+        | inr fifth ↦ elim (either (bytes_eq name (codes "amend")) Amend w _ fifth) [
+          | inl is ↦ named command_name name Amend w is
+          | inr last ↦
+              named command_name name AddStyles w (cond_some (bytes_eq name (codes "styles")) AddStyles w last)
+        ]
       ]
     ]
   ]
@@ -96,6 +100,7 @@ command_again ConvertDep5 = refl
 command_again Download = refl
 command_again Revert = refl
 command_again Amend = refl
+command_again AddStyles = refl
 
 pub command_there : (d : Data) (w : CommandName) → command_in d ≡ Some w → d ≡ string (command_name w)
 command_there d w e = let name = bind_some _ (as_str d) w e in

@@ -12,7 +12,7 @@ use Rattle.reuse_change.specs.declared.change.Change.TheVariants.{Make, Drop, Sp
 use Rattle.reuse_json.specs.declared.entry.Entry.{Entry}
 use Rattle.reuse_change.specs.declared.command_name.CommandName.{CommandName}
 use Rattle.reuse_change.specs.declared.command_name.CommandName.TheVariants.{Annotate, ConvertDep5, Download, Revert}
-use Rattle.reuse_change.specs.declared.command_name.CommandName.TheVariants.{Amend}
+use Rattle.reuse_change.specs.declared.command_name.CommandName.TheVariants.{Amend, AddStyles}
 use Rattle.reuse_tree.proofs.EntryValues.{change_value, entry_value}
 use Rattle.reuse_json.proofs.JsonPrinting.{items_text-map}
 
@@ -102,6 +102,7 @@ command_text ConvertDep5 = refl
 command_text Download = refl
 command_text Revert = refl
 command_text Amend = refl
+command_text AddStyles = refl
 
 unfoldable pub entry_shape : (items name format when : List ℕ) → List ℕ
 entry_shape items name format when = codes "{\"changes\":[" ++ (items ++ (codes ",\"command\":"

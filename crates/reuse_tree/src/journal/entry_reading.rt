@@ -117,6 +117,8 @@ fn command_of(name: &str) -> Result<CommandName, DecodeFault>
         Ok(CommandName::Revert)
     } else if name == "amend" {
         Ok(CommandName::Amend)
+    } else if name == "styles" {
+        Ok(CommandName::AddStyles)
     } else {
         Err(DecodeFault::NotGood)
     }

@@ -140,6 +140,7 @@ fn name_of(command: CommandName) -> &'static str
         CommandName::Download => "download",
         CommandName::Revert => "revert",
         CommandName::Amend => "amend",
+        CommandName::AddStyles => "styles",
     }
 }
 

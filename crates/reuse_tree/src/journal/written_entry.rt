@@ -57,7 +57,7 @@ pub(crate) fn knows(sealed: bool, command: CommandName) -> bool
     ensures { result ≡ knows sealed command }
 {
     match command {
-        CommandName::Revert | CommandName::Amend => sealed,
+        CommandName::Revert | CommandName::Amend | CommandName::AddStyles => sealed,
         _ => true,
     }
 }
@@ -101,6 +101,8 @@ fn read_command(text: &mut WrittenText<'_>) -> Result<CommandName, DecodeFault>
         Ok(CommandName::Revert)
     } else if text.skip("amend") {
         Ok(CommandName::Amend)
+    } else if text.skip("styles") {
+        Ok(CommandName::AddStyles)
     } else {
         Err(DecodeFault::NotGood)
     }
