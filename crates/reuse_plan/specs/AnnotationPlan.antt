@@ -1,5 +1,5 @@
 -- What an annotation that is asked for does, by the styles of its tree, for private clauses.
-use Rattle.std.specs.Prelude.{ℕ, ◌&&◌, List, Option, is_some, Result}
+use Rattle.std.specs.Prelude.{ℕ, ◌&&◌, List, Option, None, is_some, Result}
 use Rattle.std.specs.FinMap.{get}
 use Rattle.reuse_header.specs.Header.{header_of}
 use Rattle.reuse_style.specs.Names.{lookup}
@@ -8,6 +8,7 @@ use Rattle.reuse_change.specs.Files.{Files}
 use Rattle.reuse_plan.specs.Annotate.{neighbour_of, annotated_at, edit_of_neighbour, edit_inside, edit_neighbour}
 use Rattle.reuse_plan.specs.Annotate.{edit_target, target_by_bytes}
 use Rattle.reuse_plan.specs.Edit.{Edit}
+use Rattle.reuse_plan.specs.Harmed.{harm_at, new_harm}
 use Rattle.reuse_plan.specs.Outcome.{annotation_at}
 use Rattle.reuse_plan.specs.PathEdits.{PathEdit}
 use Rattle.reuse_plan.specs.Skipped.{has_tagged, is_skipped_at}
@@ -55,6 +56,7 @@ path_by_place asked tree path bytes place =
     record {
       path = path;
       skipped = is_skipped_at asked.scope.now tree path bytes place;
+      harm = harm_at bytes place;
       edit = edit_by_place asked tree path bytes place;
     }
 
@@ -64,6 +66,7 @@ path_beside_by asked tree path =
     record {
       path = path;
       skipped = asked.scope.now.skip_existing && has_tagged (get tree (neighbour_of path));
+      harm = None;
       edit = beside_by asked tree path;
     }
 
@@ -73,6 +76,7 @@ path_neighbour_by asked tree path file =
     record {
       path = path;
       skipped = asked.scope.now.skip_existing && has_tagged file;
+      harm = None;
       edit = neighbour_by asked tree path file;
     }
 
@@ -82,5 +86,6 @@ path_inside_by asked path bytes style =
     record {
       path = path;
       skipped = asked.scope.now.skip_existing && is_some (header_of style bytes);
+      harm = new_harm style bytes;
       edit = inside_by asked path bytes style;
     }

@@ -14,6 +14,7 @@ pub mod DownloadPlan
 pub mod Downloads
 pub mod Edit
 pub mod EditBytes
+pub mod Harmed
 pub mod HeaderFaults
 pub mod Licence
 pub mod Outcome

@@ -25,11 +25,15 @@ use Rattle.reuse_command.specs.declared.reply.Refusal.TheVariants.{TooMany}
 
 -- the plan is of what is done at the path; a walk that ends at the first refusal has no plan of one
 abbrev pub IsPlanOf : Policy → Files → PathEdit → PathPlan → Type 0
-IsPlanOf policy tree here (plan.Change change) =
-    (edit : Edit) × (here.edit ≡ Ok (Some edit)) × CarriesOutEdit tree change edit
+IsPlanOf policy tree here (plan.Change change harm) =
+    (edit : Edit) × (here.edit ≡ Ok (Some edit)) × CarriesOutEdit tree change edit × (harm ≡ here.harm)
 IsPlanOf policy tree here (plan.Unchanged path) = (path ≡ here.path) × (here.edit ≡ Ok None) × (here.skipped ≡ false)
 IsPlanOf policy tree here (plan.Skipped path) = (path ≡ here.path) × (here.edit ≡ Ok None) × (here.skipped ≡ true)
 IsPlanOf policy tree here (plan.Refused refusal) = (here.edit ≡ Err refusal) × IsNoFailure refusal × (policy ≡ Collect)
+
+-- that the path changes so, with no new header in it
+abbrev pub plain_change : Change → PathPlan
+plain_change change = plan.Change change None
 
 -- one plan for each path, in their order
 abbrev pub ArePlansOf : Policy → Files → List PathEdit → List PathPlan → Type 0
@@ -56,13 +60,13 @@ EndsWalk Collect refusal = IsEarlyFailure refusal
 -- ---- what is made of plans
 
 abbrev pub path_outcome_planned : PathPlan → PathOutcome
-path_outcome_planned (plan.Change change) = path_outcome.Changes (path_of change)
+path_outcome_planned (plan.Change change harm) = path_outcome.Changes (path_of change)
 path_outcome_planned (plan.Unchanged path) = path_outcome.Unchanged path
 path_outcome_planned (plan.Skipped path) = path_outcome.Skipped path
 path_outcome_planned (plan.Refused refusal) = path_outcome.Refused refusal
 
 abbrev pub change_planned : PathPlan → Option Change
-change_planned (plan.Change change) = Some change
+change_planned (plan.Change change harm) = Some change
 change_planned other = None
 
 abbrev pub changes_planned : List PathPlan → List Change

@@ -82,5 +82,6 @@ abbrev pub reverted_at : List (List ℕ) → Bool → Files → Change → PathE
 reverted_at touched skip_moved tree change = record {
   path = path_of change;
   skipped = skip_moved;
+  harm = None;
   edit = back_or_refused skip_moved (path_of change) (taken_back_unless touched tree change);
 }

@@ -3,6 +3,8 @@
 ghost use Rattle.std.specs.Prelude.{◌≡◌, []};
 
 use crate::unused::Unused;
+use reuse_change::PathText;
+use reuse_header::Harm;
 use std::alloc::Global;
 
 /// What a run or its preview counted.
@@ -12,6 +14,15 @@ pub struct Counts {
     pub skipped: usize,
     /// What of its choice of files came to nothing.
     pub unused: Unused,
+    /// The files into which a header goes that could break something, in the order of the walk.
+    pub harms: Vec<Harmed>,
+}
+
+/// A file without a header, and what one could break there.
+#[derive(Debug, Drop)]
+pub struct Harmed {
+    pub path: PathText,
+    pub harm: Harm,
 }
 
 impl Counts {
@@ -20,10 +31,12 @@ impl Counts {
         ensures skipped { result.skipped ≡ 0 }
         ensures names { result.unused.names ≡ 0 }
         ensures globs { result.unused.globs.items ≡ [] }
+        ensures harms { result.harms.items ≡ [] }
     {
         Counts {
             skipped: 0,
             unused: Unused::none(alloc),
+            harms: Vec::new(alloc),
         }
     }
 }

@@ -1,27 +1,27 @@
 //! The plan of a path: what a command would do there. One walk makes the plans of a command, for a
 //! run and for a preview; a policy says whether it goes on behind a refusal.
-ghost use Rattle.std.specs.Prelude.{◌≡◌, ◌⊎◌, List, map, Result, Err, Option, IfOk, IfErr, false};
+ghost use Rattle.std.specs.Prelude.{◌≡◌, ◌⊎◌, List, map, Result, Err, Option, None, IfOk, IfErr, false};
 ghost use Rattle.reuse_plan.specs.Edit.{Edit};
 ghost use Rattle.reuse_plan.specs.PathEdits.{PathEdit, all_or_none, refused_alone};
-ghost use Rattle.reuse_plan.specs.PathPlans.{AnswersPlan, AnswersPlans, EndsWalk, IsPlanOf};
+ghost use Rattle.reuse_plan.specs.PathPlans.{AnswersPlan, AnswersPlans, EndsWalk, IsPlanOf, plain_change};
 ghost use Rattle.reuse_plan.specs.Plan.{AnswersEdits, IsRefusalOf, MakesEdit};
 ghost use Rattle.reuse_command.specs.Answer.{IsNoFailure};
 ghost use Rattle.reuse_command.specs.Reading.{Files, IsOfPlan};
 ghost use Rattle.reuse_command.specs.declared.reply.Refusal.{Refusal};
-ghost use Rattle.reuse_plan.specs.declared.path_plan.PathPlan.TheVariants as plan;
 ghost use Rattle.reuse_plan.specs.declared.path_plan.Policy.TheVariants.{Stop};
 ghost use Rattle.reuse_command.specs.declared.failure.Failure.TheVariants as failures;
 
 use reuse_change::{Change, PathText};
 use reuse_command::path_outcome::unless_failure;
 use reuse_command::reply::Refusal;
+use reuse_header::Harm;
 use std::alloc::{AllocError, Global};
 
 /// What a command would do at a path.
 #[derive(Drop)]
 pub(crate) enum PathPlan {
-    /// The path changes so.
-    Change(Change),
+    /// The path changes so, and what the header could break where that is the file's first.
+    Change { change: Change, harm: Option<Harm> },
     /// The file is gone through and stays as it is.
     Unchanged(PathText),
     /// The file is skipped, as that was asked for.
@@ -31,17 +31,30 @@ pub(crate) enum PathPlan {
 }
 
 impl PathPlan {
-    /// The plan of a path whose file isn't skipped, by its change, if it changes.
+    /// That the path changes so, with no new header in the file.
+    pub(crate) fn plain(change: Change) -> PathPlan
+        ensures { result ≡ plain_change change }
+    {
+        PathPlan::Change { change, harm: None }
+    }
+
+    /// The plan of a path whose file isn't skipped, by its change, if it changes, with no new
+    /// header in the file.
     pub(crate) fn of_change(
         alloc: Global,
         path: &PathText,
         change: Option<Change>,
     ) -> Result<PathPlan, AllocError>
         ensures { (tree : Files) (edit : Result (Option Edit) Refusal) → MakesEdit tree edit change
-            → IfOk result (IsPlanOf Stop tree (record { path = path.now; skipped = false; edit = edit })) }
+            → IfOk result (IsPlanOf Stop tree (record {
+              path = path.now;
+              skipped = false;
+              harm = None;
+              edit = edit;
+            })) }
     {
         match change {
-            Some(change) => Ok(PathPlan::Change(change)),
+            Some(change) => Ok(PathPlan::plain(change)),
             None => Ok(PathPlan::Unchanged(path.try_clone(alloc)?)),
         }
     }
@@ -108,7 +121,7 @@ impl Policy {
 
 /// A plan for each of the changes.
 pub(crate) fn all_changes(alloc: Global, changes: Vec<Change>) -> Result<Vec<PathPlan>, AllocError>
-    ensures { IfOk result (λ plans. plans.items ≡ map plan.Change changes.items) }
+    ensures { IfOk result (λ plans. plans.items ≡ map plain_change changes.items) }
 {
-    changes.into_iter().map(PathPlan::Change).collect(alloc)
+    changes.into_iter().map(PathPlan::plain).collect(alloc)
 }

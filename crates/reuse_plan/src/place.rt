@@ -12,6 +12,7 @@ ghost use Rattle.reuse_amend.specs.declared.amendments.Amendments.{Amendments};
 ghost use Rattle.reuse_plan.specs.Amend.{amended_at};
 ghost use Rattle.reuse_plan.specs.Annotate.{neighbour_of, annotated_at};
 ghost use Rattle.reuse_plan.specs.AnnotationPlan.{neighbour_by, path_inside_by, path_neighbour_by};
+ghost use Rattle.reuse_plan.specs.Harmed.{new_harm};
 ghost use Rattle.reuse_plan.specs.PathPlans.{AnswersPlan};
 ghost use Rattle.reuse_change.specs.Listing.{is_among};
 ghost use Rattle.reuse_plan.specs.Plan.{AnswersEdit, AnswersOf};
@@ -31,7 +32,8 @@ use reuse_command::command::Place;
 use reuse_command::failure::Failure;
 use reuse_command::reply::Refusal;
 use reuse_header::{
-    Style, annotate_file, annotate_neighbour, annotations_fit, find, neighbour_has_tag,
+    Harm, Style, annotate_file, annotate_neighbour, annotations_fit, find, harm_of,
+    neighbour_has_tag,
 };
 use reuse_store::{Reading, Store, is_clash_at};
 use reuse_text::{Bytes, LONGEST_FILE};
@@ -147,8 +149,25 @@ fn plan_inside(
     annotations_fit();
     let made = annotate_file(alloc, bytes, style, asked.additions, asked.how);
     match change_by(alloc, path, path, bytes, made) {
-        Ok(change) => Ok(Step::Done(PathPlan::of_change(alloc, path, change)?)),
+        Ok(Some(change)) => {
+            let harm = new_harm(bytes, style);
+            Ok(Step::Done(PathPlan::Change { change, harm }))
+        }
+        Ok(None) => Ok(Step::Done(PathPlan::Unchanged(path.try_clone(alloc)?))),
         Err(refusal) => Err(refusal),
+    }
+}
+
+// What a header could break in a file of these bytes, if it is the file's first. Few files hold
+// what it could break, and only those are searched for a header.
+fn new_harm(bytes: &[u8], style: &Style<'_>) -> Option<Harm>
+    ensures { result ≡ new_harm style.now bytes.now }
+{
+    let harm = harm_of(bytes, style)?;
+    if find(bytes, style).block.is_some() {
+        None
+    } else {
+        Some(harm)
     }
 }
 

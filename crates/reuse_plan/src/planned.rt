@@ -1,10 +1,11 @@
 //! What is made of the plans of a command: the changes of a run, and what a preview reports.
-ghost use Rattle.std.specs.Prelude.{◌≡◌, ◌++◌, ◌∷◌, [], ◌||◌, map, IfOk, OnOk};
+ghost use Rattle.std.specs.Prelude.{◌≡◌, ◌++◌, ◌∷◌, [], ◌||◌, map, filter_map, IfOk, OnOk};
 ghost use Rattle.std.specs.Option.{option_to_list};
 ghost use Rattle.std.specs.List.{list_any};
 ghost use Rattle.reuse_plan.specs.PathPlans.{change_planned, changes_planned, path_outcome_planned, is_refusal};
-ghost use Rattle.reuse_plan.specs.Counted.{is_skip_planned, skipped_planned};
+ghost use Rattle.reuse_plan.specs.Counted.{harmed_planned, is_skip_planned, skipped_planned};
 
+use crate::counts::Harmed;
 use crate::path_plan::PathPlan;
 use reuse_change::Change;
 use reuse_command::path_outcome::PathOutcome;
@@ -47,7 +48,7 @@ impl Planned {
         ensures refused { OnOk result (self.new.is_refused ≡ (self.old.is_refused || is_refusal plan)) }
     {
         let path_outcome = match plan {
-            PathPlan::Change(change) => {
+            PathPlan::Change { change, harm: _ } => {
                 let path = change.path().try_clone(alloc)?;
                 self.changes.push(change)?;
                 PathOutcome::Changes(path)
@@ -78,7 +79,7 @@ fn change_planned(plan: PathPlan) -> Option<Change>
     ensures { result ≡ change_planned plan }
 {
     match plan {
-        PathPlan::Change(change) => Some(change),
+        PathPlan::Change { change, harm: _ } => Some(change),
         _ => None,
     }
 }
@@ -94,4 +95,30 @@ fn is_skip(plan: &PathPlan) -> bool
     ensures { result ≡ is_skip_planned plan.now }
 {
     matches!(plan, PathPlan::Skipped(_))
+}
+
+/// The files among the plans into which a header goes that could break something.
+pub(crate) fn harms_planned(alloc: Global, plans: &[PathPlan]) -> Result<Vec<Harmed>, AllocError>
+    ensures { IfOk result (λ harms. harms.items ≡ filter_map harmed_planned plans.now) }
+{
+    let mut harms = Vec::new(alloc);
+    for plan in plans {
+        push_harm(&mut harms, alloc, plan)?;
+    }
+    Ok(harms)
+}
+
+// Adds the file of a plan, if a header could break something there.
+fn push_harm(harms: &mut Vec<Harmed>, alloc: Global, plan: &PathPlan) -> Result<(), AllocError>
+    ensures { OnOk result (harms.new.items ≡ harms.old.items ++ option_to_list (harmed_planned plan.now)) }
+{
+    if let PathPlan::Change {
+        change,
+        harm: Some(harm),
+    } = plan
+    {
+        let path = change.path().try_clone(alloc)?;
+        harms.push(Harmed { path, harm: *harm })?;
+    }
+    Ok(())
 }

@@ -71,7 +71,7 @@ fn plan_back(
     ensures fault { (fault : Fault) → result ≢ Err (Refusal.Failed (failures.Fault fault)) }
 {
     match back {
-        Some(back) => Ok(PathPlan::Change(back)),
+        Some(back) => Ok(PathPlan::plain(back)),
         None if skip_moved => Ok(PathPlan::Skipped(change.path().try_clone(alloc)?)),
         None => policy.refused(Refusal::Moved(change.path().try_clone(alloc)?)),
     }

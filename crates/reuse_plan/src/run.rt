@@ -12,7 +12,7 @@ ghost use Rattle.reuse_command.specs.Reading.{tree_of, IsOfPlan, OnlyReads, Refu
 
 use crate::counts::Counts;
 use crate::path_plan::Policy;
-use crate::planned::{Planned, changes_planned, skipped_planned};
+use crate::planned::{Planned, changes_planned, harms_planned, skipped_planned};
 use crate::walk::plan_command;
 use reuse_change::{Change, is_too_many};
 use reuse_command::command::Command;
@@ -44,6 +44,7 @@ pub fn plan<S: Store>(
 {
     let plans = plan_command(alloc, store, command, Policy::Stop, &mut counts.unused)?;
     counts.skipped = skipped_planned(&plans);
+    counts.harms = harms_planned(alloc, &plans)?;
     let changes = sorted(changes_planned(alloc, plans)?);
     if is_too_many(&changes) {
         return Err(Refusal::TooMany);
@@ -85,6 +86,7 @@ pub fn plan_preview<S: Store>(
 {
     let plans = plan_command(alloc, store, command, Policy::Collect, &mut counts.unused)?;
     counts.skipped = skipped_planned(&plans);
+    counts.harms = harms_planned(alloc, &plans)?;
     Ok(with_limit(Planned::of(alloc, plans)?)?)
 }
 
