@@ -1,26 +1,34 @@
 -- What a call counts while it plans.
-use Rattle.std.proofs.Common.{◌≡◌, ◌∙◌, suc, Bool, true, false, cond, List, [], ◌∷◌, ◌++◌, map, Result, Ok, Err, OnOk}
-use Rattle.std.proofs.Common.{refl, sym, ap, subst}
+use Rattle.std.proofs.Common.{◌≡◌, ◌∙◌, suc, Bool, true, false, cond, List, [], ◌∷◌, ◌++◌, map, filter_map}
+use Rattle.std.proofs.Common.{Option, None, Some, Result, Ok, Err, OnOk, refl, sym, ap, ap₂, subst, ℕ, ◌+◌, ◌<◌}
+use Rattle.std.proofs.Common.{length, take, get_or, option_to_list}
+use Rattle.std.specs.List.{cons_option}
+use Rattle.std.proofs.lemmas.List.{take_more}
+use Rattle.std.proofs.lemmas.List.Elements.{filter_map-append}
+use Rattle.reuse_header.specs.declared.harm.Harm.{Harm}
 use Rattle.reuse_change.specs.Files.{Files}
-use Rattle.reuse_plan.specs.Counted.{skipped_count, skipped_planned}
+use Rattle.reuse_plan.specs.Counted.{skipped_count, skipped_planned, harmed, harmed_at, harmed_by, harmed_planned}
 use Rattle.reuse_plan.specs.PathOutcomes.{path_outcome_of, path_outcomes_of, limit_path_outcomes}
 use Rattle.reuse_plan.specs.Outcome.{Edit, edits_of, path_edits_of, is_too_many}
-use Rattle.reuse_plan.specs.PathPlans.{ArePlansOf, path_outcome_planned}
+use Rattle.reuse_plan.specs.PathEdits.{PathEdit}
+use Rattle.reuse_plan.specs.PathPlans.{ArePlansOf, IsPlanOf, path_outcome_planned}
 use Rattle.reuse_command.specs.declared.command.Command.{Command}
 use Rattle.reuse_command.specs.declared.path_outcome.PathOutcome.{PathOutcome}
 use Rattle.reuse_command.specs.declared.path_outcome.PathOutcome.TheVariants as path_outcome
+use Rattle.reuse_plan.specs.declared.counts.Harmed.{Harmed}
 use Rattle.reuse_plan.specs.declared.path_plan.PathPlan.{PathPlan}
 use Rattle.reuse_plan.specs.declared.path_plan.PathPlan.TheVariants as plan
 use Rattle.reuse_plan.specs.declared.path_plan.Policy.{Policy}
 use Rattle.reuse_command.specs.declared.reply.Refusal.{Refusal}
 use Rattle.reuse_command.specs.declared.reply.Refusal.TheVariants as refusals
-use Rattle.reuse_plan.proofs.PathPlanning.{path_outcomes_are}
+use Rattle.reuse_plan.proofs.Outcomes.{no_edit}
+use Rattle.reuse_plan.proofs.PathPlanning.{of_one, path_outcomes_are}
 
 -- ---- files that are skipped
 
 skips_planned : (plans : List PathPlan) → skipped_planned plans ≡ skipped_count (map path_outcome_planned plans)
 skips_planned [] = refl
-skips_planned (plan.Change change ∷ plans) = skips_planned plans
+skips_planned (plan.Change change harm ∷ plans) = skips_planned plans
 skips_planned (plan.Unchanged path ∷ plans) = skips_planned plans
 skips_planned (plan.Skipped path ∷ plans) = ap suc (skips_planned plans)
 skips_planned (plan.Refused refusal ∷ plans) = skips_planned plans
@@ -51,6 +59,45 @@ skips_are policy command tree plans are =
     skips_planned plans ∙ ap skipped_count (path_outcomes_are policy tree all plans are)
     ∙ sym (none_behind (map path_outcome_of all) (limit_path_outcomes (edits_of command tree))
     (none_at_limit (edits_of command tree)))
+
+-- ---- files into which a header goes that could break something
+
+-- nothing breaks where nothing changes, nor where that is refused
+unchanged_whole : (harm : Option Harm) → None ≡ harmed_by harm no_edit
+unchanged_whole None = refl
+unchanged_whole (Some harm) = refl
+
+refused_whole : (harm : Option Harm) (refusal : Refusal) → None ≡ harmed_by harm (Err refusal)
+refused_whole None refusal = refl
+refused_whole (Some harm) refusal = refl
+
+module _ (policy : Policy) (tree : Files) where
+  harm_is : (here : PathEdit) (one : PathPlan) → IsPlanOf policy tree here one → harmed_planned one ≡ harmed_at here
+  harm_is here (plan.Change change None) is = ap (λ h. harmed_by h here.edit) is.3
+  harm_is here (plan.Change change (Some harm)) is =
+      ap (λ p. Some (harmed p harm)) is.2.path ∙ ap₂ harmed_by is.3 (sym is.1)
+  harm_is here (plan.Unchanged path) is = unchanged_whole here.harm ∙ ap (harmed_by here.harm) (sym is.1)
+  harm_is here (plan.Skipped path) is = unchanged_whole here.harm ∙ ap (harmed_by here.harm) (sym is.1)
+  harm_is here (plan.Refused refusal) is = refused_whole here.harm refusal ∙ ap (harmed_by here.harm) (sym is.0)
+
+  -- the plans of paths say of the same files what could break there
+  pub harms_are : (all : List PathEdit) (plans : List PathPlan) → ArePlansOf policy tree all plans
+      → filter_map harmed_planned plans ≡ filter_map harmed_at all
+  harms_are [] [] are = refl
+  harms_are (here ∷ all) (one ∷ plans) are = ap₂ cons_option (harm_is here one are.0) (harms_are all plans are.1)
+  harms_are all plans are = absurd are
+
+-- one plan more
+pub harms_more : (plans : List PathPlan) (i : ℕ) (d : PathPlan) (old new : List Harmed) → i < length plans
+    → old ≡ filter_map harmed_planned (take i plans)
+    → new ≡ old ++ option_to_list (harmed_planned (get_or plans i d))
+    → new ≡ filter_map harmed_planned (take (i + 1) plans)
+harms_more plans i d old new low so is =
+    let at = get_or plans i d in
+    is ∙ ap (λ hs. hs ++ option_to_list (harmed_planned at)) so
+    ∙ ap (λ hs. filter_map harmed_planned (take i plans) ++ hs) (sym (of_one (harmed_planned at)))
+    ∙ sym (filter_map-append harmed_planned (take i plans) (at ∷ []))
+    ∙ ap (filter_map harmed_planned) (sym (take_more plans i d low))
 
 -- ---- sessions
 

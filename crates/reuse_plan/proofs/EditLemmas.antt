@@ -8,6 +8,7 @@ use Rattle.std.proofs.lemmas.List.{append-nil}
 use Rattle.reuse_style.specs.declared.style.Style.{Style}
 use Rattle.reuse_header.specs.declared.annotation.HeaderRefusal.{HeaderRefusal}
 use Rattle.reuse_header.specs.declared.annotation.Splice.{Splice}
+use Rattle.reuse_header.specs.declared.harm.Harm.{Harm}
 use Rattle.reuse_header.specs.Annotation as header
 use Rattle.reuse_header.specs.Header.{header_of}
 use Rattle.reuse_header.specs.Splices.{answer_of}
@@ -32,6 +33,7 @@ use Rattle.reuse_plan.specs.declared.annotation.Annotation.{Annotation}
 use Rattle.reuse_command.specs.declared.reply.Refusal.{Refusal}
 use Rattle.reuse_plan.proofs.SpliceLemmas.{makes_splice}
 use Rattle.reuse_plan.proofs.AnnotatedFiles.{aimed}
+use Rattle.reuse_plan.specs.Harmed.{harm_at, harm_in, harm_where, new_harm}
 use Rattle.reuse_plan.specs.Skipped.{has_tagged, is_skipped, is_skipped_at, is_skipped_where}
 use Rattle.reuse_plan.specs.PathEdits.{PathEdit}
 
@@ -254,46 +256,65 @@ module _ (asked : Annotation) (tree : Files) (path : List ℕ) where
       ap (is_skipped_where asked.scope.now (own_of asked) tree path) here ∙ ap (λ t.
       is_skipped_at asked.scope.now tree path bytes (cond t (aimed InNeighbour) (place_by asked path bytes))) beside
 
+  harm_is : (bytes : List ℕ) (b : Bool) → get tree path ≡ Some bytes
+      → goes_to_neighbour asked.scope.now (own_of asked) tree path ≡ b
+      → harm_in asked.scope.now (own_of asked) tree path ≡ harm_at bytes
+      (cond b (aimed InNeighbour) (place_by asked path bytes))
+  harm_is bytes b here beside =
+      ap (harm_where asked.scope.now (own_of asked) tree path) here
+      ∙ ap (λ t. harm_at bytes (cond t (aimed InNeighbour) (place_by asked path bytes))) beside
+
   -- what is done at a covered file, by the place
   pub path_is : (bytes : List ℕ) (b : Bool) → get tree path ≡ Some bytes → is_covered path ≡ true
       → goes_to_neighbour asked.scope.now (own_of asked) tree path ≡ b
       → path_by asked tree path ≡ path_by_place asked tree path bytes
       (cond b (aimed InNeighbour) (place_by asked path bytes))
   path_is bytes b here covered beside =
-      ap₂ (λ s e. record { path = path; skipped = s; edit = e }) (skipped_is bytes b here beside)
-      (covered_is asked tree path bytes b here covered beside)
+      let place = cond b (aimed InNeighbour) (place_by asked path bytes) in
+      let harm = harm_in asked.scope.now (own_of asked) tree path in
+      ap₂ (λ s e. record { path = path; skipped = s; harm = harm; edit = e }) (skipped_is bytes b here beside)
+      (covered_is asked tree path bytes b here covered beside) ∙ ap (λ h. record {
+        path = path;
+        skipped = is_skipped_at asked.scope.now tree path bytes place;
+        harm = h;
+        edit = edit_by_place asked tree path bytes place;
+      }) (harm_is bytes b here beside)
 
   -- where the neighbour is the place, by what it holds
   pub path_beside_is : (file : Option (List ℕ)) → nat_lt 4096 (length (neighbour_of path)) ≡ false
       → get tree (neighbour_of path) ≡ file → path_beside_by asked tree path ≡ path_neighbour_by asked tree path file
   path_beside_is file short is =
-      ap₂ (λ s e. record { path = path; skipped = s; edit = e })
+      ap₂ (λ s e. record { path = path; skipped = s; harm = None; edit = e })
       (ap (λ f. asked.scope.now.skip_existing && has_tagged f) is) (beside_is asked tree path file short is)
 
   -- no file is skipped for a neighbour that isn't there
   pub new_is_unskipped : path_neighbour_by asked tree path None ≡ record {
     path = path;
     skipped = false;
+    harm = None;
     edit = neighbour_by asked tree path None;
   }
-  new_is_unskipped = ap (λ s. record { path = path; skipped = s; edit = neighbour_by asked tree path None })
+  new_is_unskipped =
+      ap (λ s. record { path = path; skipped = s; harm = None; edit = neighbour_by asked tree path None })
       (and_right asked.scope.now.skip_existing false refl)
 
 -- a file that isn't skipped
-abbrev pub unskipped : List ℕ → Result (Option Edit) Refusal → PathEdit
-unskipped path edit = record { path = path; skipped = false; edit = edit }
+abbrev pub unskipped : List ℕ → Option Harm → Result (Option Edit) Refusal → PathEdit
+unskipped path harm edit = record { path = path; skipped = false; harm = harm; edit = edit }
 
 module _ (asked : Annotation) (path : List ℕ) where
   pub inside_unskipped : (bytes : List ℕ) (style : Style)
       → (asked.scope.now.skip_existing && is_some (header_of style bytes)) ≡ false
-      → path_inside_by asked path bytes style ≡ unskipped path
+      → path_inside_by asked path bytes style ≡ unskipped path (new_harm style bytes)
       (edit_by path path bytes (header.annotation_of style asked.how.now asked.additions.now bytes))
   inside_unskipped bytes style kept =
-      ap₂ (λ s e. record { path = path; skipped = s; edit = e }) kept (inside_is asked path bytes style kept)
+      ap₂ (λ s e. record { path = path; skipped = s; harm = new_harm style bytes; edit = e }) kept
+      (inside_is asked path bytes style kept)
 
   pub beside_unskipped : (tree : Files) (bytes : List ℕ) → nat_lt LONGEST_FILE (length bytes) ≡ false
       → (asked.scope.now.skip_existing && neighbour_is_tagged bytes) ≡ false
-      → path_neighbour_by asked tree path (Some bytes) ≡ unskipped path
+      → path_neighbour_by asked tree path (Some bytes) ≡ unskipped path None
       (edit_by path (neighbour_of path) bytes (neighbour_annotation_of asked.how.now asked.additions.now bytes))
   beside_unskipped tree bytes short kept =
-      ap₂ (λ s e. record { path = path; skipped = s; edit = e }) kept (neighbour_is asked tree path bytes short kept)
+      ap₂ (λ s e. record { path = path; skipped = s; harm = None; edit = e }) kept
+      (neighbour_is asked tree path bytes short kept)

@@ -19,7 +19,7 @@ use Rattle.std.proofs.lemmas.List.{append-nil}
 use Rattle.std.proofs.lemmas.List.Elements.{filter_map-append}
 use Rattle.reuse_change.specs.declared.change.Change.{Change}
 use Rattle.reuse_plan.specs.PathPlans.{IsPlanOf, ArePlansOf, AnswersPlans, EndsWalk, change_planned, changes_planned}
-use Rattle.reuse_plan.specs.PathPlans.{path_outcome_planned, is_refusal, limit_planned, are_too_many}
+use Rattle.reuse_plan.specs.PathPlans.{path_outcome_planned, is_refusal, limit_planned, are_too_many, plain_change}
 use Rattle.reuse_command.specs.Answer.{IsNoFailure}
 use Rattle.reuse_plan.specs.Plan.{MakesEach, MakesEdits, IsRefusalOf}
 use Rattle.reuse_plan.specs.declared.path_plan.PathPlan.{PathPlan}
@@ -195,14 +195,14 @@ alone_as policy tree given all refusal (Err ended) is alone reported (inr same) 
 -- ---- changes together
 
 pub all_are : (policy : Policy) (tree : Files) (changes : List Change) (edits : List Edit)
-    → MakesEach tree changes edits → ArePlansOf policy tree (map edited_at edits) (map plan.Change changes)
+    → MakesEach tree changes edits → ArePlansOf policy tree (map edited_at edits) (map plain_change changes)
 all_are policy tree [] [] each = tt
-all_are policy tree (c ∷ changes) (e ∷ edits) each = ((e, refl, each.0), all_are policy tree changes edits each.1)
+all_are policy tree (c ∷ changes) (e ∷ edits) each = ((e, refl, each.0, refl), all_are policy tree changes edits each.1)
 all_are policy tree changes edits each = absurd each
 
 pub all_made : (policy : Policy) (tree : Files) (given : Result (List Edit) Refusal) (changes : List Change)
-    → MakesEdits tree given changes → ArePlansOf policy tree (all_or_none given) (map plan.Change changes)
-all_made policy tree given changes made = subst (λ g. ArePlansOf policy tree (all_or_none g) (map plan.Change changes))
+    → MakesEdits tree given changes → ArePlansOf policy tree (all_or_none given) (map plain_change changes)
+all_made policy tree given changes made = subst (λ g. ArePlansOf policy tree (all_or_none g) (map plain_change changes))
     (sym made.1) (all_are policy tree changes made.0 made.2)
 
 -- ---- what is made of plans
@@ -219,7 +219,7 @@ module _ (policy : Policy) (tree : Files) where
   pub changes_made : (all : List PathEdit) (plans : List PathPlan) → ArePlansOf policy tree all plans
       → list_any is_refusal plans ≡ false → MakesEdits tree (edits_in all) (changes_planned plans)
   changes_made [] [] are none = ([], refl, tt)
-  changes_made (here ∷ all) (plan.Change change ∷ plans) are none =
+  changes_made (here ∷ all) (plan.Change change harm ∷ plans) are none =
       let rest = changes_made all plans are.1 none in
       (are.0.0 ∷ rest.0, ap₂ or_first are.0.1 rest.1, (are.0.2, rest.2))
   changes_made (here ∷ all) (plan.Refused refusal ∷ plans) are none = absurd (false≢true (sym none))
@@ -239,7 +239,7 @@ module _ (policy : Policy) (tree : Files) where
 
   path_outcome_is : (here : PathEdit) (one : PathPlan) → IsPlanOf policy tree here one
       → path_outcome_planned one ≡ path_outcome_of here
-  path_outcome_is here (plan.Change change) is =
+  path_outcome_is here (plan.Change change harm) is =
       ap path_outcome.Changes is.2.path ∙ sym (ap (path_outcome_by here.path here.skipped) is.1)
   path_outcome_is here (plan.Unchanged path) is =
       ap path_outcome.Unchanged is.0 ∙ sym (ap₂ (path_outcome_by here.path) is.2 is.1)
@@ -268,7 +268,7 @@ module _ (policy : Policy) (tree : Files) where
 
 -- ---- one plan more
 
-of_one : {A : Type 0} (o : Option A) → cons_option o [] ≡ option_to_list o
+pub of_one : {A : Type 0} (o : Option A) → cons_option o [] ≡ option_to_list o
 of_one None = refl
 of_one (Some x) = refl
 

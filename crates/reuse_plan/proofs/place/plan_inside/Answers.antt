@@ -1,13 +1,15 @@
-use Rattle.std.proofs.Common.{◌≡◌, ◌∙◌, false, ◌&&◌, is_some, sym, ap, subst}
+use Rattle.std.proofs.Common.{◌≡◌, ◌∙◌, false, ◌&&◌, is_some, refl, sym, ap, subst}
 use Rattle.reuse_header.specs.Annotation.{annotation_of}
 use Rattle.reuse_header.specs.Found.{block_view}
 use Rattle.reuse_header.specs.Header.{header_of, span_in}
 use Rattle.reuse_plan.specs.Annotate.{edit_by}
 use Rattle.reuse_plan.specs.AnnotationPlan.{path_inside_by}
 use Rattle.reuse_plan.specs.Annotations.{Fits}
+use Rattle.reuse_plan.specs.Harmed.{new_harm}
 use Rattle.reuse_plan.specs.PathEdits.{PathEdit}
 use Rattle.reuse_plan.specs.PathPlans.{IsPlanOf}
-use Rattle.reuse_plan.specs.Plan.{IsRefusalOf}
+use Rattle.reuse_plan.specs.Plan.{IsRefusalOf, MakesEdit}
+use Rattle.reuse_plan.specs.declared.path_plan.PathPlan.TheVariants as plan
 use Rattle.reuse_plan.specs.declared.path_plan.Policy.TheVariants.{Stop}
 use Rattle.reuse_plan.proofs.EditLemmas.{fits_by, same_some, unskipped, inside_unskipped}
 use Rattle.reuse_plan.proofs.place.plan_inside.Goals as goal
@@ -17,7 +19,8 @@ use Rattle.reuse_plan.proofs.place.plan_inside.Goals.{else-asked-via-else-asked}
 -- what is planned is the edit inside the file, which fits it
 module _ (c : After-annotate_file-made) where
   planned : path_inside_by c.args.asked.now c.args.path.now c.args.bytes.now c.args.style.now
-      ≡ unskipped c.args.path.now (edit_by c.args.path.now c.args.path.now c.args.bytes.now
+      ≡ unskipped c.args.path.now (new_harm c.args.style.now c.args.bytes.now)
+      (edit_by c.args.path.now c.args.path.now c.args.bytes.now
       (annotation_of c.args.style.now c.args.asked.now.how.now c.args.asked.now.additions.now c.args.bytes.now))
   planned =
       let kept : (c.args.asked.now.scope.now.skip_existing && is_some (header_of c.args.style.now c.args.bytes.now))
@@ -38,14 +41,27 @@ module _ (c : After-annotate_file-made) where
       (λ edit e. c.annotations_fit.ensures.files c.args.style.now c.args.asked.now.how.now
       c.args.asked.now.additions.now c.args.bytes.now edit e)
 
-pub returns-in_ok-of_change-in-Ok-clause-step : goal.returns-in_ok-of_change-in-Ok-clause-step
-returns-in_ok-of_change-in-Ok-clause-step c tree here =
-    let at = (goal.at.returns-in_ok-of_change-in-Ok-clause-step c).After-annotate_file-made in
+pub returns-in-Ok-Some-clause-step : goal.returns-in-Ok-Some-clause-step
+returns-in-Ok-Some-clause-step c tree here =
+    let at = (goal.at.returns-in-Ok-Some-clause-step c).After-annotate_file-made in
     let expected =
     annotation_of c.args.style.now c.args.asked.now.how.now c.args.asked.now.additions.now c.args.bytes.now in
-    subst (λ (e : PathEdit). IsPlanOf Stop tree e c.in_ok-of_change-in-Ok.field-0) (sym (planned at))
-    (c.in_ok-of_change-in-Ok.ensures tree (edit_by c.args.path.now c.args.path.now c.args.bytes.now expected)
-    (c.in-Ok.ensures.edit tree expected here c.requires (fits at) c.annotate_file-made.ensures))
+    let makes = subst (MakesEdit tree (edit_by c.args.path.now c.args.path.now c.args.bytes.now expected))
+    c.in-Ok-Some.field-0-is
+    (c.in-Ok-Some.ensures.edit tree expected here c.requires (fits at) c.annotate_file-made.ensures) in
+    subst (λ (e : PathEdit). IsPlanOf Stop tree e (plan.Change c.in-Ok-Some.change c.new_harm-harm.result))
+    (sym (planned at)) (makes.0, makes.1, makes.2, c.new_harm-harm.ensures)
+
+pub returns-in_ok-try_clone-in-Ok-None-clause-step : goal.returns-in_ok-try_clone-in-Ok-None-clause-step
+returns-in_ok-try_clone-in-Ok-None-clause-step c tree here =
+    let at = (goal.at.returns-in_ok-try_clone-in-Ok-None-clause-step c).After-annotate_file-made in
+    let expected =
+    annotation_of c.args.style.now c.args.asked.now.how.now c.args.asked.now.additions.now c.args.bytes.now in
+    let makes = subst (MakesEdit tree (edit_by c.args.path.now c.args.path.now c.args.bytes.now expected))
+    c.in-Ok-None.field-0-is
+    (c.in-Ok-None.ensures.edit tree expected here c.requires (fits at) c.annotate_file-made.ensures) in
+    subst (λ (e : PathEdit). IsPlanOf Stop tree e (plan.Unchanged c.in_ok-try_clone-in-Ok-None.field-0))
+    (sym (planned at)) (c.in_ok-try_clone-in-Ok-None.ensures, makes, refl)
 
 pub returns-in-Err-clause-step : goal.returns-in-Err-clause-step
 returns-in-Err-clause-step c tree here =

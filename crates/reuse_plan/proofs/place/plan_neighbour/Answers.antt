@@ -1,4 +1,4 @@
-use Rattle.std.proofs.Common.{◌≡◌, ◌∙◌, ℕ, false, ◌&&◌, nat_lt, List, length, Some, sym, ap, subst, arith}
+use Rattle.std.proofs.Common.{◌≡◌, ◌∙◌, ℕ, false, ◌&&◌, nat_lt, List, length, Some, None, sym, ap, subst, arith}
 use Rattle.std.proofs.lemmas.Result.{err_from_is_err_and}
 use Rattle.reuse_header.specs.Neighbour.{neighbour_annotation_of}
 use Rattle.reuse_header.specs.Splices.{IsExpected, answer_of}
@@ -39,7 +39,7 @@ module _ (c : After-change_by) (tree : Files) (bytes : List ℕ)
   short = short_is c.args.path.now bytes c.in_ok-bytes.bytes (c.in_ok-bytes.ensures.answer bytes reading)
 
   planned : path_neighbour_by c.args.asked.now tree c.args.path.now (Some bytes)
-      ≡ unskipped c.args.path.now (edit_by c.args.path.now (neighbour_of c.args.path.now) bytes
+      ≡ unskipped c.args.path.now None (edit_by c.args.path.now (neighbour_of c.args.path.now) bytes
       (neighbour_annotation_of c.args.asked.now.how.now c.args.asked.now.additions.now bytes))
   planned =
       let kept : (c.args.asked.now.scope.now.skip_existing && neighbour_is_tagged bytes) ≡ false =

@@ -1,16 +1,17 @@
-use Rattle.std.proofs.Common.{◌≡◌, ◌∙◌, ◌++◌, ◌+◌, ◌||◌, nat_lt, List, length, sym, ap, ap₂, subst, IsPermutation}
+use Rattle.std.proofs.Common.{◌≡◌, ◌∙◌, ◌++◌, ◌+◌, ◌||◌, nat_lt, List, length, filter_map, sym, ap, ap₂, subst}
+use Rattle.std.proofs.Common.{IsPermutation}
 use Rattle.std.proofs.lemmas.List.Sorted.{length_permutation, sum_by-IsPermutation}
 use Rattle.reuse_change.specs.Entry.{change_size, entry_size}
 use Rattle.reuse_change.specs.Files.{tree_of}
 use Rattle.reuse_change.specs.declared.change.Change.{Change}
 use Rattle.reuse_store.proofs.TreeLemmas.{tree_are_files}
-use Rattle.reuse_plan.specs.Counted.{skipped_planned}
+use Rattle.reuse_plan.specs.Counted.{harmed_planned, skipped_planned}
 use Rattle.reuse_plan.specs.PathOutcomes.{path_outcomes_of, first_refusal}
 use Rattle.reuse_plan.specs.Outcome.{edits_of, outcome_of, path_edits_of}
 use Rattle.reuse_plan.specs.PathPlans.{limit_planned}
 use Rattle.reuse_plan.specs.Plan.{MakesEdits}
 use Rattle.reuse_plan.specs.declared.path_plan.Policy.TheVariants.{Collect}
-use Rattle.reuse_plan.proofs.Counting.{skips_are}
+use Rattle.reuse_plan.proofs.Counting.{harms_are, skips_are}
 use Rattle.reuse_plan.proofs.EditOrder.{sorted_plan}
 use Rattle.reuse_plan.proofs.Fitting.{command_fits}
 use Rattle.reuse_plan.proofs.PathPlanning.{path_outcomes_are, limit_is, accepted_few, accepted_made}
@@ -80,4 +81,8 @@ returns-clause-counts g c honest =
           ∙ skips_are Collect c.args.command.now (tree_of (g.S.Store.files c.args.store.now)) plans
           (c.in_ok-plans.ensures.plans honest);
       unused = c.in_ok-plans.ensures.unused honest;
+      harms = c.in_ok-counts.ensures ∙ ap (filter_map harmed_planned) c.deref-2.ensures.value
+          ∙ harms_are Collect (tree_of (g.S.Store.files c.args.store.now))
+          (path_edits_of c.args.command.now (tree_of (g.S.Store.files c.args.store.now))) plans
+          (c.in_ok-plans.ensures.plans honest);
     }
