@@ -224,6 +224,51 @@ choices() {
   notes annotate -l MIT -r --exclude none missing :
 }
 
+# A header in a file that had none, where its first line may have to stay the first
+harms() {
+  local name word text line="$room/harms" changed='1 file changed; .*' jo=(-c Jo -y 2024)
+  breaks() {
+    printf 'a header at the top may break %s; first-lines and front-matter in %s' "$1" \
+      '\.reuse/comments\.toml keep such lines in front: see docs/RULES\.md'
+  }
+  cat > "$line" << 'END'
+a.css:charset:@charset "utf-8";\n
+a.el:mode line:;;; a.el -*- lexical-binding: t -*-\n
+a.md:front matter:---\ntitle: x\n---\n# Head\n
+a.rs:inner attribute:#![no_std]\nfn f() {}\n
+a.yaml:cloud-config:#cloud-config\nusers: []\n
+Dockerfile:directive:# syntax=docker/dockerfile:1\nFROM x\n
+END
+  while IFS=: read -r name word text; do
+    files "$name" "$text" b.py 'x\n'
+    notes annotate -l MIT -r . : '2 files changed; .*' "$(breaks "${name/./\\.} \\($word\\)")"
+    notes annotate -n -l MIT "$name" : "$(breaks "${name/./\\.} \\($word\\)")"
+    # A file that has a header is broken no more, nor one whose neighbour is written
+    "$program" --root "$tree" annotate -l MIT "$name" > /dev/null
+    notes annotate "${jo[@]}" "$name" : "$changed"
+    notes annotate --no-replace "${jo[@]}" "$name" : "$changed"
+    notes annotate -l MIT "$name" :
+    files "$name" "$text"
+    notes annotate --force-dot-license -l MIT "$name" : "$changed"
+    "$program" --root "$tree" annotate --force-dot-license -l MIT "$name" > /dev/null
+    notes annotate "${jo[@]}" "$name" : "$changed"
+  done < "$line"
+  # Of several files the first is named, beside a refusal too; a call that is refused tells of none
+  files a.md '---\n---\n' b.py 'x\n' c.md '---\n---\n' d.css '@charset "utf-8";\n'
+  word="$(breaks '3 files: a\.md \(front matter\) and 2 more')"
+  notes annotate -l MIT -r . : '4 files changed; .*' "$word"
+  notes annotate -n --json -l MIT -r . : "$word"
+  touch "$tree/e.xyz"
+  notes annotate -n -l MIT -r . : 'no comment style is known .*' "$word"
+  notes annotate -l MIT -r . : 'no comment style is known .*'
+  # A style of the tree's own keeps the lines in front
+  files .reuse/styles.toml 'version = 1\n[styles]\n".md" = "markdown"\nDockerfile = "docker"\n' \
+    a.md '---\n---\n' Dockerfile '# syntax=docker/dockerfile:1\n' b.css '@charset "utf-8";\n'
+  cp "$(dirname "$0")/../share/comments.toml" "$tree/.reuse/"
+  notes annotate -l MIT -r . : '3 files changed; .*' "$(breaks 'b\.css \(charset\)')"
+  notes annotate -l MIT a.md Dockerfile : '2 files changed; .*'
+}
+
 dep5() {
   files .reuse/dep5 'Format: x\n\nFiles: *\nLicense: MIT\n'
   notes convert-dep5 : 'the fields Files, Copyright and License are asked for .*'
@@ -425,7 +470,7 @@ progress() {
     fail 'progress without a terminal'
 }
 
-for group in words changes refusals once choices dep5 journal faults above names progress; do
+for group in words changes refusals once choices harms dep5 journal faults above names progress; do
   $group
 done
 echo "$notes notes are as stated, with -v and at a terminal, and names show no control byte there"

@@ -1,6 +1,7 @@
 //! Notes: what a fault is about, what can be done about it, and what a call has done. They go to
 //! standard error, and no status depends on them. `report` alone calls it. Tested by
 //! `tests/notes.sh`.
+use crate::print::counted::note_counted;
 use crate::run::access_refusal::AccessRefusal;
 use crate::run::damage::MissingHead;
 use crate::run::diagnostics::{Diagnostics, RequestKind, unrecognised_among};
@@ -231,25 +232,6 @@ fn note_unrecognised(rt: &impl Eprint, count: usize, passed_over: bool) {
     };
 }
 
-/// Prints which globs left nothing out, and how many listed paths are no covered file beneath a
-/// PATH.
-fn note_unused(rt: &impl Eprint, diagnostics: &Diagnostics) {
-    for glob in diagnostics.idle_globs.as_slice() {
-        let _ = eprintln!(rt; "reuse-undo: note: --exclude {glob} left no file out");
-    }
-    let _ = match diagnostics.counts.unused.names {
-        0 => Ok(()),
-        1 => {
-            eprintln!(rt; "reuse-undo: note: 1 path of the list is no covered file beneath a PATH")
-        }
-        count => {
-            eprintln!(rt;
-                "reuse-undo: note: {count} paths of the list are no covered files beneath a PATH"
-            )
-        }
-    };
-}
-
 /// Prints what the refusals among path outcomes are about, each advice once.
 fn note_path_outcomes(rt: &impl Eprint, diagnostics: &Diagnostics, path_outcomes: &[PathOutcome]) {
     let mut last = None;
@@ -379,7 +361,7 @@ pub fn note_call(rt: &impl Eprint, diagnostics: &Diagnostics, outcome: &Result<u
     }
     note_unrecognised(rt, diagnostics.unrecognised, outcome.is_ok());
     if let Ok(_) | Err(Fault::WouldRefuse(_)) = outcome {
-        note_unused(rt, diagnostics);
+        note_counted(rt, diagnostics);
     }
     if diagnostics.is_table_empty && outcome.is_ok() {
         note(
