@@ -198,10 +198,10 @@ habits() {
   tool 0 '' annotate -l MIT a.adoc a.f90
   program 1 'a.adoc: unrecognised' annotate -l MIT a.adoc
   mkdir "$ours/.reuse"
-  cp "$(dirname "$0")/../share/styles.toml" "$ours/.reuse"
+  cp "$(dirname "$0")"/../share/{styles,comments}.toml "$ours/.reuse"
   program 0 '' annotate -l MIT a.adoc
   both_have a.adoc "// SPDX-License-Identifier: MIT\n\nx\n"
-  program 1 'a.f90: unrecognised' annotate -l MIT a.f90
+  program 0 '' annotate -l MIT a.f90
 
   row 'comments of `.el` and `.scala`' a.el 'x\n' a.scala 'x\n'
   both annotate -l MIT a.el a.scala

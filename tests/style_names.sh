@@ -28,7 +28,9 @@ LEFT
 # since it looks for what stands from the last dot on, which is .cfg.
 different() {
   cat << DIFFERENT
-;|;;|.el .lisp .scm .clj .cljc .cljs .rkt .cl .l .lsp
+;|;;|.el .lisp .scm .clj .cljc .cljs .rkt .lsp
+;|//|.cl
+;|/*|.l
 /*|//|.less .sass .scss
 #|//|.scala
 x|#|.nim.cfg
@@ -70,8 +72,7 @@ known_by_reuse > "$room/names"
 (($(wc -l < "$room/names") >= 240)) || fail 'reuse knows fewer names than it did'
 mkdir -p "$theirs" "$ours/.reuse"
 git -C "$theirs" init -q
-sed 's/^#"/"/' "$top/share/styles.toml" > "$ours/.reuse/styles.toml"
-cp "$top/share/comments.toml" "$ours/.reuse/"
+cp "$top/share/styles.toml" "$top/share/comments.toml" "$ours/.reuse/"
 number=0
 while read -r name word file; do
   number=$((number + 1))

@@ -11,16 +11,17 @@ top=$(realpath "$(dirname "$0")/..")
 plain=$room/plain
 tree=$room/tree
 
-# The names: those of the sources, those of the table for everybody, and those behind its `#`
+# The names: those of the sources, and of the ready names those of a style of the program, and those
+# of a ready comment
 known() { sed -nE 's/^    \(b"([^"]+)", TableKind::.*/\1/p' "$top/crates/reuse_style/src/table.rt"; }
-own() { sed -nE 's/^"([^"]+)" *= *"[a-z]+".*/\1/p' "$top/share/styles.toml"; }
-more() { sed -nE 's/^#"([^"]+)" *= *"[a-z0-9]+".*/\1/p' "$top/share/styles.toml"; }
+comments() { sed -nE 's/^\[comments\.(.*)\]$/\1/p' "$top/share/comments.toml" | paste -sd '|'; }
+own() { grep -vE "^\".*\" = \"($(comments))\"$" "$top/share/styles.toml" | sed -nE 's/^"([^"]+)" = .*/\1/p'; }
+more() { sed -nE "s/^\"([^\"]+)\" = \"($(comments))\"$/\1/p" "$top/share/styles.toml"; }
 
 # Gives a tree both ready files.
 make_ready() {
   mkdir -p "$1/.reuse"
-  sed 's/^#"/"/' "$top/share/styles.toml" > "$1/.reuse/styles.toml"
-  cp "$top/share/comments.toml" "$1/.reuse/"
+  cp "$top/share/styles.toml" "$top/share/comments.toml" "$1/.reuse/"
 }
 
 # Puts a file of each name from standard input into a folder of its own, so that names that differ

@@ -104,6 +104,10 @@ _reuse_undo() {
           --remove-contributor --until --copyright-prefix --holder --style --recursive --files-from --exclude
           --exit-non-zero-on-change --dry-run --check --diff --json $every --help"
         ;;
+      styles)
+        _reuse_undo_of "--add --all --comments --files-from --exclude --exit-non-zero-on-change --dry-run --check
+          --diff --json $every --help"
+        ;;
       download) _reuse_undo_of "--texts --dry-run --check --diff --json $every --help" ;;
       convert-dep5) _reuse_undo_of "--exit-non-zero-on-change --dry-run --check --diff --json $every --help" ;;
       undo | redo) _reuse_undo_of "--dry-run --check --diff --json $every --help" ;;
@@ -117,11 +121,11 @@ _reuse_undo() {
     return
   fi
   case $subcommand in
-    '') _reuse_undo_of 'annotate amend convert-dep5 download undo redo revert recover forget log show help' ;;
-    help) _reuse_undo_of 'annotate amend convert-dep5 download undo redo revert recover forget log show' ;;
+    '') _reuse_undo_of 'annotate amend styles convert-dep5 download undo redo revert recover forget log show help' ;;
+    help) _reuse_undo_of 'annotate amend styles convert-dep5 download undo redo revert recover forget log show' ;;
     revert) _reuse_undo_steps done ;;
     show | forget) _reuse_undo_steps ;;
-    annotate | amend) _reuse_undo_paths "$root" ;;
+    annotate | amend | styles) _reuse_undo_paths "$root" ;;
     download)
       while IFS= read -r id; do
         COMPREPLY+=("${id%.txt}")

@@ -80,6 +80,8 @@ complete -c reuse-undo -n '__reuse_undo_subcommand_is ""' -a annotate \
     -d 'Add copyright and licensing information to files'
 complete -c reuse-undo -n '__reuse_undo_subcommand_is ""' -a amend \
     -d 'Change the copyright and licensing information that files have'
+complete -c reuse-undo -n '__reuse_undo_subcommand_is ""' -a styles \
+    -d 'List the names that have no comment style, and add ready ones'
 complete -c reuse-undo -n '__reuse_undo_subcommand_is ""' -a convert-dep5 \
     -d 'Put a REUSE.toml in the place of .reuse/dep5'
 complete -c reuse-undo -n '__reuse_undo_subcommand_is ""' -a download -d 'Copy licence texts into LICENSES'
@@ -93,7 +95,7 @@ complete -c reuse-undo -n '__reuse_undo_subcommand_is ""' -a log -d 'List the st
 complete -c reuse-undo -n '__reuse_undo_subcommand_is ""' -a show -d 'Tell what a step changed'
 complete -c reuse-undo -n '__reuse_undo_subcommand_is ""' -a help -d 'Print help'
 complete -c reuse-undo -n '__reuse_undo_subcommand_is help' \
-    -a 'annotate amend convert-dep5 download undo redo revert recover forget log show'
+    -a 'annotate amend styles convert-dep5 download undo redo revert recover forget log show'
 
 set -l annotate -c reuse-undo -n '__reuse_undo_subcommand_is annotate'
 set -l prefixes 'spdx spdx-c spdx-symbol spdx-string spdx-string-c spdx-string-symbol'
@@ -137,11 +139,19 @@ complete $amend -l files-from -r -F -d 'Of the files beneath folders those that 
 complete $amend -l exclude -x -d 'Of the files beneath folders none that a glob matches'
 complete $amend -a '(__reuse_undo_paths)'
 
+set -l styles -c reuse-undo -n '__reuse_undo_subcommand_is styles'
+complete $styles -l add -d 'Add ready styles for the names'
+complete $styles -l all -d 'Print all ready styles'
+complete $styles -l comments -d 'With --all, print all ready comments'
+complete $styles -l files-from -r -F -d 'Of the files beneath folders those that a file lists'
+complete $styles -l exclude -x -d 'Of the files beneath folders none that a glob matches'
+complete $styles -a '(__reuse_undo_paths)'
+
 complete -c reuse-undo -n '__reuse_undo_subcommand_is download' -l texts -x -a '(__fish_complete_directories)' \
     -d 'The folder of the licence texts'
 complete -c reuse-undo -n '__reuse_undo_subcommand_is download' -a '(__reuse_undo_ids)'
 
-for word in annotate amend convert-dep5 download undo redo revert
+for word in annotate amend styles convert-dep5 download undo redo revert
     complete -c reuse-undo -n "__reuse_undo_subcommand_is $word" -s n -l dry-run \
         -d 'Print what would change, and make no step'
     complete -c reuse-undo -n "__reuse_undo_subcommand_is $word" -l check \
@@ -151,7 +161,7 @@ for word in annotate amend convert-dep5 download undo redo revert
     complete -c reuse-undo -n "__reuse_undo_subcommand_is $word" -l json \
         -d 'With --dry-run or --check, print JSON objects'
 end
-for word in annotate amend convert-dep5
+for word in annotate amend styles convert-dep5
     complete -c reuse-undo -n "__reuse_undo_subcommand_is $word" -l exit-non-zero-on-change \
         -d 'Exit with status 1 if a file changes'
 end

@@ -1,5 +1,5 @@
 //! The comment styles that a project says itself (`.reuse/comments.toml`).
-ghost use Rattle.std.specs.Prelude.{◌≡◌, [], None, Ok, Some, IfOk, IfErr, IsOk, map, find};
+ghost use Rattle.std.specs.Prelude.{◌≡◌, [], None, Ok, Some, IfOk, IfErr, IsOk, map, find, is_some};
 ghost use Rattle.std.specs.List.{list_all, filter_map};
 ghost use Rattle.std.specs.Option.{option_copied};
 ghost use Rattle.std.specs.Str.{bytes_eq};
@@ -56,21 +56,28 @@ impl CommentTable {
         Ok(CommentTable { styles })
     }
 
+    /// Whether a style has a name.
+    pub fn has(&self, name: &[u8]) -> bool
+        ensures { result ≡ is_some (own_style_named self.now name.now) }
+    {
+        find_named(self.styles.as_slice(), name).is_some()
+    }
+
     /// The style that has a name, if one has.
     pub(crate) fn named(&self, name: &str) -> Option<Style<'_>>
         ensures { result ≡ own_style_named self.now name.now }
     {
-        find_named(self.styles.as_slice(), name)
+        find_named(self.styles.as_slice(), name.as_bytes())
     }
 }
 
 // The first of some styles that has a name.
-fn find_named<'a>(mut styles: &'a [OwnStyle], name: &str) -> Option<Style<'a>>
+fn find_named<'a>(mut styles: &'a [OwnStyle], name: &[u8]) -> Option<Style<'a>>
     ensures { result ≡ find (λ style. bytes_eq (style_name style) name.now) styles.entry.now }
 {
     while let [own, others @ ..] = styles {
         let style = own.lent();
-        if style.name() == name {
+        if style.name().as_bytes() == name {
             return Some(style);
         }
         styles = others;

@@ -37,4 +37,4 @@ pub use search::{find_text, holds};
 pub use style::{Kind, Style};
 pub use style_refusal::StylesRefusal;
 pub use style_table::StyleTable;
-pub use table::{NAMES, STYLES, TableKind, TableStyle, style_names, style_of};
+pub use table::{NAMES, STYLES, TableKind, TableStyle, ending, style_names, style_of};

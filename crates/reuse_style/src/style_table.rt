@@ -93,8 +93,8 @@ impl<'a> StyleTable<'a> {
         }
     }
 
-    // The kind of an own name.
-    fn own_kind(&self, name: &[u8]) -> Option<Kind<'a>>
+    /// The kind that the project's own names give a name.
+    pub fn own_kind(&self, name: &[u8]) -> Option<Kind<'a>>
         ensures { result ≡ lookup self.now name.now }
     {
         let found = self

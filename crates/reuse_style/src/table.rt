@@ -328,8 +328,8 @@ fn same_name(a: &[u8], b: &[u8]) -> bool
     a.eq_ignore_ascii_case(b)
 }
 
-// The part of a name from its last dot on, or all of it where it has none.
-pub(crate) fn ending(name: &[u8]) -> &[u8]
+/// The part of a name from its last dot on, or all of it where it has none.
+pub fn ending(name: &[u8]) -> &[u8]
     ensures { result.now ≡ from_last (λ b. b == dot) name.now }
 {
     match memrchr(b'.', name) {

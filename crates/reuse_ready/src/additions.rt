@@ -1,0 +1,115 @@
+//! What the ready tables add for counted names.
+ghost use Rattle.std.specs.Prelude.{◌≡◌, ◌∷◌, ◌++◌, [], IfOk, OnOk, false, map, filter};
+ghost use Rattle.std.specs.List.{filter_map};
+ghost use Rattle.std.specs.Option.{option_map_or};
+ghost use Rattle.std.specs.Str.{bytes_eq};
+ghost use Rattle.reuse_ready.specs.Needed.{additions_of, name_addition, table_addition, is_needed};
+
+use crate::name_count::NameCount;
+use crate::tables::{ReadyComment, ready_comments};
+use reuse_change::FixedList;
+use reuse_text::Bytes;
+use std::alloc::{AllocError, Global};
+
+/// A name that is to get a style in a file of styles.
+#[derive(Debug, Drop)]
+pub struct NameAddition {
+    /// The name.
+    pub name: Bytes,
+    /// The name of its style, or `uncommentable`.
+    pub style: Bytes,
+}
+
+/// A comment style that is to stand in a file of comments.
+#[derive(Debug, Drop)]
+pub struct TableAddition {
+    /// The name of the style.
+    pub name: Bytes,
+    /// Its table, with a comment above it.
+    pub table: Bytes,
+}
+
+/// What is to be added to a tree's own files, where they lack it.
+#[derive(Debug, Drop)]
+pub struct StyleAdditions {
+    /// For the file of styles.
+    pub names: FixedList<NameAddition>,
+    /// For the file of comments.
+    pub tables: FixedList<TableAddition>,
+}
+
+/// The counted names that have a ready style, and the ready comments that are styles of them.
+#[tactic(auto, unfolding(crate::specs::Needed::additions_of))]
+pub fn additions_of(alloc: Global, rows: &[NameCount]) -> Result<StyleAdditions, AllocError>
+    ensures { IfOk result (λ additions. additions ≡ additions_of rows.now) }
+{
+    let names = names_with_styles(alloc, rows)?;
+    let tables = needed_tables(alloc, ready_comments(), rows)?;
+    Ok(StyleAdditions {
+        names: FixedList::new(names),
+        tables: FixedList::new(tables),
+    })
+}
+
+// The counted names that have a ready style.
+fn names_with_styles(alloc: Global, rows: &[NameCount]) -> Result<Vec<NameAddition>, AllocError>
+    ensures { IfOk result (λ names. names.items ≡ filter_map name_addition rows.now) }
+{
+    let mut names = Vec::new(alloc);
+    for row in rows {
+        push_name(alloc, &mut names, row)?;
+    }
+    Ok(names)
+}
+
+// Adds a counted name, if it has a ready style.
+fn push_name(
+    alloc: Global,
+    names: &mut Vec<NameAddition>,
+    row: &NameCount,
+) -> Result<(), AllocError>
+    ensures { OnOk result (names.new.items ≡ names.old.items ++ filter_map name_addition (row.now ∷ [])) }
+{
+    if let Some(style) = &row.style {
+        let name = row.name.try_clone(alloc)?;
+        let style = style.try_clone(alloc)?;
+        names.push(NameAddition { name, style })?;
+    }
+    Ok(())
+}
+
+// The comments that are styles of counted names.
+fn needed_tables(
+    alloc: Global,
+    comments: &[ReadyComment<'_>],
+    rows: &[NameCount],
+) -> Result<Vec<TableAddition>, AllocError>
+    ensures { IfOk result (λ tables. tables.items ≡ filter (λ addition. is_needed rows.now addition.name)
+        (map table_addition (map (λ comment. (comment.0.now, comment.1.now)) comments.now))) }
+{
+    let mut tables = Vec::new(alloc);
+    for (style, text) in comments {
+        if is_needed(rows, style.as_bytes()) {
+            let name = Bytes::from_slice(alloc, style.as_bytes())?;
+            let table = Bytes::from_slice(alloc, text.as_bytes())?;
+            tables.push(TableAddition { name, table })?;
+        }
+    }
+    Ok(tables)
+}
+
+// Whether a counted name has this style.
+fn is_needed(rows: &[NameCount], style: &[u8]) -> bool
+    ensures { result ≡ is_needed rows.now style.now }
+{
+    rows.iter().any(|row| has_style(row, style))
+}
+
+fn has_style(row: &NameCount, style: &[u8]) -> bool
+    ensures { result ≡ option_map_or (λ own. bytes_eq own style.now) row.now.style false }
+{
+    match &row.style {
+        None => false,
+        Some(own) => own.as_slice() == style,
+    }
+}

@@ -1,0 +1,21 @@
+//! The ready styles of names and the ready comments, the names of some paths with them, and what of
+//! them goes into a tree's own files (`.reuse/styles.toml`, `.reuse/comments.toml`).
+#![tactic(auto)]
+
+mod additions;
+mod comments;
+mod name_count;
+mod other_lines;
+mod own_lines;
+mod table_lines;
+mod tables;
+mod texts;
+
+pub use additions::{NameAddition, StyleAdditions, TableAddition, additions_of};
+pub use comments::READY_COMMENTS;
+pub use name_count::{NameCount, tally};
+pub use other_lines::OTHER_LINES;
+pub use own_lines::{AddedLines, AdditionRefusal, OwnStyles, lines_added};
+pub use table_lines::TABLE_LINES;
+pub use tables::{ReadyComment, ReadyLine, ready_comment, ready_style};
+pub use texts::{ready_comments_text, ready_styles_text};
