@@ -6,6 +6,7 @@ use Rattle.reuse_change.specs.Entry.{IsEntry}
 use Rattle.reuse_json.specs.EntryText.{HavePaths}
 use Rattle.reuse_command.specs.declared.command.Command.{Command}
 use Rattle.reuse_command.specs.declared.command.Command.TheVariants.{Annotate, Amend, ConvertDep5, Download, Revert}
+use Rattle.reuse_command.specs.declared.command.Command.TheVariants.{AddStyles}
 use Rattle.reuse_change.specs.declared.command_name.CommandName.{CommandName}
 use Rattle.reuse_change.specs.declared.command_name.CommandName.TheVariants as names
 use Rattle.reuse_command.specs.declared.command.Place.{Place}
@@ -16,6 +17,7 @@ name_of (Annotate places additions how scope) = names.Annotate
 name_of (Amend places amendments scope) = names.Amend
 name_of ConvertDep5 = names.ConvertDep5
 name_of (Download ids texts) = names.Download
+name_of (AddStyles additions) = names.AddStyles
 name_of (Revert changes touched skip_moved) = names.Revert
 
 -- the changes that a revert takes back are those of an entry

@@ -8,6 +8,7 @@ use reuse_change::{CommandName, FixedList, PathText};
 use reuse_header::{How, NamedStyle};
 use reuse_json::EntryChanges;
 use reuse_notice::Additions;
+use reuse_ready::StyleAdditions;
 use std::alloc::{AllocError, Global};
 
 /// A place of a tree that a command is given.
@@ -107,6 +108,8 @@ pub enum Command {
         ids: Ids,
         texts: LicenceTexts,
     },
+    /// Adds names and comments to the tree's own styles. What the tree has for a name stays.
+    AddStyles(StyleAdditions),
     /// Takes the changes of a step back on whatever the tree is now.
     Revert {
         /// The changes.
@@ -130,6 +133,7 @@ impl Command {
             Command::Amend { .. } => CommandName::Amend,
             Command::ConvertDep5 => CommandName::ConvertDep5,
             Command::Download { .. } => CommandName::Download,
+            Command::AddStyles(_) => CommandName::AddStyles,
             Command::Revert { .. } => CommandName::Revert,
         }
     }

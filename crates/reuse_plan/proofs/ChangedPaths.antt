@@ -1,7 +1,8 @@
 -- Which paths a command changes, and what its edits say of them.
 use Rattle.std.proofs.Common.{◌≡◌, ℕ, cond, not, ◌&&◌, nat_lt, List, [], ◌∷◌, length, map, Option, Some, None, is_some}
 use Rattle.std.proofs.Common.{unwrap_or, Result, Ok, Err, refl, subst, sym, ◌∙◌, ◌≢◌, ◌↔◌, inl, inr, Bool, true, false}
-use Rattle.std.proofs.Common.{◌||◌, ◌++◌, ap, ◌+◌, take, drop, ap₂, bytes_eq}
+use Rattle.std.proofs.Common.{◌||◌, ◌++◌, ap, ◌+◌, take, drop, ap₂, bytes_eq, ◌⊎◌, arith, length-append}
+use Rattle.reuse_text.specs.Text.{is_empty}
 use Rattle.std.specs.List.{AllByRecursion, cons_option, Contains, list_any, All}
 use Rattle.std.specs.FinMap.{get, empty}
 use Rattle.reuse_notice.specs.Sets.{set_of}
@@ -24,7 +25,7 @@ use Rattle.reuse_command.specs.Command.{has_root, HoldsEntry}
 use Rattle.reuse_plan.specs.Conversion.{dep5_path, toml_path, replaced_by, conversion_where, conversion_edits}
 use Rattle.reuse_command.specs.Covered.{is_covered}
 use Rattle.reuse_plan.specs.Downloads.{text_for, ids_refusal, licence_edit, download_edits}
-use Rattle.reuse_plan.specs.Edit.{Edit, made, dropped}
+use Rattle.reuse_plan.specs.Edit.{Edit, made, dropped, appended}
 use Rattle.reuse_plan.specs.Licence.{licence_path, licence_id}
 use Rattle.reuse_change.specs.Listing.{is_folder, is_among}
 use Rattle.reuse_plan.specs.Outcome.{edits_of, with_file, edited, path_edits_of, outcome_of}
@@ -34,6 +35,7 @@ use Rattle.reuse_plan.specs.TreeStyles.{OwnNames, styles_in}
 use Rattle.reuse_plan.specs.Selected.{amended_paths, selected_paths}
 use Rattle.reuse_command.specs.declared.command.Command.{Command}
 use Rattle.reuse_command.specs.declared.command.Command.TheVariants.{Annotate, Amend, ConvertDep5, Download, Revert}
+use Rattle.reuse_command.specs.declared.command.Command.TheVariants.{AddStyles}
 use Rattle.reuse_command.specs.declared.command.Place.TheVariants as place
 use Rattle.reuse_command.specs.declared.command.Scope.{Scope}
 use Rattle.reuse_command.specs.declared.licence.LicenceText.{LicenceText}
@@ -49,7 +51,8 @@ use Rattle.reuse_plan.proofs.RevertPlanning.{backs, edits_are, back_on, path_bac
 use Rattle.reuse_plan.proofs.RevertPlanning.{splice_differs, whole_there}
 use Rattle.reuse_plan.proofs.Results.{err_or, same_Ok, none_from_test}
 use Rattle.reuse_plan.proofs.CommandEdits.{edits_at, edits_by_names, amendments_by_names, stuck_on, of_annotation}
-use Rattle.reuse_plan.proofs.CommandEdits.{of_amendment, of_conversion, of_download, of_revert}
+use Rattle.reuse_plan.proofs.CommandEdits.{of_addition, of_amendment, of_conversion, of_download, of_revert}
+use Rattle.reuse_plan.proofs.StyleAdding.{addition_is, edits_of_lines, IsMadeOfLines, HasLinesBehind}
 use Rattle.std.proofs.lemmas.Bool.{false≢true}
 use Rattle.std.proofs.lemmas.List.{append-nil}
 use Rattle.std.proofs.lemmas.List.Elements.{All-contains, Contains-get_or, recursion_from_All, All-from_recursion}
@@ -83,6 +86,8 @@ module _
     → edit_by path at [] expected ≡ some_edit edit → P edit)
     (gone : (path bytes : List ℕ) → get tree path ≡ Some bytes → P (dropped path bytes))
     (comes : (path bytes : List ℕ) → get tree path ≡ None → P (made path bytes))
+    (behind : (path bytes more : List ℕ) → get tree path ≡ Some bytes → is_empty more ≡ false
+    → P (appended path bytes more))
     (back : (change : Change) (edit : Edit) → Q change → taken_back_on tree change ≡ Some edit → P edit)
   where
     module _ (how : How) (scope : Scope) (additions : Additions) (path : List ℕ) (edit : Edit) where
@@ -152,6 +157,11 @@ module _
         each [] all = tt
         each (p ∷ paths) all = (comes p (unwrap_or (text_for texts (licence_id p)) []) all.0.absent, each paths all.1)
 
+    of_lines : (path lines : List ℕ) (edit : Edit)
+        → IsMadeOfLines tree path lines edit ⊎ HasLinesBehind tree path lines edit → P edit
+    of_lines path lines edit (inl new) = subst P new.it_is (comes path lines new.absent)
+    of_lines path lines edit (inr more) = subst P more.it_is (behind path more.bytes lines more.here more.some)
+
     of_reverted : (touched : List (List ℕ)) (changes : List Change) → AllByRecursion Q changes
         → AllByRecursion P (backs touched tree changes)
     of_reverted touched [] all = tt
@@ -192,6 +202,8 @@ module _
             (edits_at (amended_at amendments scope own tree) (amended_paths scope places tree)) edits e)
     each_edit ConvertDep5 edits wanted h = of_converted edits (sym (of_conversion tree) ∙ h)
     each_edit (Download ids texts) edits wanted h = of_downloaded ids texts edits (sym (of_download ids texts tree) ∙ h)
+    each_edit (AddStyles additions) edits wanted h = edits_of_lines additions tree edits P of_lines
+        (addition_is additions tree edits (sym (of_addition additions tree) ∙ h))
     each_edit (Revert changes touched skip_moved) edits wanted h =
         subst (AllByRecursion P) (edits_are touched tree (cond skip_moved [] (stuck_on touched tree changes))
         (backs touched tree changes) edits (sym (of_revert changes touched skip_moved tree) ∙ h))
@@ -284,6 +296,16 @@ gone_differs tree path bytes here = λ same. let is : Some bytes ≡ None = sym 
 made_differs : (tree : Files) (path bytes : List ℕ) → get tree path ≡ None → Differs tree (made path bytes)
 made_differs tree path bytes free = λ same. none-some bytes (sym free ∙ same)
 
+more_differs : (tree : Files) (path bytes more : List ℕ) → get tree path ≡ Some bytes → is_empty more ≡ false
+    → Differs tree (appended path bytes more)
+more_differs tree path bytes more here some = λ same.
+    let longer = ap (λ (b : List ℕ). length b) (same_Some bytes (bytes ++ more) (sym here ∙ same)) in
+    false≢true (sym some ∙ of_length more (omega (arith, longer, length-append bytes more)))
+  where
+    of_length : (l : List ℕ) → length l ≡ 0 → is_empty l ≡ true
+    of_length [] h = refl
+    of_length (b ∷ l) h = absurd (omega (arith, h))
+
 -- what a change that changes something is taken back to isn't what was there
 back_differs : (change : Change) (file : Option (List ℕ)) (edit : Edit) → IsProper change
     → taken_back change file ≡ Some edit → file ≢ edit.file
@@ -315,13 +337,14 @@ each_differs : (command : Command) (tree : Files) (edits : List Edit) → HoldsE
     → edits_of command tree ≡ Ok edits → AllByRecursion (Differs tree) edits
 each_differs command tree edits holds h =
     each_edit tree (Differs tree) IsProper (differs_there tree) (differs_new tree) (gone_differs tree)
-    (made_differs tree) (back_differs_on tree) command edits (all_proper command holds) h
+    (made_differs tree) (more_differs tree) (back_differs_on tree) command edits (all_proper command holds) h
   where
     all_proper : (command : Command) → HoldsEntry command → EachTakenBack IsProper command
     all_proper (Annotate places additions how scope) holds = tt
     all_proper (Amend places amendments scope) holds = tt
     all_proper ConvertDep5 holds = tt
     all_proper (Download ids texts) holds = tt
+    all_proper (AddStyles additions) holds = tt
     all_proper (Revert changes touched skip_moved) holds = recursion_from_All IsProper changes holds.0.proper
 
 -- ---- the edited tree
@@ -427,6 +450,15 @@ reported_gone tree path bytes here = inr (inl (here, refl, refl))
 reported_made : (tree : Files) (path bytes : List ℕ) → get tree path ≡ None → TakesAndWrites tree (made path bytes)
 reported_made tree path bytes free = inl (free, refl, refl)
 
+reported_more : (tree : Files) (path bytes more : List ℕ) → get tree path ≡ Some bytes → is_empty more ≡ false
+    → TakesAndWrites tree (appended path bytes more)
+reported_more tree path bytes more here some = inr (inr (record {
+  front = bytes;
+  back = [];
+  before = here ∙ ap (λ b. Some b) (sym (append-nil (bytes ++ []) ∙ append-nil bytes));
+  after = ap (λ b. Some b) (sym (append-nil (bytes ++ more)));
+}))
+
 -- ---- by a revert
 
 back_reported : (tree : Files) (change : Change) (file : Option (List ℕ)) (edit : Edit)
@@ -465,7 +497,7 @@ pub edits_reported : (command : Command) (tree : Files) (edits : List Edit) → 
 edits_reported command tree edits h =
     All-from_recursion (TakesAndWrites tree) edits
     (each_edit tree (TakesAndWrites tree) (λ change. Unit {0}) (reported_there tree) (reported_new tree)
-    (reported_gone tree) (reported_made tree) (back_reported_on tree) command edits (nothing command) h)
+    (reported_gone tree) (reported_made tree) (reported_more tree) (back_reported_on tree) command edits (nothing command) h)
   where
     each_nothing : (changes : List Change) → AllByRecursion (λ change. Unit {0}) changes
     each_nothing [] = tt
@@ -476,4 +508,5 @@ edits_reported command tree edits h =
     nothing (Amend places amendments scope) = tt
     nothing ConvertDep5 = tt
     nothing (Download ids texts) = tt
+    nothing (AddStyles additions) = tt
     nothing (Revert changes touched skip_moved) = each_nothing changes

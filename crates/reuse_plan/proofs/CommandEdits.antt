@@ -22,15 +22,18 @@ use Rattle.reuse_plan.specs.Outcome.{Edit, annotation_at, amendment_at, annotati
 use Rattle.reuse_plan.specs.PathEdits.{PathEdit, refused_with, refused_alone, all_or_none, with_edit, or_first}
 use Rattle.reuse_plan.specs.PathEdits.{edits_in}
 use Rattle.reuse_plan.specs.Reverting.{back_or_refused, reverted_at, taken_back_unless}
+use Rattle.reuse_plan.specs.StyleEdits.{style_edits}
 use Rattle.reuse_plan.specs.TreeStyles.{OwnNames, styles_in}
 use Rattle.reuse_plan.specs.Selected.{amended_paths, selected_paths}
 use Rattle.reuse_command.specs.declared.command.Command.TheVariants.{Annotate, Amend, ConvertDep5, Download, Revert}
+use Rattle.reuse_command.specs.declared.command.Command.TheVariants.{AddStyles}
 use Rattle.reuse_command.specs.declared.command.Place.{Place}
 use Rattle.reuse_command.specs.declared.command.Place.TheVariants as place
 use Rattle.reuse_command.specs.declared.command.Scope.{Scope}
 use Rattle.reuse_command.specs.declared.licence.LicenceText.{LicenceText}
 use Rattle.reuse_command.specs.declared.reply.Refusal.{Refusal}
 use Rattle.reuse_command.specs.declared.reply.Refusal.TheVariants.{IsFolder, Moved}
+use Rattle.reuse_ready.specs.declared.additions.StyleAdditions.{StyleAdditions}
 
 -- ---- what is done at the paths
 
@@ -203,3 +206,7 @@ of_revert changes touched skip_moved tree = stuck_or touched tree skip_moved cha
 
 pub of_conversion : (tree : Files) → edits_of ConvertDep5 tree ≡ conversion_edits tree
 of_conversion tree = of_all_or_none (conversion_edits tree)
+
+pub of_addition : (additions : StyleAdditions) (tree : Files)
+    → edits_of (AddStyles additions) tree ≡ style_edits additions tree
+of_addition additions tree = of_all_or_none (style_edits additions tree)

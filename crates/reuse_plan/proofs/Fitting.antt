@@ -37,6 +37,7 @@ use Rattle.reuse_plan.specs.TreeStyles.{OwnNames, styles_in}
 use Rattle.reuse_plan.specs.Selected.{amended_paths, selected_paths}
 use Rattle.reuse_command.specs.declared.command.Command.{Command}
 use Rattle.reuse_command.specs.declared.command.Command.TheVariants.{Annotate, Amend, ConvertDep5, Download, Revert}
+use Rattle.reuse_command.specs.declared.command.Command.TheVariants.{AddStyles}
 use Rattle.reuse_command.specs.declared.command.Place.TheVariants as place
 use Rattle.reuse_command.specs.declared.command.Scope.{Scope}
 use Rattle.reuse_plan.specs.declared.target.Target.{Target}
@@ -60,7 +61,8 @@ use Rattle.reuse_plan.proofs.Outcomes.{some_edit, same_edit, unskipped}
 use Rattle.std.proofs.Math.Seq.{take-append_seam}
 use Rattle.reuse_plan.proofs.Results.{err_or}
 use Rattle.reuse_plan.proofs.CommandEdits.{edits_at, edits_by_names, amendments_by_names, of_annotation, of_amendment}
-use Rattle.reuse_plan.proofs.CommandEdits.{of_conversion, of_download, of_revert}
+use Rattle.reuse_plan.proofs.CommandEdits.{of_addition, of_conversion, of_download, of_revert}
+use Rattle.reuse_plan.proofs.StyleAdding.{addition_fits}
 use Rattle.reuse_plan.proofs.TableLemmas.{IsWorkable, workable_within, table_named}
 
 -- ---- names of neighbours
@@ -430,5 +432,7 @@ command_fits ConvertDep5 tree holds are edits h =
     fit_of tree edits (conversion_fits tree edits (sym (of_conversion tree) ∙ h))
 command_fits (Download ids texts) tree holds are edits h =
     fit_of tree edits (download_fits ids texts tree edits (sym (of_download ids texts tree) ∙ h))
+command_fits (AddStyles additions) tree holds are edits h =
+    fit_of tree edits (addition_fits additions tree edits (sym (of_addition additions tree) ∙ h))
 command_fits (Revert changes touched skip) tree holds are edits h = fit_of tree edits
     (revert_fits touched tree changes skip edits holds.0 holds.1 (sym (of_revert changes touched skip tree) ∙ h))

@@ -35,6 +35,8 @@ pub mod RevertPlanning
 pub mod RevertsByPath
 pub mod ShownLemmas
 pub mod SpliceLemmas
+pub mod StyleAdding
+pub mod StylesAdding
 pub mod TableLemmas
 pub mod TextsPut
 pub mod UnusedLemmas

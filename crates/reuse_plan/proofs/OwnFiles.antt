@@ -1,13 +1,11 @@
 -- The tree's own files of styles and comments: what was read of each, and the first refusal among them.
-use Rattle.std.proofs.Common.{◌≡◌, ◌∙◌, ◌≤◌, ℕ, Bool, true, false, cond, List, length, Option, Some, None, Result, Ok, Err}
-use Rattle.std.proofs.Common.{IfOk, IfErr, refl, sym, ap, subst}
+use Rattle.std.proofs.Common.{◌≡◌, ◌∙◌, ℕ, Bool, true, false, cond, List, length, Option, Some, None, Result, Ok, Err}
+use Rattle.std.proofs.Common.{IfOk, IfErr, refl, ap}
 use Rattle.std.specs.Prelude.{nat_lt}
 use Rattle.reuse_text.specs.declared.TheConstants.{LONGEST_FILE}
 use Rattle.reuse_style.specs.Marks.{GoodStyle}
-use Rattle.reuse_style.specs.Names.{lookup}
-use Rattle.reuse_style.specs.StyleFile.{styles_of, IsRefused}
+use Rattle.reuse_style.specs.StyleFile.{IsRefused}
 use Rattle.reuse_style.specs.CommentFile.{comments_of, IsCommentsRefused}
-use Rattle.reuse_style.specs.declared.style.Kind.{Kind}
 use Rattle.reuse_style.specs.declared.comments_refusal.CommentsRefusal.{CommentsRefusal}
 use Rattle.reuse_style.specs.declared.comments_refusal.CommentsRefusal.TheVariants as comments
 use Rattle.reuse_style.specs.declared.style_refusal.StylesRefusal.{StylesRefusal}
@@ -31,6 +29,19 @@ file_ok path (Some bytes) = by (nat_lt LONGEST_FILE (length bytes))
     by : (b : Bool) → IfOk (of b) (λ f. of b ≡ Ok f)
     by true = tt
     by false = refl
+
+-- what is read of a file that isn't too long is the file
+pub file_given : (path : List ℕ) (file read : Option (List ℕ)) → own_file path file ≡ Ok read → file ≡ read
+file_given path None read e = same None read e
+  where
+    same : (one other : Option (List ℕ)) → ◌≡◌ {A = Result (Option (List ℕ)) Refusal} (Ok one) (Ok other) → one ≡ other
+    same one other h = cc
+file_given path (Some bytes) read e = by (nat_lt LONGEST_FILE (length bytes)) e
+  where
+    by : (b : Bool) → ◌≡◌ {A = Result (Option (List ℕ)) Refusal} (cond b (Err (refusals.TooLong path)) (Ok (Some bytes)))
+        (Ok read) → Some bytes ≡ read
+    by true h = absurd (cc)
+    by false h = cc
 
 pub file_refused : (path : List ℕ) (file : Option (List ℕ))
     → IfErr (own_file path file) (λ r. IsRefusalOf (own_file path file) r)

@@ -18,6 +18,7 @@ pub mod Harmed
 pub mod HeaderFaults
 pub mod Licence
 pub mod Outcome
+pub mod OwnFiles
 pub mod PathEdits
 pub mod PathOutcomes
 pub mod PathPlans
@@ -27,6 +28,8 @@ pub mod Selected
 pub mod Shown
 pub mod Skipped
 pub mod Steps
+pub mod StyleEdits
+pub mod StylesAdded
 pub mod TablePut
 pub mod Tables
 pub mod TextsPut

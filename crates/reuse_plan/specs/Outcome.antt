@@ -18,10 +18,12 @@ use Rattle.reuse_plan.specs.Harmed.{harm_in}
 use Rattle.reuse_plan.specs.PathEdits.{PathEdit, refused_alone, all_or_none, edits_in}
 use Rattle.reuse_plan.specs.Reverting.{reverted_at}
 use Rattle.reuse_plan.specs.Skipped.{is_skipped}
+use Rattle.reuse_plan.specs.StyleEdits.{style_edits}
 use Rattle.reuse_plan.specs.TreeStyles.{OwnNames, styles_in}
 use Rattle.reuse_plan.specs.Selected.{amended_paths, selected_paths}
 use Rattle.reuse_command.specs.declared.command.Command.{Command}
 use Rattle.reuse_command.specs.declared.command.Command.TheVariants.{Annotate, Amend, ConvertDep5, Download, Revert}
+use Rattle.reuse_command.specs.declared.command.Command.TheVariants.{AddStyles}
 use Rattle.reuse_command.specs.declared.command.Place.{Place}
 use Rattle.reuse_command.specs.declared.command.Place.TheVariants as place
 use Rattle.reuse_command.specs.declared.command.Scope.{Scope}
@@ -100,6 +102,7 @@ path_edits_of (Amend places amendments scope) tree =
     amendments_by places amendments scope tree (styles_in tree)
 path_edits_of ConvertDep5 tree = all_or_none (conversion_edits tree)
 path_edits_of (Download ids texts) tree = downloads_at ids texts tree
+path_edits_of (AddStyles additions) tree = all_or_none (style_edits additions tree)
 path_edits_of (Revert changes touched skip_moved) tree = map (reverted_at touched skip_moved tree) changes
 
 -- ---- the outcome

@@ -6,6 +6,7 @@
 //! tree. Sessions call it, and nobody else. The calls are tested by `tests/sessions`.
 #![tactic(auto)]
 
+mod add_styles;
 mod amend;
 mod annotate;
 mod annotation;

@@ -7,6 +7,7 @@ ghost use Rattle.reuse_command.specs.Reading.{get, reading_of, tree_of, IsOfPlan
 ghost use Rattle.reuse_plan.specs.Plan.{IsRefusalOf};
 ghost use Rattle.reuse_command.specs.Refused.{IsNoFault};
 ghost use Rattle.reuse_plan.specs.TreeStyles.{styles_given, styles_in, styles_refusal, comments_refusal, comments_read};
+ghost use Rattle.reuse_plan.specs.OwnFiles.{AreOwnFiles};
 ghost use Rattle.reuse_plan.specs.TreeStyles.{own_file};
 
 use reuse_change::PathText;
@@ -18,18 +19,20 @@ use reuse_store::{Reading, Store};
 use reuse_text::{Bytes, LONGEST_FILE};
 use std::alloc::Global;
 
-/// What a tree states of its own styles: the bytes of its `.reuse/styles.toml`, if it has one, and
-/// the comments of its `.reuse/comments.toml`.
+/// What a tree states of its own styles: the bytes of its `.reuse/styles.toml` and of its
+/// `.reuse/comments.toml`, if it has them, and the comments of the latter.
 #[derive(Drop)]
 pub(crate) struct OwnFiles {
-    styles: Option<Bytes>,
-    comments: CommentTable,
+    pub(crate) styles: Option<Bytes>,
+    pub(crate) comments_file: Option<Bytes>,
+    pub(crate) comments: CommentTable,
 }
 
 /// What the tree that the store has states of its own styles.
 pub(crate) fn read_own_files<S: Store>(alloc: Global, store: &mut S) -> Result<OwnFiles, Refusal>
     ensures files { S.honest store.new
         → IfOk result (λ own. styles_in (tree_of (S.files store.old)) ≡ styles_given own.styles own.comments) }
+    ensures read { S.honest store.new → IfOk result (AreOwnFiles (tree_of (S.files store.old))) }
     ensures refusal { S.honest store.new
         → IfErr result (λ refusal. IsRefusalOf (styles_in (tree_of (S.files store.old))) refusal) }
     ensures asks { ReadsAlone S.Store IsOfPlan store.old store.new result }
@@ -37,9 +40,13 @@ pub(crate) fn read_own_files<S: Store>(alloc: Global, store: &mut S) -> Result<O
     let styles_path = known_path(alloc, ".reuse/styles.toml")?;
     let comments_path = known_path(alloc, ".reuse/comments.toml")?;
     let styles = read_own(alloc, store, styles_path)?;
-    let file = read_own(alloc, store, comments_path)?;
-    let comments = comments_by(alloc, &file)?;
-    Ok(OwnFiles { styles, comments })
+    let comments_file = read_own(alloc, store, comments_path)?;
+    let comments = comments_by(alloc, &comments_file)?;
+    Ok(OwnFiles {
+        styles,
+        comments_file,
+        comments,
+    })
 }
 
 // The bytes of a file, if there is one.
@@ -70,8 +77,8 @@ fn own_file(path: PathText, reading: Reading) -> Result<Option<Bytes>, Refusal>
     }
 }
 
-// The bytes of a file, if there is one, lent.
-fn lent(file: &Option<Bytes>) -> Option<&[u8]>
+/// The bytes of a file, if there is one, lent.
+pub(crate) fn lent(file: &Option<Bytes>) -> Option<&[u8]>
     ensures { option_copied result ≡ file.now }
 {
     match file {

@@ -13,6 +13,7 @@ ghost use Rattle.reuse_command.specs.Covered.{is_covered};
 ghost use Rattle.reuse_plan.specs.Unused.{AreUnusedAt, AreUnusedBy, AreUnusedIf};
 ghost use Rattle.reuse_plan.specs.declared.path_plan.Policy.TheVariants.{Stop};
 
+use crate::add_styles::plan_style_additions;
 use crate::amend::plan_amended;
 use crate::annotate::plan_annotated;
 use crate::annotation::{Amendment, Annotation, FileTask};
@@ -79,6 +80,9 @@ pub(crate) fn plan_command<S: Store>(
         Command::ConvertDep5 => policy.of_changes(alloc, plan_conversion(alloc, store)),
         Command::Download { ids, texts } => {
             plan_download(alloc, store, ids.as_slice(), texts.as_slice(), policy)
+        }
+        Command::AddStyles(additions) => {
+            policy.of_changes(alloc, plan_style_additions(alloc, store, additions))
         }
         Command::Revert {
             changes,

@@ -13,6 +13,7 @@ ghost use Rattle.reuse_notice.specs.declared.adding.Additions.{Additions};
 ghost use Rattle.reuse_amend.specs.declared.amendments.Amendments.{Amendments};
 ghost use Rattle.reuse_notice.specs.Plain.{ArePlain, AreUtf8};
 ghost use Rattle.reuse_change.specs.Files.{Files, AreFiles, Clashes};
+ghost use Rattle.reuse_ready.specs.declared.additions.StyleAdditions.{StyleAdditions};
 ghost use Rattle.reuse_change.specs.Change.{inverse_of};
 ghost use Rattle.reuse_change.specs.declared.change.Change.{Change};
 ghost use Rattle.reuse_text.specs.declared.TheConstants.{LONGEST_FILE};
@@ -41,6 +42,7 @@ ghost use Rattle.reuse_plan.specs.Reverting.{taken_back};
 ghost use Rattle.reuse_journal.specs.Seals.{tree_for, IsAsLeft, IsDistinguished, IsUntouched};
 ghost use Rattle.reuse_session.specs.session.Session.{IsRun, Runs};
 ghost use Rattle.reuse_session.specs.session.Stops.{SimulatesInFiles};
+ghost use Rattle.reuse_plan.specs.StylesAdded.{AddsStyles};
 ghost use Rattle.reuse_plan.specs.TablePut.{PutsTable};
 ghost use Rattle.reuse_plan.specs.TextsPut.{PutsTexts};
 ghost use Rattle.reuse_change.specs.Tree.{changed_paths, undo_folder_of};
@@ -49,7 +51,7 @@ ghost use Rattle.reuse_plan.specs.Selected.{amended_paths, is_chosen, selected_p
 ghost use Rattle.reuse_command.specs.declared.command.Command.{Command};
 ghost use Rattle.reuse_change.specs.Listing.{is_among};
 ghost use Rattle.reuse_command.specs.declared.command.Command.TheVariants.{Amend, Annotate, ConvertDep5, Download};
-ghost use Rattle.reuse_command.specs.declared.command.Command.TheVariants.{Revert};
+ghost use Rattle.reuse_command.specs.declared.command.Command.TheVariants.{AddStyles, Revert};
 ghost use Rattle.reuse_command.specs.declared.command.Place.{Place};
 ghost use Rattle.reuse_command.specs.declared.command.Scope.{Scope};
 ghost use Rattle.reuse_change.specs.declared.direction.Direction.{Direction};
@@ -175,6 +177,16 @@ pub fn conversions_put_a_table()
     ensures made { (tree after : Files) → outcome_of ConvertDep5 tree ≡ Ok after → PutsTable tree after }
     ensures left { (when : ℕ) (old new : State) (reply : Response) → Runs ConvertDep5 when old (Ok reply) new
         → PutsTable old.tree new.tree }
+{}
+
+/// Where an addition of styles isn't refused, the tree's own styles were good and are, and each name
+/// that is added has its style there, unless it had one. What stood in the two files stands in
+/// front there, and every other path holds what it held. A run that isn't refused leaves that.
+pub fn additions_of_styles_keep_what_is_there()
+    ensures made { (additions : StyleAdditions) (tree after : Files) → outcome_of (AddStyles additions) tree ≡ Ok after
+        → AddsStyles additions tree after }
+    ensures left { (additions : StyleAdditions) (when : ℕ) (old new : State) (reply : Response)
+        → Runs (AddStyles additions) when old (Ok reply) new → AddsStyles additions old.tree new.tree }
 {}
 
 /// What an edit of a command reports beside the file that it leaves, and by which an entry has its

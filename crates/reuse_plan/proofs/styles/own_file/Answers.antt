@@ -1,4 +1,4 @@
-use Rattle.std.proofs.Common.{◌∙◌, ℕ, List, Option, Some, None, Result, Ok, Err, cond, length, sym, ap}
+use Rattle.std.proofs.Common.{◌∙◌, ℕ, List, Option, Some, Result, Ok, Err, cond, length, sym, ap}
 use Rattle.std.proofs.lemmas.Bool.{le-ltb}
 use Rattle.reuse_text.specs.declared.TheConstants.{LONGEST_FILE}
 use Rattle.reuse_command.specs.declared.reply.Refusal.{Refusal}

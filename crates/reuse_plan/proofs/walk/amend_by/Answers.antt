@@ -1,5 +1,4 @@
-use Rattle.std.proofs.Common.{Ok, OnOk, sym, ap, subst}
-use Rattle.reuse_style.specs.Names.{lookup}
+use Rattle.std.proofs.Common.{OnOk, sym, ap, subst}
 use Rattle.reuse_change.specs.Files.{tree_of}
 use Rattle.reuse_plan.specs.Outcome.{amendments_by}
 use Rattle.reuse_plan.specs.PathPlans.{AnswersPlans}
