@@ -106,6 +106,9 @@ completes annotate --copyright-prefix '' gives $(help_values copyright-prefix)
 
 completes an gives annotate
 completes am gives amend
+completes st gives styles
+completes styles --a gives --add --all --allow-owner-change
+completes styles --add s gives setup.py source
 completes --ro gives --root
 completes --root ../there und gives undo
 completes help re gives recover redo revert

@@ -104,12 +104,13 @@ changes() {
 
 refusals() {
   local long way_out out
+  local listed='reuse-undo styles lists them, styles --add adds ready ones'
   long=$(printf %0250d 0)
   files "$long" 'x\n'
   notes annotate --force-dot-license -l MIT "$long" \
     : 'the file that would be made has a name of more than 255 bytes, .*--style .*'
   files b.xyz 'x\n' c.xyz 'x\n' a.py 'x\n'
-  out='no comment style is known .*--style .*\.reuse/styles\.toml.*--fallback-dot-license'
+  out='no comment style is known .*styles --add.*--style .*\.reuse/styles\.toml.*--fallback-dot-license'
   notes annotate -l MIT b.xyz : "$out.*--skip-unrecognised"
   notes download --texts "$room/texts" Foo : "the text was sought in $room/texts/Foo\.txt"
   "$program" --root "$tree" annotate -l MIT a.py > /dev/null
@@ -125,20 +126,26 @@ refusals() {
   out="the step couldn't be taken out of any file, and stays done;"
   notes revert --skip-moved 1 : "$out reuse-undo forget takes it out of the history"
   notes annotate -n -l MIT b.xyz c.xyz a.py : 'no comment style is known .*' \
-    "2 files have names that aren't recognised; --dry-run names them"
+    "2 files of 1 name aren't recognised; $listed"
   notes annotate -l MIT b.xyz c.xyz : 'no comment style is known .*' \
-    "2 files have names that aren't recognised; --dry-run names them"
+    "2 files of 1 name aren't recognised; $listed"
   notes annotate --skip-unrecognised -l MIT b.xyz c.xyz : \
-    '2 files passed over, since no comment style is known for the names; --dry-run names them'
+    "2 files passed over, since no comment style is known for the names; $listed"
   notes annotate --skip-unrecognised --skip-existing -l MIT b.xyz c.xyz :
+  files a.mjs 'x\n' .reuse/styles.toml 'version = 1\nstyles = { ".x" = "c" }\n'
+  notes styles :
+  notes styles --add : 'behind the last line of this file no name or table can be added, .*'
+  files a.mjs 'x\n'
+  notes styles --add : '1 file changed; reuse-undo undo takes that back'
+  notes styles --exclude none : '--exclude none left no file out'
   # Of files that change, stay as they are and are passed over, the last alone are counted
   files b.xyz 'x\n' c.xyz 'x\n' a.py 'x\n' d.py 'x\n'
   "$program" --root "$tree" annotate -l MIT a.py > /dev/null
   notes annotate --skip-unrecognised -l MIT -r . : '1 file changed; .*' \
-    '2 files passed over, since no comment style is known for the names; --dry-run names them'
+    "2 files passed over, since no comment style is known for the names; $listed"
   rm "$tree/c.xyz" "$tree/d.py"
   notes annotate --skip-unrecognised -l MIT -r . : \
-    '1 file passed over, since no comment style is known for the names; --dry-run names them'
+    "1 file passed over, since no comment style is known for the names; $listed"
   rm "$tree/b.xyz"
   notes annotate --skip-unrecognised -l MIT -r . :
   notes annotate -l MIT zz :

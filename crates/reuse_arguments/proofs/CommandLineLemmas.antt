@@ -14,6 +14,7 @@ use Rattle.reuse_arguments.specs.Found.{Rows}
 use Rattle.reuse_arguments.specs.LineFaults.{then_read, unread}
 use Rattle.reuse_arguments.specs.Requests.{made_or_seen}
 use Rattle.reuse_arguments.specs.declared.line.ChangeStatus.{ChangeStatus}
+use Rattle.reuse_arguments.specs.declared.line.NamesUse.{NamesUse}
 use Rattle.reuse_arguments.specs.declared.line.OutputFormat.{OutputFormat}
 
 -- the name is another
@@ -21,16 +22,17 @@ other : (name word : List ℕ) → name ≢ word → bytes_eq name word ≡ fals
 other name word h = false_from_ne_true _ (λ is. h ((bytes_eq-Decides name word).0 is))
 
 pub request_else : (name : List ℕ) (found : Rows) (moment : ℕ) (context : ContextView) → name ≢ codes "log" → name ≢ codes "show"
-    → name ≢ codes "forget" → name ≢ codes "recover"
+    → name ≢ codes "forget" → name ≢ codes "recover" → name ≢ codes "styles"
     → request_read name found moment context ≡ then_read (call_read name found context)
     (λ asked. Ok (made_or_seen asked moment (is_dry_run found)))
 unfolding request_read
-request_else name found moment context log show forget recover =
+request_else name found moment context log show forget recover styles =
     rw (
       other name (codes "log") log,
       other name (codes "show") show,
       other name (codes "forget") forget,
       other name (codes "recover") recover,
+      other name (codes "styles") styles,
     ) refl
 
 pub call_else : (name : List ℕ) (found : Rows) (context : ContextView) → name ≢ codes "annotate" → name ≢ codes "amend"
@@ -60,14 +62,16 @@ pub made_of : (asked : Call) (moment : ℕ) (dry wanted : Bool) (request : Reque
 made_of asked moment dry wanted request same is = ap (made_or_seen asked moment) (sym same) ∙ sym is
 
 -- a line of these parts
-abbrev asked_of : List ℕ → Request → Option (List ℕ) → OutputFormat → ChangeStatus → Invocation
-asked_of root request texts format status =
-    record { root = root; request = request; texts = texts; format = format; change_status = status }
+abbrev asked_of : List ℕ → Request → NamesUse → Option (List ℕ) → OutputFormat → ChangeStatus → Invocation
+asked_of root request names texts format status =
+    record { root = root; request = request; names = names; texts = texts; format = format; change_status = status }
 
-pub asked_same : (root : List ℕ) (request : Request) (texts : Option (List ℕ)) (found : Rows) (format : OutputFormat)
-    (status : ChangeStatus) → format ≡ format_of found → status ≡ change_status_of found
-    → asked_of root request texts (format_of found) (change_status_of found)
-    ≡ asked_of root request texts format status
-asked_same root request texts found format status a b =
-    ap (λ f. asked_of root request texts f (change_status_of found)) (sym a)
-    ∙ ap (asked_of root request texts format) (sym b)
+pub asked_same : (root : List ℕ) (request : Request) (wanted names : NamesUse) (texts : Option (List ℕ)) (found : Rows)
+    (format : OutputFormat) (status : ChangeStatus) → names ≡ wanted → format ≡ format_of found
+    → status ≡ change_status_of found
+    → asked_of root request wanted texts (format_of found) (change_status_of found)
+    ≡ asked_of root request names texts format status
+asked_same root request wanted names texts found format status u a b =
+    ap (λ n. asked_of root request n texts (format_of found) (change_status_of found)) (sym u)
+    ∙ ap (λ f. asked_of root request names texts f (change_status_of found)) (sym a)
+    ∙ ap (asked_of root request names texts format) (sym b)

@@ -6,4 +6,5 @@ pub mod FileListLemmas
 pub mod FoundLemmas
 pub mod LineFaultLemmas
 pub mod PartLemmas
+pub mod StyleWordLemmas
 pub mod WordListLemmas

@@ -23,6 +23,7 @@ use Rattle.reuse_arguments.specs.FileWords.{files_from_of, ids_of, root_of, step
 use Rattle.reuse_arguments.specs.Found.{Rows, flag, found_in}
 use Rattle.reuse_arguments.specs.LineFaults.{IsExpectedAs, IsReportedAs, Mistake, then_read, unread}
 use Rattle.reuse_arguments.specs.Requests.{made_or_seen}
+use Rattle.reuse_arguments.specs.StyleWords.{names_use_of, styles_read}
 use Rattle.reuse_arguments.specs.declared.line.Line.{Line}
 use Rattle.reuse_arguments.specs.declared.line.LineFault.{LineFault}
 use Rattle.reuse_arguments.specs.declared.line.LineFault.TheVariants as faults
@@ -45,14 +46,16 @@ call_read name found context =
     then then_read (step_read found) (λ number. Ok (calls.Revert number (flag found (codes "skip-moved"))))
     else Err (unread (codes "a subcommand that nothing reads"))
 
--- the history is looked at, or steps of it are forgotten, or what a stopped run left is rolled back; else the call is
--- made at this moment, or in a dry run it is previewed
+-- the history is looked at, or steps of it are forgotten, or what a stopped run left is rolled back, or an annotation
+-- is previewed that finds names without a style; else the call is made at this moment, or in a dry run it is previewed
 unfoldable pub request_read : List ℕ → Rows → ℕ → ContextView → Result Request Mistake
 request_read name found moment context =
     if bytes_eq name (codes "log") then Ok requests.Log
     else if bytes_eq name (codes "show") then then_read (step_read found) (λ number. Ok (requests.Show number))
     else if bytes_eq name (codes "forget") then then_read (steps_read found) (λ steps. Ok (requests.Forget steps))
     else if bytes_eq name (codes "recover") then Ok (requests.Recover (flag found (codes "skip-moved")))
+    else if bytes_eq name (codes "styles")
+    then then_read (styles_read found context) (λ annotation. Ok (requests.Preview (calls.Run annotation)))
     else then_read (call_read name found context) (λ asked. Ok (made_or_seen asked moment (is_dry_run found)))
 
 -- the licences of a download are copied from this folder
@@ -68,6 +71,7 @@ subcommand_read root name found moment context =
     then_read (texts_read name found) (λ texts. Ok (record {
       root = root;
       request = request;
+      names = names_use_of name found moment;
       texts = texts;
       format = format_of found;
       change_status = change_status_of found;

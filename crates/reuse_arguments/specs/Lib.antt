@@ -15,3 +15,4 @@ pub mod Places
 pub mod PrefixNames
 pub mod RefusalTexts
 pub mod Requests
+pub mod StyleWords

@@ -2,7 +2,7 @@
 use crate::help::{ABOUT, AFTER};
 use crate::options::{Argument, ArgumentKind, BEFORE, Choice, Constraint, Subcommand};
 use crate::prefix_name::prefix_names;
-use crate::subcommands::{HEADERS, HISTORY, STEPS};
+use crate::subcommands::{HEADERS, HISTORY, NAMES, STEPS};
 use clap::builder::ValueParser;
 use clap::{Arg, ArgAction, ArgGroup, Command};
 use reuse_header::style_names;
@@ -38,6 +38,10 @@ fn taking<'a>(arg: Arg<'a>, id: &'static str, kind: ArgumentKind) -> Arg<'a> {
         ArgumentKind::Style => one_of(arg.long(id), style_names()),
         ArgumentKind::Prefix => one_of(arg.long(id), prefix_names()),
         ArgumentKind::Words => arg.num_args(1..).action(ArgAction::Append),
+        ArgumentKind::WordsOr(word) => arg
+            .num_args(1..)
+            .action(ArgAction::Append)
+            .default_value(word),
         ArgumentKind::Number => arg.value_parser(ValueParser::unsigned(0, MOST_NUMBER)),
         ArgumentKind::Numbers => arg
             .num_args(1..)
@@ -130,6 +134,10 @@ fn with_headers<'a>(alloc: Global, command: Command<'a>) -> Result<Command<'a>, 
     with_subcommands(alloc, command, HEADERS)
 }
 
+fn with_names<'a>(alloc: Global, command: Command<'a>) -> Result<Command<'a>, AllocError> {
+    with_subcommands(alloc, command, NAMES)
+}
+
 fn with_steps<'a>(alloc: Global, command: Command<'a>) -> Result<Command<'a>, AllocError> {
     with_subcommands(alloc, command, STEPS)
 }
@@ -151,6 +159,6 @@ pub fn whole<'a>(alloc: Global) -> Result<Command<'a>, AllocError> {
         .after_help(AFTER)
         .subcommand_required(true);
     let command = with_options(alloc, command)?;
-    let command = with_headers(alloc, command)?;
+    let command = with_names(alloc, with_headers(alloc, command)?)?;
     with_history(alloc, with_steps(alloc, command)?)
 }

@@ -55,6 +55,21 @@ files without a contributor:
   reuse-undo amend --until 2026 --holder \"Jane Doe\" --recursive src
   reuse-undo amend --remove-contributor \"Joe Bloggs\" --recursive .";
 
+pub const AFTER_STYLES: &str = "\
+Each text file counts that annotate would refuse as unrecognised: no style is known for its name, and
+it has no neighbour PATH.license. A line is COUNT NAME STYLE: how many files have this name, which is
+the last part of their paths or its ending, and the ready style for it, or `-` where there is none.
+FILE and GLOB are as those of annotate.
+
+With --add the names that have a ready style are written into DIR/.reuse/styles.toml, and the ready
+comments that these styles take into DIR/.reuse/comments.toml. What is there stays.
+
+Examples: which names have no style, ready styles for them, and all ready styles:
+  reuse-undo styles
+  reuse-undo styles --add
+  reuse-undo styles --all > .reuse/styles.toml
+  reuse-undo styles --all --comments > .reuse/comments.toml";
+
 pub const AFTER_DOWNLOAD: &str = "\
 Nothing is fetched from a network: the text of ID is DIR/ID.txt. DIR is relative to the working
 folder.

@@ -19,5 +19,6 @@ mod prefix_name;
 pub mod request;
 pub mod settings;
 mod shared_options;
+mod styles_options;
 mod subcommands;
 pub mod words;

@@ -3,6 +3,7 @@ ghost use Rattle.std.specs.Prelude.{◌≡◌, Some, if◌then◌else◌};
 ghost use Rattle.reuse_arguments.specs.RefusalTexts.{line_fault_text};
 ghost use Rattle.reuse_arguments.specs.declared.line.ChangeStatus.TheVariants as statuses;
 
+use reuse_change::Moment;
 use reuse_command::request::Request;
 use reuse_notice::NoticeRefusal;
 use reuse_shown::shown_name::NameDisplay;
@@ -52,6 +53,23 @@ impl ChangeStatus {
     }
 }
 
+/// What a line does with the names of a tree that have no comment style. These are the names for
+/// which its request, then a preview of an annotation, is refused.
+#[derive(Clone, Copy)]
+pub enum NamesUse {
+    /// Nothing: the answer to the request is printed.
+    Unused,
+    /// They are listed.
+    Listed,
+    /// Ready styles are added for them.
+    Added {
+        /// The moment of that step.
+        when: Moment,
+        /// Whether it is only looked at.
+        dry_run: bool,
+    },
+}
+
 /// A command line that was read.
 #[derive(Drop)]
 pub struct Line {
@@ -59,6 +77,8 @@ pub struct Line {
     pub root: String,
     /// What a session is asked for. The texts of a download are found later.
     pub request: Request,
+    /// What becomes of the names without a style that the request finds.
+    pub names: NamesUse,
     /// The folder of the texts of a download, relative to the working folder.
     pub texts: Option<String>,
     pub format: OutputFormat,
@@ -70,7 +90,7 @@ pub struct Line {
 pub enum LineFault {
     /// A mistake in the words, with the text for the user.
     Usage(String),
-    /// Help or the version was asked for, with the text.
+    /// Help, the version or a ready table was asked for, with the text.
     Help(String),
     /// A word names no place of a tree.
     BadPath(String),

@@ -20,6 +20,8 @@ pub enum ArgumentKind {
     Prefix,
     /// Words without an option, one or more.
     Words,
+    /// Words without an option, and this one where none is given.
+    WordsOr(&'static str),
     /// The number of a step, without an option.
     Number,
     /// The numbers of steps, one or more, without an option.

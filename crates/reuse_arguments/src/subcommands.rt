@@ -2,12 +2,13 @@
 use crate::amend_options::{AMEND, AMEND_CHOICES};
 use crate::help::{
     AFTER_AMEND, AFTER_ANNOTATE, AFTER_CONVERT, AFTER_DOWNLOAD, AFTER_FORGET, AFTER_LOG,
-    AFTER_RECOVER, AFTER_REDO, AFTER_REVERT, AFTER_SHOW, AFTER_UNDO,
+    AFTER_RECOVER, AFTER_REDO, AFTER_REVERT, AFTER_SHOW, AFTER_STYLES, AFTER_UNDO,
 };
 use crate::options::{ANNOTATE, Choice, DOWNLOAD, FORGET, RECOVER, REVERT, SHOW, Subcommand};
 use crate::shared_options::{
     CHECK, DIFF, DRY_RUN, EXIT_NON_ZERO, JSON, LOOK, LOOK_JSON, LOOKS, PRINTED,
 };
+use crate::styles_options::STYLES;
 
 /// The form of the comments, what is done if a style is unknown, and those of each dry run.
 const ANNOTATE_CHOICES: &[Choice] = &[
@@ -34,6 +35,15 @@ pub const HEADERS: &[Subcommand] = &[
         AMEND_CHOICES,
     ),
 ];
+
+/// The subcommand for the names that have no style.
+pub const NAMES: &[Subcommand] = &[Subcommand(
+    "styles",
+    "List the names of files that have no comment style, and add ready ones",
+    AFTER_STYLES,
+    STYLES,
+    LOOKS,
+)];
 
 /// The other subcommands that make steps, and those that take them back and make them again.
 pub const STEPS: &[Subcommand] = &[

@@ -17,6 +17,7 @@ mod command_words;
 mod file_words;
 pub mod finder;
 mod found;
+mod style_words;
 mod unread_words;
 
 use crate::context::Context;
@@ -35,6 +36,7 @@ use reuse_command::command::Command;
 use reuse_command::licence::LicenceTexts;
 use reuse_command::request::{Call, Request};
 use std::alloc::{AllocError, Global};
+use style_words::{names_use_of, read_styles};
 use unread_words::unread;
 
 /// What the words of a command line say.
@@ -201,6 +203,7 @@ fn read_subcommand(
     Ok(Line {
         root,
         request,
+        names: names_use_of(name, matches, moment),
         texts: read_texts_folder(alloc, name, matches)?,
         format: read_format(matches),
         change_status: read_change_status(matches),
@@ -224,6 +227,10 @@ fn read_request(
         "recover" => Ok(Request::Recover {
             skip_moved: flag(matches, "skip-moved"),
         }),
+        "styles" => {
+            let annotation = read_styles(alloc, matches, context)?;
+            Ok(Request::Preview(Call::Run(annotation)))
+        }
         _ => {
             let call = read_call(alloc, name, matches, context)?;
             Ok(made_or_seen(call, moment, is_dry_run(matches)))

@@ -6,7 +6,9 @@
 #![tactic(auto)]
 
 pub mod fault;
+pub mod found_names;
 pub mod lines;
+pub mod names;
 pub mod objects;
 pub mod output;
 mod rows;

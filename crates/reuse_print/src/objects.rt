@@ -48,7 +48,7 @@ pub fn print_shown_object<W: Write>(out: &mut W, alloc: Global, shown: &Shown) -
 }
 
 // Prints a value without floats on a line.
-fn print_value<W: Write>(out: &mut W, alloc: Global, value: &Value) -> io::Result<()>
+pub(crate) fn print_value<W: Write>(out: &mut W, alloc: Global, value: &Value) -> io::Result<()>
     requires { has_float (view value.now) ≡ false }
     ensures { OnOk result (Appends (W.contents out.old) (W.contents out.new) (object_line (view value.now))) }
 {

@@ -3,6 +3,7 @@ pub mod AfterStops
 pub mod Called
 pub mod RunResult
 pub mod Drawn
+pub mod FoundNames
 pub mod LinesInTurn
 pub mod Recoveries
 pub mod RefusalTexts

@@ -6,12 +6,14 @@
 //! `owners.sh`, `nested_runs.sh` and `recover.sh` in `tests/`.
 mod above;
 pub(crate) mod access_refusal;
+mod adding;
 mod answering;
 pub(crate) mod around;
 pub(crate) mod damage;
 pub(crate) mod diagnostics;
 mod line;
 pub(crate) mod locked;
+mod names;
 mod on_folder;
 pub(crate) mod run_result;
 mod texts;

@@ -5,6 +5,7 @@ pub mod CarriedInside
 pub mod DiffLemmas
 pub mod DrawnLemmas
 pub mod DrawnLines
+pub mod FoundInside
 pub mod PreviewedLemmas
 pub mod ModelLemmas
 pub mod RecoveryLemmas

@@ -1,10 +1,10 @@
 //! Notes: what a fault is about, what can be done about it, and what a call has done. They go to
 //! standard error, and no status depends on them. `report` alone calls it. Tested by
 //! `tests/notes.sh`.
-use crate::print::counted::note_counted;
+use crate::print::walk_notes::{note_harms, note_unrecognised, note_unused};
 use crate::run::access_refusal::AccessRefusal;
 use crate::run::damage::MissingHead;
-use crate::run::diagnostics::{Diagnostics, RequestKind, unrecognised_among};
+use crate::run::diagnostics::{Diagnostics, RequestKind};
 use reuse_arguments::line::LineFault;
 use reuse_dep5::{Dep5Cause, Dep5Refusal};
 use reuse_folder::OwnerReport;
@@ -46,9 +46,9 @@ const DEP5: &str = ".reuse/dep5";
 fn advice(refusal: &Refusal, is_begun: bool, diagnostics: &Diagnostics) -> Option<&'static str> {
     match refusal {
         Refusal::Unrecognised(_) => Some(
-            "no comment style is known for this name: name one with --style or in .reuse/styles.toml, \
-            write the information beside the file with --fallback-dot-license, or pass it over with \
-            --skip-unrecognised",
+            "no comment style is known for this name: add a ready one by reuse-undo styles --add, name one with \
+            --style or in .reuse/styles.toml, write the information beside the file with \
+            --fallback-dot-license, or pass it over with --skip-unrecognised",
         ),
         Refusal::Moved(_) if is_begun => Some(pending_advice(diagnostics)),
         Refusal::Moved(_) if diagnostics.is_gone => Some(gone_advice(diagnostics.kind)),
@@ -62,6 +62,10 @@ fn advice(refusal: &Refusal, is_begun: bool, diagnostics: &Diagnostics) -> Optio
         Refusal::NotCovered(path) if path.text() == DEP5 => Some(
             "this file is neither annotated nor amended: convert it first, by reuse-undo convert-dep5, \
             which puts a REUSE.toml in its place",
+        ),
+        Refusal::Amend(path, _) if path.text().starts_with(".reuse/") => Some(
+            "behind the last line of this file no name or table can be added, as behind an inline table: write \
+            the names below a line [styles], or add the lines by hand that reuse-undo styles --all prints",
         ),
         Refusal::Amend(_, fault) => Some(amend_advice(*fault)),
         _ => None,
@@ -212,26 +216,6 @@ fn note_own_files(rt: &impl Eprint, refusal: &Refusal) {
     }
 }
 
-/// Prints how many names aren't recognised, where one is refused for that, or some were passed
-/// over.
-fn note_unrecognised(rt: &impl Eprint, count: usize, passed_over: bool) {
-    let files = if count == 1 { "file" } else { "files" };
-    let _ = match (passed_over, count) {
-        (true, 1..) => {
-            eprintln!(rt;
-                "reuse-undo: note: {count} {files} passed over, since no comment style is known for the names; \
-                --dry-run names them"
-            )
-        }
-        (false, 2..) => {
-            eprintln!(rt;
-                "reuse-undo: note: {count} {files} have names that aren't recognised; --dry-run names them"
-            )
-        }
-        _ => Ok(()),
-    };
-}
-
 /// Prints what the refusals among path outcomes are about, each advice once.
 fn note_path_outcomes(rt: &impl Eprint, diagnostics: &Diagnostics, path_outcomes: &[PathOutcome]) {
     let mut last = None;
@@ -244,7 +228,6 @@ fn note_path_outcomes(rt: &impl Eprint, diagnostics: &Diagnostics, path_outcomes
             last = reported;
         }
     }
-    note_unrecognised(rt, unrecognised_among(path_outcomes), false);
 }
 
 /// Prints how many files a call changed, and how that is taken back.
@@ -361,7 +344,8 @@ pub fn note_call(rt: &impl Eprint, diagnostics: &Diagnostics, outcome: &Result<u
     }
     note_unrecognised(rt, diagnostics.unrecognised, outcome.is_ok());
     if let Ok(_) | Err(Fault::WouldRefuse(_)) = outcome {
-        note_counted(rt, diagnostics);
+        note_unused(rt, diagnostics);
+        note_harms(rt, diagnostics.counts.harms.as_slice());
     }
     if diagnostics.is_table_empty && outcome.is_ok() {
         note(

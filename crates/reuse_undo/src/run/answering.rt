@@ -10,7 +10,7 @@ ghost use Rattle.reuse_session.specs.session.Requests.{Previews, ReadsOnlyWithCa
 
 use crate::run::access_refusal::AccessRefusal;
 use crate::run::line::is_refused;
-use crate::run::on_folder::run_on_folder;
+use crate::run::on_folder::{list_on_folder, run_on_folder};
 use reuse_arguments::line::PrintOptions;
 use reuse_change::PathText;
 use reuse_folder::DiskStore;
@@ -36,6 +36,8 @@ pub struct Asking<'a, R: Clock + Eprint + Drop> {
     pub rt: &'a R,
     pub progress: &'a Progress<R>,
     pub request: &'a Request,
+    /// Whether the names without a style are listed that the request, a preview, finds.
+    pub lists_names: bool,
     pub options: PrintOptions,
 }
 
@@ -100,14 +102,12 @@ fn answer_at_once<
     folder.go_to_handles(asking.rt, alloc);
     let progress = asking.progress;
     let mut out = Output::new(ClearedOutput::new(progress, io::writer(asking.rt)));
-    let (mut folder, outcome, counts) = run_on_folder(
-        folder,
-        progress,
-        alloc,
-        asking.request,
-        asking.options,
-        &mut out,
-    );
+    let (request, options) = (asking.request, asking.options);
+    let (mut folder, outcome, counts) = if asking.lists_names {
+        list_on_folder(folder, progress, alloc, request, options, &mut out)
+    } else {
+        run_on_folder(folder, progress, alloc, request, options, &mut out)
+    };
     folder.come_back(asking.rt, alloc);
     progress.clear();
     (folder, outcome, counts)

@@ -8,6 +8,7 @@ use reuse_change::PathText;
 use reuse_change::layout::HEAD;
 use reuse_folder::{DiskStore, Failure, OwnerReport};
 use reuse_print::fault::Fault;
+use reuse_ready::tally;
 use reuse_session::{
     Call, Command, Counts, Head, PathOutcome, Refusal, Request, Scope, Session, Unknown, Unused,
     decode_head,
@@ -49,7 +50,8 @@ pub enum RequestKind {
 }
 
 impl RequestKind {
-    fn of(request: &Request) -> RequestKind {
+    /// That of a request.
+    pub fn of(request: &Request) -> RequestKind {
         match request {
             Request::Make(Call::Run(Command::ConvertDep5), _) => RequestKind::Conversion,
             Request::Make(Call::Run(_), _) => RequestKind::Step,
@@ -62,6 +64,15 @@ impl RequestKind {
             Request::Preview(_) | Request::Log | Request::Show(_) => RequestKind::Look,
         }
     }
+}
+
+/// Files whose names aren't recognised.
+#[derive(Clone, Copy, Default)]
+pub struct Unrecognised {
+    /// How many there are.
+    pub files: usize,
+    /// How many names they have, as far as that was counted.
+    pub names: usize,
 }
 
 /// What was found out about a call.
@@ -92,9 +103,9 @@ pub struct Diagnostics {
     pub counts: Counts,
     /// The globs that left nothing out, as they are written.
     pub idle_globs: Vec<Bytes>,
-    /// How many files have names that aren't recognised, where the call was refused for one or
-    /// passed them over.
-    pub unrecognised: usize,
+    /// The files whose names aren't recognised, where the call was refused for one or passed them
+    /// over.
+    pub unrecognised: Unrecognised,
     /// The call of the store that failed.
     pub failure: Option<Failure>,
     /// The root, where it was no folder.
@@ -135,7 +146,7 @@ impl Diagnostics {
             is_table_empty: false,
             counts: Counts::none(alloc),
             idle_globs: Vec::new(alloc),
-            unrecognised: 0,
+            unrecognised: Unrecognised::default(),
             failure: None,
             missing_root: missing_root(rt, alloc, root),
             is_by_path: false,
@@ -165,26 +176,33 @@ impl Diagnostics {
         self.unrecognised = self.unrecognised_by(alloc, folder, request, outcome);
     }
 
-    /// Of how many files the names aren't recognised, where the call was refused for one or passed
-    /// them over. A call that was made has counted them. One that was refused stopped at the first,
-    /// so it is looked at once more. An allocation failure or a fault leaves them out.
+    /// The files whose names aren't recognised, where the call was refused for one or passed them
+    /// over, or would be refused. A call that was made has counted them. One that was refused
+    /// stopped at the first, so it is looked at once more. An allocation failure or a fault leaves
+    /// them out.
     fn unrecognised_by<S: Store + Drop>(
         &self,
         alloc: Global,
         folder: S,
         request: &Request,
         outcome: &Result<usize, Fault>,
-    ) -> usize {
-        let Request::Make(Call::Run(command), _) = request else {
-            return 0;
-        };
-        match (command, outcome) {
-            (_, Err(Fault::Refused(Refusal::Unrecognised(_)))) => {
-                unrecognised_names(alloc, folder, command).unwrap_or(0)
+    ) -> Unrecognised {
+        let found = match (request, outcome) {
+            (_, Err(Fault::WouldRefuse(path_outcomes))) => {
+                unrecognised_among(alloc, path_outcomes.as_slice())
             }
-            (Command::Annotate { scope, .. }, Ok(_)) if passes_over(scope) => self.counts.skipped,
-            _ => 0,
-        }
+            (Request::Make(Call::Run(command), _), Err(Fault::Refused(Refusal::Unrecognised(_)))) =>
+                unrecognised_names(alloc, folder, command),
+            (Request::Make(Call::Run(Command::Annotate { scope, .. }), _), Ok(_))
+                if passes_over(scope) => {
+                Some(Unrecognised {
+                    files: self.counts.skipped,
+                    names: 0,
+                })
+            }
+            _ => None,
+        };
+        found.unwrap_or_default()
     }
 
     /// Adds what is found after any request.
@@ -297,26 +315,30 @@ fn passes_over(scope: &Scope) -> bool {
     scope.unknown == Unknown::Skip && !scope.skip_existing
 }
 
-/// Of how many files that the annotation goes through the names aren't recognised.
+/// The files that the command goes through and whose names aren't recognised.
 fn unrecognised_names<S: Store + Drop>(
     alloc: Global,
     folder: S,
     command: &Command,
-) -> Option<usize> {
+) -> Option<Unrecognised> {
     let mut session = Session::open(alloc, folder).ok()?;
     let path_outcomes = session.preview(alloc, command).ok()?;
-    Some(unrecognised_among(path_outcomes.as_slice()))
+    unrecognised_among(alloc, path_outcomes.as_slice())
 }
 
-/// How many of the path outcomes are refusals of names that aren't recognised.
-pub fn unrecognised_among(path_outcomes: &[PathOutcome]) -> usize {
-    path_outcomes
-        .iter()
-        .filter(|path_outcome| matches!(
-            path_outcome,
-            PathOutcome::Refused(Refusal::Unrecognised(_))
-        ))
-        .count()
+/// The files that are refused among the path outcomes, since their names aren't recognised.
+fn unrecognised_among(alloc: Global, path_outcomes: &[PathOutcome]) -> Option<Unrecognised> {
+    let mut paths = Vec::new(alloc);
+    for path_outcome in path_outcomes {
+        if let PathOutcome::Refused(Refusal::Unrecognised(path)) = path_outcome {
+            paths.push(path.try_clone(alloc).ok()?).ok()?;
+        }
+    }
+    let names = tally(alloc, paths.as_slice()).ok()?.len();
+    Some(Unrecognised {
+        files: paths.len(),
+        names,
+    })
 }
 
 fn read<S: Store>(alloc: Global, store: &mut S, path: &str) -> Option<Bytes>

@@ -51,9 +51,9 @@ pub fn run_request<S: Store + Drop, O: Sink>(
     }
 }
 
-// Answers the request. For a recovery no session is opened: none can be while a path of the pending
-// step is stuck.
-fn call<S: Store + Drop>(
+/// Answers the request. For a recovery no session is opened: none can be while a path of the
+/// pending step is stuck.
+pub fn call<S: Store + Drop>(
     alloc: Global,
     store: S,
     request: &Request,

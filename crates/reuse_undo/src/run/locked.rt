@@ -1,17 +1,18 @@
 //! Carries out what was asked for, on the folder that it names and while no other run works there.
 //! It prints the answer on standard output, and finds out what notes report.
 use crate::run::access_refusal::AccessRefusal;
+use crate::run::adding::with_styles;
 use crate::run::answering::{Asking, CallEnding, answer};
-use crate::run::diagnostics::{Diagnostics, pending_step};
+use crate::run::diagnostics::{Diagnostics, RequestKind, pending_step};
 use crate::run::run_result::{RunResult, rolled_back_step};
 use crate::run::texts::find_texts;
-use reuse_arguments::line::{Line, PrintOptions};
+use reuse_arguments::line::{Line, NamesUse, PrintOptions};
 use reuse_arguments::request::{ids_of, with_texts};
 use reuse_arguments::settings::Settings;
 use reuse_folder::DiskStore;
 use reuse_lock::{RootLock, lock_root};
 use reuse_print::fault::Fault;
-use reuse_session::{LicenceTexts, Request};
+use reuse_session::{Counts, LicenceTexts, Refusal, Request};
 use reuse_shown::progress::Progress;
 use reuse_shown::shown_name::NameDisplay;
 use std::alloc::{AllocError, Global};
@@ -132,19 +133,11 @@ fn work_with<R: Files<File = File> + AllocGlobal + Clock + Env + Print + Eprint 
     }
     let pending = step_to_note(alloc, &mut folder, &line.request, run_options);
     let mut diagnostics = found_before(rt, alloc, &line, pending, run_options.notes);
-    let options = PrintOptions {
-        format: line.format,
-        names: run_options.names,
-    };
+    let way = AnswerWay::of(&line, run_options);
     let request = request_of(line, texts);
-    let asking = Asking {
-        rt,
-        progress: &progress,
-        request: &request,
-        options,
-    };
-    let (folder, ending, counts) = answer(folder, alloc, &asking);
+    let (folder, request, ending, counts) = answer_in(rt, &progress, folder, alloc, request, way);
     if let Some(diagnostics) = &mut diagnostics {
+        diagnostics.kind = RequestKind::of(&request);
         diagnostics.counts = counts;
     }
     let rolled_back = rolled_back_step(pending, folder.rolled_back());
@@ -157,11 +150,59 @@ fn work_with<R: Files<File = File> + AllocGlobal + Clock + Env + Print + Eprint 
     }
 }
 
+/// In which way a request is answered.
+#[derive(Clone, Copy)]
+struct AnswerWay {
+    /// What becomes of names without a style.
+    names: NamesUse,
+    options: PrintOptions,
+}
+
+impl AnswerWay {
+    /// That of a line.
+    fn of(line: &Line, run_options: RunOptions) -> AnswerWay {
+        AnswerWay {
+            names: line.names,
+            options: PrintOptions {
+                format: line.format,
+                names: run_options.names,
+            },
+        }
+    }
+}
+
+/// Answers the request. It is given back as it was answered: where ready styles are added, it is to
+/// add those that were found.
+fn answer_in<R: Files<File = File> + AllocGlobal + Clock + Env + Print + Eprint + Clone + Drop>(
+    rt: &R,
+    progress: &Progress<R>,
+    folder: DiskStore<R>,
+    alloc: Global,
+    request: Request,
+    way: AnswerWay,
+) -> (DiskStore<R>, Request, CallEnding, Counts) {
+    let (folder, request, refusal) = with_styles(rt, progress, folder, alloc, request, way.names);
+    if let Some(refusal) = refusal {
+        let ending = Ok(Err(Fault::Refused(refusal)));
+        return (folder, request, ending, Counts::none(alloc));
+    }
+    let asking = Asking {
+        rt,
+        progress,
+        request: &request,
+        lists_names: matches!(way.names, NamesUse::Listed),
+        options: way.options,
+    };
+    let (folder, ending, counts) = answer(folder, alloc, &asking);
+    (folder, request, ending, counts)
+}
+
 /// The request of a line with the texts that were found for it.
 fn request_of(line: Line, texts: LicenceTexts) -> Request {
     let Line {
         root: _,
         request,
+        names: _,
         texts: _,
         format: _,
         change_status: _,

@@ -10,7 +10,8 @@ pub returns-in_err-call-in_default : goal.returns-in_err-call-in_default
 returns-in_err-call-in_default c =
     expected_after _ _ _ _ c.from_residual-in_err-call-in_default.ensures.1
     (mistake_same _ _ _ (request_else _ _ _ _
-    c.in_default.not-log c.in_default.not-show c.in_default.not-forget c.in_default.not-recover)
+    c.in_default.not-log c.in_default.not-show c.in_default.not-forget c.in_default.not-recover
+    c.in_default.not-styles)
     (mistake_first _ _ _ c.in_err-call-in_default.ensures))
 
 pub returns-in-log : goal.returns-in-log
@@ -54,5 +55,20 @@ returns-in-recover c =
 pub returns-in_ok-call-in_default : goal.returns-in_ok-call-in_default
 returns-in_ok-call-in_default c =
     request_else _ _ _ _ c.in_default.not-log c.in_default.not-show c.in_default.not-forget c.in_default.not-recover
+    c.in_default.not-styles
     ∙ read_on _ _ _ c.in_ok-call-in_default.ensures
     ∙ ap (λ request. Ok request) (made_of _ _ _ _ _ c.is_dry_run.ensures c.made_or_seen.ensures)
+
+pub returns-in_err-annotation-in-styles : goal.returns-in_err-annotation-in-styles
+unfolding request_read
+returns-in_err-annotation-in-styles c =
+    expected_after _ _ _ _ c.from_residual-in_err-annotation-in-styles.ensures.1
+    (mistake_same _ _ _
+    (ap (λ name. request_read name (found_in c.args.matches.now) c.args.moment c.args.context.now) c.in-styles.is)
+    (mistake_first _ _ _ c.in_err-annotation-in-styles.ensures))
+
+pub returns-in_ok-annotation-in-styles : goal.returns-in_ok-annotation-in-styles
+unfolding request_read
+returns-in_ok-annotation-in-styles c =
+    ap (λ name. request_read name (found_in c.args.matches.now) c.args.moment c.args.context.now) c.in-styles.is
+    ∙ read_on _ _ _ c.in_ok-annotation-in-styles.ensures

@@ -19,4 +19,4 @@ pub returns : goal.returns
 unfolding subcommand_read
 returns c =
     read_on _ _ _ c.in_ok-request.ensures ∙ read_on _ _ _ c.in_ok-read_texts_folder.ensures
-    ∙ ap (λ asked. Ok asked) (asked_same _ _ _ _ _ _ c.read_format.ensures c.read_change_status.ensures)
+    ∙ ap (λ asked. Ok asked) (asked_same _ _ _ _ _ _ _ _ c.names_use_of.ensures c.read_format.ensures c.read_change_status.ensures)

@@ -28,7 +28,7 @@ pub record IsSameStore {W S : Type 0} (outer : Ghosts W) (inner : Ghosts S) (who
   pub gives_left : (left : Files) → inner.crash_states inside left → outer.crash_states whole left
   pub takes_left : (left : Files) → outer.crash_states whole left → inner.crash_states inside left
 
-reads_inside : {W S : Type 0} (outer : Ghosts W) (inner : Ghosts S) (before after : W) (old new : S)
+pub reads_inside : {W S : Type 0} (outer : Ghosts W) (inner : Ghosts S) (before after : W) (old new : S)
     → IsSameStore outer inner before old → IsSameStore outer inner after new
     → OnlyReads outer before after → OnlyReads inner old new
 reads_inside outer inner before after old new b a reads =

@@ -1,17 +1,35 @@
-//! Notes on what a call counted: what of its choice of files came to nothing, and what the headers
-//! could break that it puts into files. `notes` alone calls it. Tested by `tests/notes.sh`.
-use crate::run::diagnostics::Diagnostics;
+//! Notes on the files that a call goes through: for how many names no style is known, which globs
+//! and listed paths have no file, and what a new header could break. `notes` alone calls it. Tested
+//! by `tests/notes.sh`.
+use crate::run::diagnostics::{Diagnostics, Unrecognised};
 use reuse_session::{Harm, Harmed};
 
-/// Prints what a call counted.
-pub fn note_counted(rt: &impl Eprint, diagnostics: &Diagnostics) {
-    note_unused(rt, diagnostics);
-    note_harms(rt, diagnostics.counts.harms.as_slice());
+/// Prints how many files of how many names aren't recognised, where one is refused for that, or how
+/// many were passed over.
+pub fn note_unrecognised(rt: &impl Eprint, unrecognised: Unrecognised, passed_over: bool) {
+    let Unrecognised { files, names } = unrecognised;
+    let word = if files == 1 { "file" } else { "files" };
+    let name = if names == 1 { "name" } else { "names" };
+    let _ = match (passed_over, files) {
+        (true, 1..) => {
+            eprintln!(rt;
+                "reuse-undo: note: {files} {word} passed over, since no comment style is known for the names; \
+                reuse-undo styles lists them, styles --add adds ready ones"
+            )
+        }
+        (false, 2..) => {
+            eprintln!(rt;
+                "reuse-undo: note: {files} files of {names} {name} aren't recognised; \
+                reuse-undo styles lists them, styles --add adds ready ones"
+            )
+        }
+        _ => Ok(()),
+    };
 }
 
 /// Prints which globs left nothing out, and how many listed paths are no covered file beneath a
 /// PATH.
-fn note_unused(rt: &impl Eprint, diagnostics: &Diagnostics) {
+pub fn note_unused(rt: &impl Eprint, diagnostics: &Diagnostics) {
     for glob in diagnostics.idle_globs.as_slice() {
         let _ = eprintln!(rt; "reuse-undo: note: --exclude {glob} left no file out");
     }
@@ -29,7 +47,7 @@ fn note_unused(rt: &impl Eprint, diagnostics: &Diagnostics) {
 }
 
 /// Prints in which files a header could break something: the first of them, and how many more.
-fn note_harms(rt: &impl Eprint, harms: &[Harmed]) {
+pub fn note_harms(rt: &impl Eprint, harms: &[Harmed]) {
     let Some(first) = harms.first() else {
         return;
     };

@@ -1,0 +1,9 @@
+use Rattle.std.proofs.Common.{arith}
+use Rattle.reuse_print.specs.Names.{name_object}
+use Rattle.reuse_print.proofs.LineLemmas.{Appends-joined}
+use Rattle.reuse_print.proofs.names.print_name_objects.Goals as goal
+
+pub loop-row-preserved : goal.loop-row-preserved
+loop-row-preserved g c =
+    Appends-joined name_object _ _ _ c.args.rows.now c.loop-row.row-index c.row-item.result
+    (omega arith) c.row-item.is c.loop-row.invariant c.in_ok-print_name_object.ensures
