@@ -12,7 +12,8 @@ use Rattle.reuse_plan.specs.Annotated.{pair_at, IsAnnotated, Annotates, IsSkippe
 use Rattle.reuse_command.specs.Command.{has_root}
 use Rattle.reuse_change.specs.Listing.{ArePaths, is_folder}
 use Rattle.reuse_plan.specs.Outcome.{Edit, edited, outcome_of, edits_of, is_too_many, annotation_at, annotations_by}
-use Rattle.reuse_plan.specs.TreeStyles.{OwnNames, styles_in}
+use Rattle.reuse_plan.specs.TreeStyles.{styles_in}
+use Rattle.reuse_style.specs.Kinds.{OwnKinds}
 use Rattle.reuse_plan.specs.Selected.{selected_paths}
 use Rattle.reuse_command.specs.declared.command.Command.TheVariants.{Annotate}
 use Rattle.reuse_command.specs.declared.command.Place.{Place}
@@ -53,7 +54,7 @@ use Rattle.reuse_plan.specs.Skipped.{has_tagged, is_skipped_at, is_skipped_where
 
 module _ (replaces : ReplacesBlock) (inserts : InsertsBlock) (replaces_beside : ReplacesNeighbour)
     (inserts_beside : InsertsNeighbour)
-    (additions : Additions) (how : How) (scope : Scope) (own : OwnNames) (tree : Files) where
+    (additions : Additions) (how : How) (scope : Scope) (own : OwnKinds) (tree : Files) where
   abbrev pub at : List ℕ → Result (Option Edit) Refusal
   at = annotated_at how scope additions own tree
 
@@ -96,7 +97,7 @@ module _ (replaces : ReplacesBlock) (inserts : InsertsBlock) (replaces_beside : 
 module _ (replaces : ReplacesBlock) (inserts : InsertsBlock) (replaces_beside : ReplacesNeighbour)
     (inserts_beside : InsertsNeighbour)
     (places : List Place) (additions : Additions) (how : How) (scope : Scope) (tree : Files) where
-  by_names : (edits : List Edit) (styles : Result OwnNames Refusal) → styles_in tree ≡ styles
+  by_names : (edits : List Edit) (styles : Result OwnKinds Refusal) → styles_in tree ≡ styles
       → edits_by_names places additions how scope tree styles ≡ Ok edits
       → Annotates places additions how scope tree (edited tree edits)
   by_names edits (Err refusal) is h = absurd (cc)
@@ -140,11 +141,11 @@ test_from_root false false through = refl
 test_from_root false true through = absurd (false≢true (through refl))
 
 module _ (places : List Place) (additions : Additions) (how : How) (scope : Scope) (tree : Files) where
-  abbrev edits_named : Result OwnNames Refusal → Result (List Edit) Refusal
+  abbrev edits_named : Result OwnKinds Refusal → Result (List Edit) Refusal
   edits_named styles = edits_by_names places additions how scope tree styles
 
   accepts : ReplacesBlock → InsertsBlock → ReplacesNeighbour → InsertsNeighbour
-      → (edits : List Edit) (styles : Result OwnNames Refusal) → styles_in tree ≡ styles → edits_named styles ≡ Ok edits
+      → (edits : List Edit) (styles : Result OwnKinds Refusal) → styles_in tree ≡ styles → edits_named styles ≡ Ok edits
       → FitsEntry (Annotate places additions how scope) tree
       → CanAnnotate places additions how scope tree
   accepts replaces inserts replaces_beside inserts_beside edits (Err refusal) is h fits = absurd (cc)
@@ -199,7 +200,7 @@ abbrev Reports : Option Edit → Type 0 → Bool → Type 0
 Reports given P true = P × (given ≡ None)
 Reports given P false = P → ⊥
 
-module _ (how : How) (scope : Scope) (additions : Additions) (own : OwnNames) (tree : Files) (path bytes : List ℕ)
+module _ (how : How) (scope : Scope) (additions : Additions) (own : OwnKinds) (tree : Files) (path bytes : List ℕ)
     (given : Option Edit) where
   abbrev ReportsOf : Bool → Type 0
   ReportsOf = Reports given (IsSkipped scope own path bytes (pair_at tree path))
@@ -243,7 +244,7 @@ module _ (how : How) (scope : Scope) (additions : Additions) (own : OwnNames) (t
       (edit_neighbour how scope additions tree path (get tree (neighbour_of path))) given h)
   by_aim (Ok Nowhere) reason h = (inl (reason Nowhere refl), sym (same_Ok None given h))
 
-module _ (how : How) (scope : Scope) (additions : Additions) (own : OwnNames) (tree : Files) (path : List ℕ) where
+module _ (how : How) (scope : Scope) (additions : Additions) (own : OwnKinds) (tree : Files) (path : List ℕ) where
   reported_of : (given : Option Edit) → annotated_at how scope additions own tree path ≡ Ok given
       → (bytes : List ℕ) × (get tree path ≡ Some bytes)
       × Reports given (IsSkipped scope own path bytes (pair_at tree path)) (is_skipped scope own tree path)
@@ -344,7 +345,7 @@ no_limit (Ok edits) reported none c = by_size (is_too_many edits) c
     by_size true c = none refusals.TooMany (in_one (path_outcome.Refused refusals.TooMany) reported c)
     by_size false c = none_in reported c
 
-module _ (places : List Place) (additions : Additions) (how : How) (scope : Scope) (own : OwnNames) (tree : Files)
+module _ (places : List Place) (additions : Additions) (how : How) (scope : Scope) (own : OwnKinds) (tree : Files)
     (styles : styles_in tree ≡ Ok own) where
   abbrev report : List ℕ → PathOutcome
   report path = path_outcome_of (annotation_at how scope additions own tree path)

@@ -30,7 +30,8 @@ use Rattle.reuse_change.specs.Listing.{is_folder, is_among}
 use Rattle.reuse_plan.specs.Outcome.{edits_of, with_file, edited, path_edits_of, outcome_of}
 use Rattle.reuse_plan.specs.Reverting.{taken_back_on, taken_back_unless, stands_as_written, is_short, put_back}
 use Rattle.reuse_plan.specs.Reverting.{taken_back}
-use Rattle.reuse_plan.specs.TreeStyles.{OwnNames, styles_in}
+use Rattle.reuse_plan.specs.TreeStyles.{styles_in}
+use Rattle.reuse_style.specs.Kinds.{OwnKinds}
 use Rattle.reuse_plan.specs.Selected.{amended_paths, selected_paths}
 use Rattle.reuse_command.specs.declared.command.Command.{Command}
 use Rattle.reuse_command.specs.declared.command.Command.TheVariants.{Annotate, Amend, ConvertDep5, Download, Revert}
@@ -107,7 +108,7 @@ module _
           there path path bytes (header.annotation_of style how additions bytes) edit here
           (unskipped (scope.skip_existing && is_some (header_of style bytes)) _ edit e).1
 
-      of_annotated : (own : OwnNames) → annotated_at how scope additions own tree path ≡ some_edit edit → P edit
+      of_annotated : (own : OwnKinds) → annotated_at how scope additions own tree path ≡ some_edit edit → P edit
       of_annotated own e = of_file (get tree path) refl e
         where
           of_file : (file : Option (List ℕ)) → get tree path ≡ file
@@ -167,7 +168,7 @@ module _
     each_edit (Annotate places additions how scope) edits wanted h =
         by_styles (styles_in tree) (sym (of_annotation places additions how scope tree) ∙ h)
       where
-        by_styles : (styles : Result OwnNames Refusal)
+        by_styles : (styles : Result OwnKinds Refusal)
             → edits_by_names places additions how scope tree styles ≡ Ok edits → AllByRecursion P edits
         by_styles (Err refusal) e = absurd (cc)
         by_styles (Ok own) e =
@@ -178,12 +179,12 @@ module _
     each_edit (Amend places amendments scope) edits wanted h =
         by_styles (styles_in tree) (sym (of_amendment places amendments scope tree) ∙ h)
       where
-        of_amended : (own : OwnNames) (path : List ℕ) (edit : Edit)
+        of_amended : (own : OwnKinds) (path : List ℕ) (edit : Edit)
             → amended_at amendments scope own tree path ≡ some_edit edit → P edit
         of_amended own path edit e = let h = amends_there amendments scope own tree path edit e in
             there path h.at h.bytes (Ok h.one) edit h.here h.by
 
-        by_styles : (styles : Result OwnNames Refusal)
+        by_styles : (styles : Result OwnKinds Refusal)
             → amendments_by_names places amendments scope tree styles ≡ Ok edits → AllByRecursion P edits
         by_styles (Err refusal) e = absurd (cc)
         by_styles (Ok own) e =

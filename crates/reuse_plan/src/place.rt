@@ -6,7 +6,7 @@ ghost use Rattle.reuse_command.specs.Covered.{is_covered};
 ghost use Rattle.reuse_plan.specs.Shown.{ShowsPair};
 ghost use Rattle.reuse_change.specs.Clash.{is_clash};
 ghost use Rattle.reuse_header.specs.declared.annotation.How.{How};
-ghost use Rattle.reuse_plan.specs.TreeStyles.{OwnNames};
+ghost use Rattle.reuse_style.specs.Kinds.{OwnKinds};
 ghost use Rattle.reuse_notice.specs.declared.adding.Additions.{Additions};
 ghost use Rattle.reuse_amend.specs.declared.amendments.Amendments.{Amendments};
 ghost use Rattle.reuse_plan.specs.Amend.{amended_at};
@@ -52,10 +52,10 @@ pub(crate) fn absent_refusal(
     paths: &[PathText],
     path: &PathText,
 ) -> Result<Refusal, AllocError>
-    ensures annotated { (how : How) (scope : Scope) (additions : Additions) (own : OwnNames) (tree : Files)
+    ensures annotated { (how : How) (scope : Scope) (additions : Additions) (own : OwnKinds) (tree : Files)
         → ShowsPair paths.now tree path.now → is_among paths.now path.now ≡ false
         → IfOk result (λ refusal. annotated_at how scope additions own tree path.now ≡ Err refusal) }
-    ensures amended { (amendments : Amendments) (scope : Scope) (own : OwnNames) (tree : Files)
+    ensures amended { (amendments : Amendments) (scope : Scope) (own : OwnKinds) (tree : Files)
         → ShowsPair paths.now tree path.now → is_among paths.now path.now ≡ false
         → IfOk result (λ refusal. amended_at amendments scope own tree path.now ≡ Err refusal) }
     ensures no_fault { IfOk result IsNoFault }

@@ -44,7 +44,8 @@ ghost use Rattle.reuse_session.specs.session.Stops.{SimulatesInFiles};
 ghost use Rattle.reuse_plan.specs.TablePut.{PutsTable};
 ghost use Rattle.reuse_plan.specs.TextsPut.{PutsTexts};
 ghost use Rattle.reuse_change.specs.Tree.{changed_paths, undo_folder_of};
-ghost use Rattle.reuse_plan.specs.TreeStyles.{OwnNames, styles_in};
+ghost use Rattle.reuse_plan.specs.TreeStyles.{styles_in};
+ghost use Rattle.reuse_style.specs.Kinds.{OwnKinds};
 ghost use Rattle.reuse_plan.specs.Selected.{amended_paths, is_chosen, selected_paths};
 ghost use Rattle.reuse_command.specs.declared.command.Command.{Command};
 ghost use Rattle.reuse_change.specs.Listing.{is_among};
@@ -300,16 +301,16 @@ pub fn outcome_follows_path_outcomes()
 /// unchanged holds what it held then, and so does its neighbour. `own` are the kinds that the tree
 /// gives to its own names.
 pub fn annotations_follow_path_outcomes()
-    ensures skipped { (places : List Place) (additions : Additions) (how : How) (scope : Scope) (own : OwnNames)
+    ensures skipped { (places : List Place) (additions : Additions) (how : How) (scope : Scope) (own : OwnKinds)
         (tree : Files) (path : List ℕ) → styles_in tree ≡ Ok own
         → Contains (path_outcomes_of (Annotate places additions how scope) tree) (Skipped path)
         → Contains (selected_paths scope places tree) path × IsSkippedAt scope own tree path }
-    ensures reported { (places : List Place) (additions : Additions) (how : How) (scope : Scope) (own : OwnNames)
+    ensures reported { (places : List Place) (additions : Additions) (how : How) (scope : Scope) (own : OwnKinds)
         (tree after : Files) (path : List ℕ) → styles_in tree ≡ Ok own
         → outcome_of (Annotate places additions how scope) tree ≡ Ok after
         → Contains (selected_paths scope places tree) path → IsSkippedAt scope own tree path
         → Contains (path_outcomes_of (Annotate places additions how scope) tree) (Skipped path) }
-    ensures stays { (places : List Place) (additions : Additions) (how : How) (scope : Scope) (own : OwnNames)
+    ensures stays { (places : List Place) (additions : Additions) (how : How) (scope : Scope) (own : OwnKinds)
         (tree after : Files) (path : List ℕ) → styles_in tree ≡ Ok own
         → outcome_of (Annotate places additions how scope) tree ≡ Ok after
         → Contains (path_outcomes_of (Annotate places additions how scope) tree) (Unchanged path)
