@@ -12,9 +12,9 @@ use Rattle.reuse_style.specs.CommentFile.{CommentTexts, NamedComments, StatedCom
 use Rattle.reuse_style.specs.CommentFile.{comments_data, comments_document, texts_of_style, texts_of_data}
 use Rattle.reuse_style.specs.CommentFile.{comments_in_table, comments_of_data, comments_of_document}
 use Rattle.reuse_style.specs.CommentFile.{text_items, with_texts, texts_of_items, texts_of_array, texts_before}
-use Rattle.reuse_style.specs.CommentFile.{take_texts, is_version_alone, states_something, stated_before}
-use Rattle.reuse_style.specs.RuleTexts.{RuleTexts, rules_data, rules_of_data}
-use Rattle.reuse_style.specs.Taken.{with_text, take_text, with_value, value_before, take_value, is_done}
+use Rattle.reuse_style.specs.CommentFile.{take_texts, is_version_alone, states_something}
+use Rattle.reuse_style.specs.RuleTexts.{rules_data, rules_of_data}
+use Rattle.reuse_style.specs.Taken.{with_text, take_text, with_value, take_value, is_done}
 use Rattle.reuse_style.proofs.TextLemmas.{taken, takes, passes, done}
 use Rattle.reuse_style.proofs.TakenLemmas.{begins, taken_value, takes_value, passes_value}
 use Rattle.reuse_style.proofs.RuleDocumentLemmas.{rules_are, rules_of_texts}

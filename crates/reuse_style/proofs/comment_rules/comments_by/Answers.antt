@@ -1,11 +1,9 @@
-use Rattle.std.proofs.Common.{◌≡◌, ◌∙◌, ℕ, List, Bor, map, true, sym, subst, Ok, Err, IfOk}
-use Rattle.std.specs.List.{list_all}
+use Rattle.std.proofs.Common.{◌≡◌, ◌∙◌, ℕ, List, Bor, map, sym, subst, Ok, Err, IfOk}
 use Rattle.std.proofs.lemmas.Result.{IfErr-weaker, err_from_is_err_and}
 use Rattle.reuse_style.specs.declared.comment_texts.CommentTexts.{CommentTexts as LentTexts}
 use Rattle.reuse_style.specs.declared.comments_refusal.CommentsRefusal.{CommentsRefusal}
-use Rattle.reuse_style.specs.CommentFile.{NamedComments, checked_rules, comments_by, is_shaped, IsCommentsRefused}
+use Rattle.reuse_style.specs.CommentFile.{NamedComments, checked_rules, comments_by, IsCommentsRefused}
 use Rattle.reuse_style.specs.CommentViews.{texts_view}
-use Rattle.reuse_style.specs.RuleTexts.{RuleTexts}
 use Rattle.reuse_style.specs.RuleViews.{rule_view}
 use Rattle.reuse_style.proofs.CommentLemmas.{by_answer, by_bad_styles, by_refused, refused_if, shaped_map}
 use Rattle.reuse_style.proofs.comment_rules.comments_by.Goals as goal

@@ -1,11 +1,7 @@
-use Rattle.std.proofs.Common.{◌≡◌, ℕ, List, Bor, Option, map, sym, ap, ap₂, ◌∙◌, subst, IfErr}
-use Rattle.std.specs.Prelude.{Vec, unwrap_or}
-use Rattle.std.specs.declared.alloc.Global.{Global}
+use Rattle.std.proofs.Common.{ℕ, List, Bor, map, ap, ap₂, ◌∙◌, subst, IfErr}
 use Rattle.reuse_style.specs.declared.comment_texts.CommentTexts.{CommentTexts as LentTexts}
-use Rattle.reuse_style.specs.declared.rule_texts.RuleTexts.{RuleTexts as LentRule}
 use Rattle.reuse_style.specs.CommentFile.{NamedComments, comments_by, IsCommentsRefused}
 use Rattle.reuse_style.specs.CommentViews.{texts_view}
-use Rattle.reuse_style.specs.RuleTexts.{RuleTexts}
 use Rattle.reuse_style.specs.RuleViews.{rule_view}
 use Rattle.reuse_style.proofs.CommentLemmas.{seen_or_none}
 use Rattle.reuse_style.proofs.comment_rules.comments_stated.Goals as goal

@@ -1,7 +1,6 @@
 use Rattle.std.proofs.Common.{List, sym, ap, ◌∙◌}
 use Rattle.std.specs.Prelude.{find}
 use Rattle.std.specs.List.{filter}
-use Rattle.std.proofs.lemmas.List.{nil_from_length}
 use Rattle.reuse_style.specs.Passing.{passes}
 use Rattle.reuse_style.specs.Rules.{Rule, may_fit}
 use Rattle.reuse_style.proofs.RuleLemmas.{find_here, find_next}
