@@ -167,6 +167,8 @@ refusals() {
   files a.py 'x\n' .reuse/comments.toml 'version = 1\n[comments.own]\nopen = "<<"\nclose = "<"\n'
   notes annotate -l MIT a.py : \
     'what is wrong with \.reuse/comments\.toml: bad marks of own: the closer stands in the opener'
+  files a.py 'x\n' .reuse/comments.toml 'version = 1\n[[rules]]\nname = "*"\nstyle = "cc"\n'
+  notes annotate -l MIT a.py : 'what is wrong with \.reuse/comments\.toml: bad style of rule 1'
 }
 
 # A call that passes files over has counted them itself: with notes it asks the system for no name
