@@ -277,9 +277,10 @@ other_words() {
   program 0 'changed REUSE.toml' convert-dep5
 }
 
-# The first cells of a document's tables, but for their heads
+# The first cells of a document's tables, but for their heads, and for the table of comment styles,
+# whose names tests/style_names.sh tries
 cells() {
-  sed -nE '/^\|/{s/^\| ([^|]*) \|.*/\1/p}' "$1" |
+  sed '/^## Comment styles/,/^## Habits/d' "$1" | sed -nE '/^\|/{s/^\| ([^|]*) \|.*/\1/p}' |
     grep -vxE -- '-+|the reuse tool|habit|task|.*---.*'
 }
 

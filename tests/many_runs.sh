@@ -139,8 +139,8 @@ rm -rf "$tree/.reuse"
 # words need none.
 exec 9< "$tree"
 flock -x 9
-calls=('annotate -l MIT .' 'amend --until 2026 .' convert-dep5 "download --texts $room MIT" undo
-  redo 'revert 1' recover 'forget 1' log 'show 1')
+calls=('annotate -l MIT .' 'amend --until 2026 .' 'styles --add' convert-dep5
+  "download --texts $room MIT" undo redo 'revert 1' recover 'forget 1' log 'show 1')
 [[ $(help_subcommands | grep -vxc help) == "${#calls[@]}" ]] || fail 'help has other subcommands'
 for call in "${calls[@]}"; do
   found=0
