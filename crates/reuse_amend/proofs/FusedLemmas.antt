@@ -266,7 +266,8 @@ no_ops p n e = by (is_operator p.1) e
     by false e' = (refl, omega (arith, e'))
 
 -- an operator behind pieces that have none and end in a word
-pub fused : (ps : List Word) (z : List ℕ) → WellCut ps → EndsInWord ps → ops ps ≡ 0 → word_len z ≡ length z → 0 < length z
+pub fused : (ps : List Word) (z : List ℕ) → WellCut ps → EndsInWord ps → ops ps ≡ 0 → word_len z ≡ length z
+    → 0 < length z
     → is_operator (word_token z) ≡ true
     → (names (pieces_of (together ps ++ z)) ≡ names ps) × (ops (pieces_of (together ps ++ z)) ≡ 0)
 unfolding names ops

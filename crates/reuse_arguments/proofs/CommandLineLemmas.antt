@@ -21,7 +21,8 @@ use Rattle.reuse_arguments.specs.declared.line.OutputFormat.{OutputFormat}
 other : (name word : List ℕ) → name ≢ word → bytes_eq name word ≡ false
 other name word h = false_from_ne_true _ (λ is. h ((bytes_eq-Decides name word).0 is))
 
-pub request_else : (name : List ℕ) (found : Rows) (moment : ℕ) (context : ContextView) → name ≢ codes "log" → name ≢ codes "show"
+pub request_else : (name : List ℕ) (found : Rows) (moment : ℕ) (context : ContextView) → name ≢ codes "log"
+    → name ≢ codes "show"
     → name ≢ codes "forget" → name ≢ codes "recover" → name ≢ codes "styles"
     → request_read name found moment context ≡ then_read (call_read name found context)
     (λ asked. Ok (made_or_seen asked moment (is_dry_run found)))

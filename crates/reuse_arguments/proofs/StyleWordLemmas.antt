@@ -6,7 +6,8 @@ use Rattle.reuse_arguments.specs.Found.{Rows, flag}
 use Rattle.reuse_arguments.specs.LineFaults.{help, unread}
 use Rattle.reuse_arguments.specs.StyleWords.{annotation_read, is_without_objects, ready_table, styles_read}
 
-pub styles_all : (found : Rows) (context : ContextView) (comments : Bool) (text : List ℕ) → true ≡ flag found (codes "all")
+pub styles_all : (found : Rows) (context : ContextView) (comments : Bool) (text : List ℕ)
+    → true ≡ flag found (codes "all")
     → comments ≡ flag found (codes "comments") → text ≡ ready_table comments
     → styles_read found context ≡ Err (help text)
 unfolding styles_read

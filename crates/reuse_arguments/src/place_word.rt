@@ -1,7 +1,8 @@
 //! The place that a word of the command line names.
 ghost use Rattle.std.specs.Prelude.{◌≡◌, ◌++◌, ◌∷◌, IfOk, OnOk, map, string_bytes, if◌then◌else◌};
 ghost use Rattle.std.specs.Option.{option_map};
-ghost use Rattle.reuse_arguments.specs.Places.{without_end_slash, parts_of, path_along, is_named, place_along, place_at};
+ghost use Rattle.reuse_arguments.specs.Places.{without_end_slash, parts_of, path_along, is_named};
+ghost use Rattle.reuse_arguments.specs.Places.{place_along, place_at};
 ghost use Rattle.reuse_arguments.specs.Places.{place_of_word, walked};
 ghost use Rattle.reuse_system.specs.Names.{between_slashes};
 

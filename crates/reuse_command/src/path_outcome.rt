@@ -5,13 +5,14 @@ ghost use Rattle.reuse_command.specs.Answer.{IsNoFailure};
 
 use crate::reply::Refusal;
 use reuse_change::{FixedList, PathText};
+use reuse_header::Harm;
 use reuse_json::Changes;
 
 /// What a call would do at a path.
 #[derive(Debug, Drop)]
 pub enum PathOutcome {
-    /// The path changes.
-    Changes(PathText),
+    /// The path changes, and what the header could break where that is the file's first.
+    Changes { path: PathText, harm: Option<Harm> },
     /// The file is gone through and stays as it is.
     Unchanged(PathText),
     /// The file is skipped, as that was asked for.

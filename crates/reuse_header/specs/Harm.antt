@@ -1,5 +1,6 @@
--- What a header in front of a file's first line could break (docs/RULES.md, "What a header could break").
-use Rattle.std.specs.Prelude.{ℕ, Bool, ◌&&◌, nat_eq, List, [], ◌∷◌, length, drop, Option, None, Some, is_some, codes}
+-- What a header could break in a file (docs/RULES.md, "What a header could break").
+use Rattle.std.specs.Prelude.{ℕ, Bool, false, ◌&&◌, nat_eq, List, [], ◌∷◌, length, drop, Option, None, Some, is_none}
+use Rattle.std.specs.Prelude.{is_some, codes}
 use Rattle.std.specs.Prelude.{if◌then◌else◌}
 use Rattle.std.specs.List.{starts_with, list_any}
 use Rattle.reuse_text.specs.Text.{file_lines}
@@ -9,7 +10,8 @@ use Rattle.reuse_style.specs.Search.{holds}
 use Rattle.reuse_header.specs.declared.harm.Harm.{Harm}
 use Rattle.reuse_header.specs.declared.harm.Harm.TheVariants.{InnerAttribute, FrontMatter, Directive, ModeLine}
 use Rattle.reuse_header.specs.declared.harm.Harm.TheVariants.{CloudConfig, Charset}
-use Rattle.reuse_header.specs.Body.{PlacedLines, is_whole_line, count_to, body_lines}
+use Rattle.reuse_header.specs.Blocks.{block_at}
+use Rattle.reuse_header.specs.Body.{PlacedLines, is_whole_line, count_to, body_lines, open_contents}
 
 -- whether a text begins with a name and `=` behind it, perhaps with blanks between
 unfoldable pub names_value : List ℕ → List ℕ → Bool
@@ -47,3 +49,14 @@ harm_among (line ∷ lines) body =
 -- what a header that is put behind the prefix lines of a file could break
 abbrev pub harm_of : Style → List ℕ → Option Harm
 harm_of style file = harm_among (file_lines file) (body_lines style (file_lines file))
+
+-- the first of some lines that isn't blank begins no comment
+unfoldable pub begins_with_text : Style → PlacedLines → Bool
+begins_with_text style [] = false
+begins_with_text style (line ∷ lines) =
+    if is_whole_line [] line.1.content then begins_with_text style lines
+    else is_none (block_at style (line.1.content ∷ open_contents lines))
+
+-- text that is no comment stands first behind the prefix lines of a file
+abbrev pub text_stands_first : Style → List ℕ → Bool
+text_stands_first style file = begins_with_text style (body_lines style (file_lines file))

@@ -1,14 +1,19 @@
-//! What a header could break in a file that has none: a line that has to stay the first one.
-ghost use Rattle.std.specs.Prelude.{◌≡◌};
+//! What a header could break in a file: a line that has to stay the first one, or a string that the
+//! header is in.
+ghost use Rattle.std.specs.Prelude.{◌≡◌, ◌<◌, ◌^◌, length};
 ghost use Rattle.reuse_text.specs.Lines.{lines_left};
 ghost use Rattle.reuse_header.specs.Harm.{names_value, is_directive, harm_before_line, harm_before, harm_of};
+ghost use Rattle.reuse_header.specs.Harm.{begins_with_text, text_stands_first};
 
+use crate::blocks::block_at;
+use crate::body::OpenContents;
 use crate::prefix::{is_whole_line, pass_prefix, pass_to};
 use reuse_notice::trim_blank_start;
 use reuse_style::{Style, holds};
 use reuse_text::Lines;
 
-/// Why a line has to be the first one of its file.
+/// What a header could break in its file. But for the last of these it is why a line has to be the
+/// first one.
 #[derive(Clone, Copy, Debug, PartialEq, Eq)]
 pub enum Harm {
     /// It begins `#![`, as an attribute of Rust does. It is taken for an interpreter line, so a
@@ -24,6 +29,9 @@ pub enum Harm {
     CloudConfig,
     /// It gives the encoding of a style sheet.
     Charset,
+    /// Text that is no comment stands above the header block, which may be in a string or in a here
+    /// document.
+    BelowText,
 }
 
 /// What a header could break that is put behind the prefix lines of a file.
@@ -36,6 +44,33 @@ pub fn harm_of(file: &[u8], style: &Style<'_>) -> Option<Harm>
         Some(line) if line.content.starts_with(b"#![") => Some(Harm::InnerAttribute),
         _ => harm_before(pass_prefix(file, style).rest),
     }
+}
+
+/// Whether text that is no comment stands first in a file, behind its prefix lines. A header block
+/// below may be in a string or in a here document.
+pub fn text_stands_first(file: &[u8], style: &Style<'_>) -> bool
+    ensures { result ≡ text_stands_first style.now file.now }
+{
+    begins_with_text(pass_prefix(file, style).rest, style)
+}
+
+// Whether the first of some lines that isn't blank begins no comment.
+#[tactic(auto, using(crate::proofs::HeaderLemmas::open_fits), unfolding(crate::specs::Harm::begins_with_text))]
+fn begins_with_text(lines: Lines, style: &Style<'_>) -> bool
+    requires { length (lines_left lines) < 2 ^ 64 }
+    ensures { result ≡ begins_with_text style.now (lines_left lines.entry) }
+{
+    let mut rest = lines;
+    while let Some(line) = rest.next() {
+        if !is_whole_line(line.content, b"") {
+            let behind = OpenContents {
+                lines: rest,
+                barred: true,
+            };
+            return block_at(style, line.content, behind, 0).block.is_none();
+        }
+    }
+    false
 }
 
 // What a header in front of lines could break.

@@ -12,7 +12,6 @@ use Rattle.reuse_toml.specs.declared.toml_values.AmendTomlRefusal.{AmendTomlRefu
 use Rattle.reuse_toml.specs.TomlAmending.{toml_amendment_of}
 use Rattle.reuse_style.specs.declared.style.Style.{Style}
 use Rattle.reuse_header.specs.Amendment.{amended_file, amendment_of, neighbour_amendment_of}
-use Rattle.reuse_style.specs.Names.{kind_in}
 use Rattle.reuse_header.specs.Neighbour.{is_text}
 use Rattle.reuse_change.specs.Listing.{is_folder}
 use Rattle.reuse_plan.specs.Accepted.{CanNeighbourBeAmended, CanFileBeAmended, CanBeAmended, CanAmend, FitsEntry}
@@ -27,7 +26,8 @@ use Rattle.reuse_command.specs.Command.{has_root}
 use Rattle.reuse_plan.specs.Tables.{is_table}
 use Rattle.reuse_command.specs.Covered.{is_covered}
 use Rattle.reuse_plan.specs.Outcome.{Edit, outcome_of, edits_of}
-use Rattle.reuse_plan.specs.TreeStyles.{OwnNames, styles_in}
+use Rattle.reuse_plan.specs.TreeStyles.{styles_in}
+use Rattle.reuse_style.specs.Kinds.{OwnKinds, kind_of_file}
 use Rattle.reuse_plan.specs.Selected.{amended_paths}
 use Rattle.reuse_command.specs.declared.command.Command.TheVariants.{Amend}
 use Rattle.reuse_command.specs.declared.command.Place.{Place}
@@ -44,6 +44,9 @@ use Rattle.reuse_plan.proofs.Outcomes.{edits_of_tree, done, held, tree_comes}
 use Rattle.reuse_plan.proofs.Results.{err_or}
 use Rattle.reuse_plan.proofs.CommandEdits.{edits_at, amendments_by_names, amendment_edits, of_amendment}
 use Rattle.reuse_plan.proofs.TableLemmas.{not_table}
+use Rattle.reuse_plan.specs.Accepted.{HasNoStyleUnread}
+use Rattle.reuse_plan.specs.Amend.{amend_block, has_no_style_unread}
+use Rattle.reuse_plan.proofs.AmendedFiles.{reason_unread, unread_reason}
 
 not_false : (b : Bool) → not b ≡ false → b ≡ true
 not_false true e = refl
@@ -65,11 +68,11 @@ amendment_accepted path at bytes (Ok (Some edit)) given h = refl
 amendment_accepted path at bytes (Err refusal) given h = absurd (cc)
 
 -- the style of a file is one of these words
-style_is : (scope : Scope) (own : OwnNames) (path : List ℕ) (style : Style) → IsStyleOf scope own path style
-    → style_for scope own path ≡ Some style
-style_is scope own path style (inl asked) = ap (λ o. style_or_named o (kind_in own path)) asked
-style_is scope own path style (inr named) =
-    ap (λ o. style_or_named o (kind_in own path)) named.0 ∙ ap (style_or_named None) named.1
+style_is : (scope : Scope) (own : OwnKinds) (path bytes : List ℕ) (style : Style)
+    → IsStyleOf scope own path bytes style → style_for scope own path bytes ≡ Some style
+style_is scope own path bytes style (inl asked) = ap (λ o. style_or_named o (kind_of_file own path bytes)) asked
+style_is scope own path bytes style (inr named) =
+    ap (λ o. style_or_named o (kind_of_file own path bytes)) named.0 ∙ ap (style_or_named None) named.1
 
 -- a table: what the rules accept is done, and what is done they accept
 table_done : (path bytes : List ℕ) (expected : Result (Option TomlSplice) AmendTomlRefusal)
@@ -84,7 +87,7 @@ table_accepted path bytes (Ok None) given h = refl
 table_accepted path bytes (Ok (Some change)) given h = refl
 table_accepted path bytes (Err refusal) given h = absurd (cc)
 
-module _ (amendments : Amendments) (scope : Scope) (own : OwnNames) (tree : Files) (path : List ℕ) where
+module _ (amendments : Amendments) (scope : Scope) (own : OwnKinds) (tree : Files) (path : List ℕ) where
   -- a table, or another file
   abbrev by_path : List ℕ → Bool → Result (Option Edit) Refusal
   by_path bytes table = cond table (amend_table amendments path bytes) (cond (not (is_covered path))
@@ -99,18 +102,31 @@ module _ (amendments : Amendments) (scope : Scope) (own : OwnNames) (tree : File
       (done_rest _ _ _ (le-ltb LONGEST_FILE (length beside) can.short)
       (amendment_done path (neighbour_of path) beside (neighbour_amendment_of amendments beside) can.accepted))
 
-  inside_done : (bytes : List ℕ) (found : Option Style)
-      → ((style : Style) → found ≡ Some style → CanFileBeAmended amendments style bytes)
-      → IsDone (amend_inside amendments path bytes found)
-  inside_done bytes None can = (None, refl)
-  inside_done bytes (Some style) can =
-      done_rest _ _ _ (le-ltb LONGEST_FILE (length bytes) (can style refl).short) (by_text (is_text bytes) refl)
+  inside_done : (bytes : List ℕ)
+      → (¬ (HasNoStyleUnread scope own path) → CanFileBeAmended amendments scope own path bytes)
+      → IsDone (amend_inside amendments scope own path bytes)
+  inside_done bytes can = by_unread (has_no_style_unread scope own path) refl
     where
-      by_text : (text : Bool) → is_text bytes ≡ text → IsDone (cond (not (is_text bytes)) (done None)
-          (amendment_edit path path bytes (amendment_of style amendments bytes)))
-      by_text false e = done_nothing _ _ (ap not e)
-      by_text true e = done_rest _ _ _ (ap not e)
-          (amendment_done path path bytes (amendment_of style amendments bytes) ((can style refl).accepted e))
+      by_style : CanFileBeAmended amendments scope own path bytes → is_text bytes ≡ true → (found : Option Style)
+          → style_for scope own path bytes ≡ found → IsDone (amend_block amendments path bytes found)
+      by_style it text None of_style = (None, refl)
+      by_style it text (Some style) of_style =
+          amendment_done path path bytes (amendment_of style amendments bytes) (it.accepted text style
+          (style_reason scope own path bytes scope.style (kind_of_file own path bytes) style refl refl of_style))
+
+      by_text : CanFileBeAmended amendments scope own path bytes → (text : Bool) → is_text bytes ≡ text
+          → IsDone (cond (not (is_text bytes)) (done None)
+          (amend_block amendments path bytes (style_for scope own path bytes)))
+      by_text it false e = done_nothing _ _ (ap not e)
+      by_text it true e = done_rest _ _ _ (ap not e) (by_style it e (style_for scope own path bytes) refl)
+
+      by_unread : (none : Bool) → has_no_style_unread scope own path ≡ none
+          → IsDone (amend_inside amendments scope own path bytes)
+      by_unread true e = done_nothing _ _ e
+      by_unread false e =
+          let it = can (λ is. false≢true (sym e ∙ reason_unread scope own path is)) in
+          done_rest _ _ _ e (done_rest _ _ _ (le-ltb LONGEST_FILE (length bytes) it.short)
+          (by_text it (is_text bytes) refl))
 
   table_is_done : CanTableBeAmended amendments tree path → IsDone (amended_at amendments scope own tree path)
   table_is_done can =
@@ -135,8 +151,7 @@ module _ (amendments : Amendments) (scope : Scope) (own : OwnNames) (tree : File
       by_neighbour : (beside : Option (List ℕ)) → get tree (neighbour_of path) ≡ beside
           → IsDone (amend_covered amendments scope own path can.bytes beside)
       by_neighbour (Some beside) is = beside_done beside (can.by_neighbour beside is)
-      by_neighbour None is = inside_done can.bytes (style_for scope own path) (λ style styled. can.by_file is style
-          (style_reason scope own path scope.style (kind_in own path) style refl refl styled))
+      by_neighbour None is = inside_done can.bytes (can.by_file is)
 
   pub amendable_is_done : CanBeAmended amendments scope own tree path
       → IsDone (amended_at amendments scope own tree path)
@@ -168,16 +183,29 @@ module _ (amendments : Amendments) (scope : Scope) (own : OwnNames) (tree : File
             amendment_accepted path (neighbour_of path) beside (neighbour_amendment_of amendments beside) given short.1;
       }
 
-  file_can : (bytes : List ℕ) (style : Style) (given : Option Edit)
-      → amend_inside amendments path bytes (Some style) ≡ Ok given → CanFileBeAmended amendments style bytes
-  file_can bytes style given h =
-      let short = err_or (nat_lt LONGEST_FILE (length bytes)) (refusals.TooLong path) _ given h in
-      record {
-        short = ltb-false LONGEST_FILE (length bytes) short.0;
-        accepted = λ text. amendment_accepted path path bytes (amendment_of style amendments bytes) given
-            (sym (ap (λ b. cond (not b) (done None)
-            (amendment_edit path path bytes (amendment_of style amendments bytes))) text) ∙ short.1);
-      }
+  file_can : (bytes : List ℕ) (given : Option Edit) → amend_inside amendments scope own path bytes ≡ Ok given
+      → ¬ (HasNoStyleUnread scope own path) → CanFileBeAmended amendments scope own path bytes
+  file_can bytes given h read = by_unread (has_no_style_unread scope own path) refl h
+    where
+      block : Option Style → Result (Option Edit) Refusal
+      block found = amend_block amendments path bytes found
+
+      inner : Result (Option Edit) Refusal
+      inner = cond (not (is_text bytes)) (done None) (block (style_for scope own path bytes))
+
+      by_unread : (none : Bool) → has_no_style_unread scope own path ≡ none
+          → cond none (done None) (cond (nat_lt LONGEST_FILE (length bytes)) (Err (refusals.TooLong path)) inner)
+          ≡ Ok given → CanFileBeAmended amendments scope own path bytes
+      by_unread true e f = absurd (read (unread_reason scope own path e))
+      by_unread false e f =
+          let short = err_or (nat_lt LONGEST_FILE (length bytes)) (refusals.TooLong path) inner given f in
+          record {
+            short = ltb-false LONGEST_FILE (length bytes) short.0;
+            accepted = λ text style styled.
+                amendment_accepted path path bytes (amendment_of style amendments bytes) given
+                (sym (ap (λ b. cond (not b) (done None) (block (style_for scope own path bytes))) text
+                ∙ ap block (style_is scope own path bytes style styled)) ∙ short.1);
+          }
 
   pub done_is_amendable : IsDone (amended_at amendments scope own tree path)
       → CanBeAmended amendments scope own tree path
@@ -192,15 +220,14 @@ module _ (amendments : Amendments) (scope : Scope) (own : OwnNames) (tree : File
         covered = covered;
         by_neighbour = λ other too. subst (CanNeighbourBeAmended amendments path) (same_Some there other (sym is ∙ too))
             (neighbour_can there given e);
-        by_file = λ none style styled. absurd (none-some there (sym none ∙ is));
+        by_file = λ none read. absurd (none-some there (sym none ∙ is));
       }
       of_neighbour bytes None here covered is e = record {
         bytes = bytes;
         there = here;
         covered = covered;
         by_neighbour = λ other too. absurd (none-some other (sym is ∙ too));
-        by_file = λ none style styled. file_can bytes style given
-            (sym (ap (amend_inside amendments path bytes) (style_is scope own path style styled)) ∙ e);
+        by_file = λ none read. file_can bytes given e read;
       }
 
       of_path : (bytes : List ℕ) → get tree path ≡ Some bytes → (b : Bool) → is_table path ≡ b
@@ -221,10 +248,10 @@ module _ (amendments : Amendments) (scope : Scope) (own : OwnNames) (tree : File
 -- ---- the tree
 
 module _ (places : List Place) (amendments : Amendments) (scope : Scope) (tree : Files) where
-  abbrev by_names : Result OwnNames Refusal → Result (List Edit) Refusal
+  abbrev by_names : Result OwnKinds Refusal → Result (List Edit) Refusal
   by_names styles = amendments_by_names places amendments scope tree styles
 
-  accepts : KeepsBlock → KeepsNeighbour → (edits : List Edit) (styles : Result OwnNames Refusal)
+  accepts : KeepsBlock → KeepsNeighbour → (edits : List Edit) (styles : Result OwnKinds Refusal)
       → styles_in tree ≡ styles → by_names styles ≡ Ok edits → FitsEntry (Amend places amendments scope) tree
       → CanAmend places amendments scope tree
   accepts keeps_block keeps_neighbour edits (Err refusal) is h fits = absurd (cc)

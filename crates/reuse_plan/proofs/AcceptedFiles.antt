@@ -9,7 +9,6 @@ use Rattle.reuse_text.specs.declared.TheConstants.{LONGEST_FILE}
 use Rattle.reuse_notice.specs.declared.adding.Additions.{Additions}
 use Rattle.reuse_header.specs.Annotation as header
 use Rattle.reuse_header.specs.Header.{header_of}
-use Rattle.reuse_style.specs.Names.{kind_in}
 use Rattle.reuse_header.specs.Neighbour.{is_text, neighbour_annotated, neighbour_annotation_of}
 use Rattle.reuse_header.specs.declared.annotation.How.{How}
 use Rattle.reuse_style.specs.declared.style.Kind.{Kind}
@@ -18,7 +17,7 @@ use Rattle.reuse_style.specs.declared.style.Style.{Style}
 use Rattle.reuse_change.specs.Files.{Files, Clashes}
 use Rattle.reuse_plan.specs.Accepted.{IsUnread, HasRoomForNeighbour, RulesAccept, CanBeAnnotated}
 use Rattle.reuse_plan.specs.Annotate.{neighbour_of, neighbour_is_tagged, goes_to_neighbour, target_of}
-use Rattle.reuse_plan.specs.Annotate.{target_of_unknown, target_by_name, target_by_style, target_by_bytes, edit_by}
+use Rattle.reuse_plan.specs.Annotate.{target_of_unknown, target_by_kind, target_by_style, target_by_bytes, edit_by}
 use Rattle.reuse_plan.specs.Annotate.{edit_inside, edit_neighbour, edit_of_neighbour, edit_target, annotated_where}
 use Rattle.reuse_plan.specs.Annotate.{annotated_at}
 use Rattle.reuse_plan.specs.Annotated.{Pair, pair_at, HasKind, IsSkipped, IsCommented, IsAccompanied, TakesComment}
@@ -27,7 +26,7 @@ use Rattle.reuse_plan.specs.Annotations.{Expected}
 use Rattle.reuse_change.specs.Clash.{is_clash}
 use Rattle.reuse_command.specs.Covered.{is_covered}
 use Rattle.reuse_plan.specs.Edit.{Edit}
-use Rattle.reuse_plan.specs.TreeStyles.{OwnNames}
+use Rattle.reuse_style.specs.Kinds.{OwnKinds, kind_of_file}
 use Rattle.reuse_command.specs.declared.command.Scope.{Scope}
 use Rattle.reuse_command.specs.declared.command.Unknown.{Unknown}
 use Rattle.reuse_command.specs.declared.command.Unknown.TheVariants as unknown
@@ -65,7 +64,7 @@ done_by path at bytes (Ok edit) is = by_test (bytes_eq (header.edited bytes edit
     by_test true it = (None, refl)
     by_test false it = (Some it, refl)
 
-module _ (additions : Additions) (how : How) (scope : Scope) (own : OwnNames) (tree : Files) (path bytes : List ℕ) where
+module _ (additions : Additions) (how : How) (scope : Scope) (own : OwnKinds) (tree : Files) (path bytes : List ℕ) where
   abbrev pair : Pair
   pair = pair_at tree path
 
@@ -80,7 +79,7 @@ module _ (additions : Additions) (how : How) (scope : Scope) (own : OwnNames) (t
   read_short true e target h read = absurd (read (unread scope own tree path bytes e))
   read_short false e target h read =
       ltb-false LONGEST_FILE (length bytes) (err_or (nat_lt LONGEST_FILE (length bytes)) (refusals.TooLong path)
-      (cond (not (is_text bytes)) (aimed InNeighbour) (target_by_style scope own path scope.style)) target h).0
+      (cond (not (is_text bytes)) (aimed InNeighbour) (target_by_style scope own path bytes scope.style)) target h).0
 
   room_here : (given : Option Edit) (file : Option (List ℕ)) → get tree (neighbour_of path) ≡ file
       → edit_neighbour how scope additions tree path file ≡ Ok given
@@ -131,14 +130,14 @@ module _ (additions : Additions) (how : How) (scope : Scope) (own : OwnNames) (t
 
     -- a name without a style isn't refused
     named : (e : goes_to_neighbour scope own tree path ≡ false) → is_text bytes ≡ true
-        → HasKind scope own path kind.Unknown → (scope.unknown ≡ unknown.Refuse) → Accepts bytes → ⊥
+        → HasKind scope own path bytes kind.Unknown → (scope.unknown ≡ unknown.Refuse) → Accepts bytes → ⊥
     named e text nameless refuse (inl (inl skipped)) = let a = sym refuse ∙ skipped.1 in cc
     named e text nameless refuse (inl (inr (skip, inl (style, too, tagged)))) =
-        no_kind scope own path style kind.Unknown (style_or_unknown style) too.of_style nameless
+        no_kind scope own path bytes style kind.Unknown (style_or_unknown style) too.of_style nameless
     named e text nameless refuse (inl (inr (skip, inr (beside, there, tagged)))) =
         is_read scope own tree path bytes e (inl (ap is_some there))
     named e text nameless refuse (inr (inl (style, too, made))) =
-        no_kind scope own path style kind.Unknown (style_or_unknown style) too.of_style nameless
+        no_kind scope own path bytes style kind.Unknown (style_or_unknown style) too.of_style nameless
     named e text nameless refuse (inr (inr (calls, made))) = no_neighbour scope own tree path bytes e text
         (inr (nameless.1, λ beside. refuse_or_neighbour (sym refuse ∙ beside))) calls
       where
@@ -149,14 +148,15 @@ module _ (additions : Additions) (how : How) (scope : Scope) (own : OwnNames) (t
     Aims aim = (target : Target) × (aim ≡ Ok target)
 
     aims_by_style : (e : goes_to_neighbour scope own tree path ≡ false) → is_text bytes ≡ true → (style : Option Style)
-        → scope.style ≡ style → Aims (target_by_style scope own path style)
+        → scope.style ≡ style → Aims (target_by_style scope own path bytes style)
     aims_by_style e text (Some style) asked = (Inside style, refl)
-    aims_by_style e text None asked = by_name (kind_in own path) refl
+    aims_by_style e text None asked = by_kind (kind_of_file own path bytes) refl
       where
-        by_name : (of_name : Kind) → kind_in own path ≡ of_name → Aims (target_by_name scope.unknown path of_name)
-        by_name (kind.Style style) known = (Inside style, refl)
-        by_name kind.Uncommentable known = (InNeighbour, refl)
-        by_name kind.Unknown known = by_wish scope.unknown refl
+        by_kind : (of_file : Kind) → kind_of_file own path bytes ≡ of_file
+            → Aims (target_by_kind scope.unknown path of_file)
+        by_kind (kind.Style style) known = (Inside style, refl)
+        by_kind kind.Uncommentable known = (InNeighbour, refl)
+        by_kind kind.Unknown known = by_wish scope.unknown refl
           where
             by_wish : (wish : Unknown) → scope.unknown ≡ wish → Aims (target_of_unknown wish path)
             by_wish unknown.Refuse wished = absurd (named e text (asked, known) wished accepted)
@@ -164,7 +164,7 @@ module _ (additions : Additions) (how : How) (scope : Scope) (own : OwnNames) (t
             by_wish unknown.Skip wished = (Nowhere, refl)
 
     aims_by_text : (e : goes_to_neighbour scope own tree path ≡ false) → (b : Bool) → is_text bytes ≡ b
-        → Aims (cond (not b) (aimed InNeighbour) (target_by_style scope own path scope.style))
+        → Aims (cond (not b) (aimed InNeighbour) (target_by_style scope own path bytes scope.style))
     aims_by_text e false text = (InNeighbour, refl)
     aims_by_text e true text = aims_by_style e text scope.style refl
 
@@ -177,7 +177,7 @@ module _ (additions : Additions) (how : How) (scope : Scope) (own : OwnNames) (t
         let more = aims_by_text e (is_text bytes) refl in (
           more.0,
           ap (λ b. cond b (Err (refusals.TooLong path)) (cond (not (is_text bytes)) (aimed InNeighbour)
-              (target_by_style scope own path scope.style))) (le-ltb LONGEST_FILE (length bytes) short) ∙ more.1,
+              (target_by_style scope own path bytes scope.style))) (le-ltb LONGEST_FILE (length bytes) short) ∙ more.1,
         )
 
     comment_made : (style : Style) → TakesComment scope own path bytes pair style
@@ -187,7 +187,7 @@ module _ (additions : Additions) (how : How) (scope : Scope) (own : OwnNames) (t
         absurd (comment_not_skipped scope own path bytes pair style reason kept skipped)
     comment_made style reason kept (inr (inl (other, too, made))) =
         subst (λ s. IsOk (header.annotated s how additions bytes))
-        (one_style scope own path other style too.of_style reason.of_style) made
+        (one_style scope own path bytes other style too.of_style reason.of_style) made
     comment_made style reason kept (inr (inr (calls, made))) =
         absurd (no_neighbour_too scope own path bytes pair style reason calls)
 
@@ -254,7 +254,7 @@ module _ (additions : Additions) (how : How) (scope : Scope) (own : OwnNames) (t
 
 -- ---- a path
 
-module _ (additions : Additions) (how : How) (scope : Scope) (own : OwnNames) (tree : Files) (path : List ℕ) where
+module _ (additions : Additions) (how : How) (scope : Scope) (own : OwnKinds) (tree : Files) (path : List ℕ) where
   pub accepted_is_done : CanBeAnnotated additions how scope own tree path
       → IsDone (annotated_at how scope additions own tree path)
   accepted_is_done can =

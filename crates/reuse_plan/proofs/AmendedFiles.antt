@@ -1,9 +1,9 @@
 -- Where amend isn't refused at a path, its file and the neighbour become what the rules say of them.
 use Rattle.std.proofs.Common.{◌≡◌, ◌⊎◌, inl, inr, ℕ, Bool, true, false, cond, not, nat_lt, List, ◌++◌, length, take}
-use Rattle.std.proofs.Common.{drop, Option, Some, None, Ok, Err, refl, sym, ap, ap₂, subst, ◌∙◌, Result}
+use Rattle.std.proofs.Common.{◌&&◌, is_none, drop, Option, Some, None, Ok, Err, refl, sym, ap, ap₂, subst, ◌∙◌, Result}
 use Rattle.std.specs.Option.{option_map, option_map_or}
 use Rattle.reuse_command.specs.Reading.{get, Files}
-use Rattle.std.proofs.lemmas.Bool.{not-false}
+use Rattle.std.proofs.lemmas.Bool.{not-false, false≢true, and_parts}
 use Rattle.std.proofs.lemmas.Option.{same_Some}
 use Rattle.reuse_text.specs.Text.{mark_len_of, spliced}
 use Rattle.reuse_text.specs.declared.TheConstants.{LONGEST_FILE}
@@ -19,7 +19,6 @@ use Rattle.reuse_style.specs.declared.style.Kind.TheVariants as kind
 use Rattle.reuse_header.specs.Amendment.{amended_file, amendment_of, block_amendment, neighbour_amendment_of}
 use Rattle.reuse_header.specs.Annotation as header
 use Rattle.reuse_header.specs.Header.{HeaderSpan, header_of, span_in}
-use Rattle.reuse_style.specs.Names.{kind_in}
 use Rattle.reuse_header.specs.Neighbour.{is_text, neighbour_end}
 use Rattle.reuse_change.specs.Listing.{is_folder}
 use Rattle.reuse_plan.specs.Amend.{style_or_named, style_for, amendment_edit, amend_neighbour, amend_inside}
@@ -33,7 +32,8 @@ use Rattle.reuse_plan.specs.Annotated.{IsSameAround, IsStyleOf, HasKind, pair_at
 use Rattle.reuse_plan.specs.Tables.{is_table}
 use Rattle.reuse_command.specs.Covered.{is_covered}
 use Rattle.reuse_plan.specs.Edit.{Edit}
-use Rattle.reuse_plan.specs.TreeStyles.{OwnNames}
+use Rattle.reuse_style.specs.Kinds.{OwnKinds, kind_of_file, kind_unread}
+use Rattle.reuse_style.proofs.RuleLemmas.{kind_if_unread}
 use Rattle.reuse_command.specs.declared.command.Place.TheVariants as place
 use Rattle.reuse_command.specs.declared.command.Scope.{Scope}
 use Rattle.reuse_command.specs.declared.reply.Refusal.TheVariants as refusals
@@ -42,6 +42,8 @@ use Rattle.reuse_plan.proofs.Annotating.{both_err}
 use Rattle.reuse_plan.proofs.Outcomes.{done}
 use Rattle.reuse_plan.proofs.Results.{err_or, same_Ok}
 use Rattle.reuse_plan.proofs.TableLemmas.{table_differs}
+use Rattle.reuse_plan.specs.Accepted.{HasNoStyleUnread}
+use Rattle.reuse_plan.specs.Amend.{amend_block, has_no_style, has_no_style_unread}
 
 -- ---- what is known of each amendment
 
@@ -125,21 +127,56 @@ table_makes amendments path bytes given h = by_expected (toml_amendment_of amend
 
 -- ---- styles
 
-module _ (scope : Scope) (own : OwnNames) (path : List ℕ) where
+module _ (scope : Scope) (own : OwnKinds) (path bytes : List ℕ) where
   pub style_reason : (asked : Option Style) (named : Kind) (style : Style) → scope.style ≡ asked
-      → kind_in own path ≡ named → style_or_named asked named ≡ Some style → IsStyleOf scope own path style
-  style_reason (Some other) named style is of_name e = inl (is ∙ e)
-  style_reason None (kind.Style other) style is of_name e = inr (is, of_name ∙ ap kind.Style (same_Some other style e))
-  style_reason None kind.Uncommentable style is of_name e = absurd (cc)
-  style_reason None kind.Unknown style is of_name e = absurd (cc)
+      → kind_of_file own path bytes ≡ named → style_or_named asked named ≡ Some style
+      → IsStyleOf scope own path bytes style
+  style_reason (Some other) named style is of_file e = inl (is ∙ e)
+  style_reason None (kind.Style other) style is of_file e = inr (is, of_file ∙ ap kind.Style (same_Some other style e))
+  style_reason None kind.Uncommentable style is of_file e = absurd (cc)
+  style_reason None kind.Unknown style is of_file e = absurd (cc)
 
-  none_reason : (asked : Option Style) (named : Kind) → scope.style ≡ asked → kind_in own path ≡ named
+  none_reason : (asked : Option Style) (named : Kind) → scope.style ≡ asked → kind_of_file own path bytes ≡ named
       → style_or_named asked named ≡ None
-      → HasKind scope own path kind.Uncommentable ⊎ HasKind scope own path kind.Unknown
-  none_reason (Some other) named is of_name e = absurd (cc)
-  none_reason None (kind.Style other) is of_name e = absurd (cc)
-  none_reason None kind.Uncommentable is of_name e = inl (is, of_name)
-  none_reason None kind.Unknown is of_name e = inr (is, of_name)
+      → HasKind scope own path bytes kind.Uncommentable ⊎ HasKind scope own path bytes kind.Unknown
+  none_reason (Some other) named is of_file e = absurd (cc)
+  none_reason None (kind.Style other) is of_file e = absurd (cc)
+  none_reason None kind.Uncommentable is of_file e = inl (is, of_file)
+  none_reason None kind.Unknown is of_file e = inr (is, of_file)
+
+-- a file that isn't read for want of a style
+module _ (scope : Scope) (own : OwnKinds) (path : List ℕ) where
+  pub unread_reason : has_no_style_unread scope own path ≡ true → HasNoStyleUnread scope own path
+  unread_reason e =
+      let parts = and_parts (is_none scope.style) (has_no_style (kind_unread own path)) e in
+      by_kind (kind_unread own path) refl parts.1
+    where
+      unasked : (asked : Option Style) → is_none asked ≡ true → asked ≡ None
+      unasked None f = refl
+      unasked (Some style) f = absurd (false≢true f)
+
+      none : scope.style ≡ None
+      none = unasked scope.style (and_parts (is_none scope.style) (has_no_style (kind_unread own path)) e).0
+
+      by_kind : (known : Option Kind) → kind_unread own path ≡ known → has_no_style known ≡ true
+          → HasNoStyleUnread scope own path
+      by_kind None is f = absurd (false≢true f)
+      by_kind (Some (kind.Style style)) is f = absurd (false≢true f)
+      by_kind (Some kind.Uncommentable) is f = inl (none, is)
+      by_kind (Some kind.Unknown) is f = inr (none, is)
+
+  pub reason_unread : HasNoStyleUnread scope own path → has_no_style_unread scope own path ≡ true
+  reason_unread (inl is) = ap₂ (λ (asked : Option Style) (known : Option Kind). is_none asked && has_no_style known)
+      is.0 is.1
+  reason_unread (inr is) = ap₂ (λ (asked : Option Style) (known : Option Kind). is_none asked && has_no_style known)
+      is.0 is.1
+
+  unread_none : (bytes : List ℕ) → has_no_style_unread scope own path ≡ true
+      → HasKind scope own path bytes kind.Uncommentable ⊎ HasKind scope own path bytes kind.Unknown
+  unread_none bytes e = elim (unread_reason e) [
+    | inl is ↦ inl (is.0, kind_if_unread own path bytes kind.Uncommentable is.1)
+    | inr is ↦ inr (is.0, kind_if_unread own path bytes kind.Unknown is.1)
+  ]
 
 -- ---- one file
 
@@ -171,7 +208,7 @@ module _ (keeps_block : KeepsBlock) (keeps_neighbour : KeepsNeighbour) where
         (by.0.text, keeps_neighbour a bytes by.0 by.1))
   ]
 
-  module _ (amendments : Amendments) (scope : Scope) (own : OwnNames) (tree : Files) (path : List ℕ)
+  module _ (amendments : Amendments) (scope : Scope) (own : OwnKinds) (tree : Files) (path : List ℕ)
       (given : Option Edit) where
     abbrev Becomes : List ℕ → Type 0
     Becomes bytes =
@@ -200,18 +237,18 @@ module _ (keeps_block : KeepsBlock) (keeps_neighbour : KeepsNeighbour) where
           keeps = neighbour_kept amendments there given (neighbour_of path) m;
         }))
 
-    inside_text : (bytes : List ℕ) (style : Style) (text : Bool) → get tree path ≡ Some bytes
-        → get tree (neighbour_of path) ≡ None → style_for scope own path ≡ Some style → is_text bytes ≡ text
-        → cond (not text) (done None)
-        (amendment_edit path path bytes (amendment_of style amendments bytes)) ≡ Ok given → Becomes bytes
-    inside_text bytes style false here alone of_style text h = unchanged bytes h (alone, inl text)
-    inside_text bytes style true here alone of_style text h =
+    inside_block : (bytes : List ℕ) (style : Option Style) → get tree path ≡ Some bytes
+        → get tree (neighbour_of path) ≡ None → style_for scope own path bytes ≡ style → is_text bytes ≡ true
+        → amend_block amendments path bytes style ≡ Ok given → Becomes bytes
+    inside_block bytes None here alone of_style text h = unchanged bytes h
+        (alone, inr (none_reason scope own path bytes scope.style (kind_of_file own path bytes) refl refl of_style))
+    inside_block bytes (Some style) here alone of_style text h =
         let m = amendment_makes path path bytes (amendment_of style amendments bytes) given h in
         inr (inl (record {
           alone = alone;
           text = text;
           style = style;
-          of_style = style_reason scope own path scope.style (kind_in own path) style refl refl of_style;
+          of_style = style_reason scope own path bytes scope.style (kind_of_file own path bytes) style refl refl of_style;
           made = m.made;
           by_rules = m.by_rules;
           holds = ap₂ pair (then_here tree path bytes m.made given m.makes here) (then_other tree path bytes m.made
@@ -219,18 +256,28 @@ module _ (keeps_block : KeepsBlock) (keeps_neighbour : KeepsNeighbour) where
           keeps = file_kept style amendments bytes given path m;
         }))
 
-    inside : (bytes : List ℕ) (style : Option Style) → get tree path ≡ Some bytes → get tree (neighbour_of path) ≡ None
-        → style_for scope own path ≡ style → amend_inside amendments path bytes style ≡ Ok given → Becomes bytes
-    inside bytes None here alone of_style h =
-        unchanged bytes h (alone, inr (none_reason scope own path scope.style (kind_in own path) refl refl of_style))
-    inside bytes (Some style) here alone of_style h =
+    inside_text : (bytes : List ℕ) (text : Bool) → get tree path ≡ Some bytes → get tree (neighbour_of path) ≡ None
+        → is_text bytes ≡ text
+        → cond (not text) (done None) (amend_block amendments path bytes (style_for scope own path bytes)) ≡ Ok given
+        → Becomes bytes
+    inside_text bytes false here alone text h = unchanged bytes h (alone, inl text)
+    inside_text bytes true here alone text h =
+        inside_block bytes (style_for scope own path bytes) here alone refl text h
+
+    inside : (bytes : List ℕ) (none : Bool) → get tree path ≡ Some bytes → get tree (neighbour_of path) ≡ None
+        → has_no_style_unread scope own path ≡ none
+        → cond none (done None) (cond (nat_lt LONGEST_FILE (length bytes)) (Err (refusals.TooLong path))
+        (cond (not (is_text bytes)) (done None) (amend_block amendments path bytes (style_for scope own path bytes))))
+        ≡ Ok given → Becomes bytes
+    inside bytes true here alone unread h = unchanged bytes h (alone, inr (unread_none scope own path bytes unread))
+    inside bytes false here alone unread h =
         let short = err_or (nat_lt LONGEST_FILE (length bytes)) (refusals.TooLong path) _ given h in
-        inside_text bytes style (is_text bytes) here alone of_style refl short.1
+        inside_text bytes (is_text bytes) here alone refl short.1
 
     by_neighbour : (bytes : List ℕ) (there : Option (List ℕ)) → get tree path ≡ Some bytes → get tree
         (neighbour_of path) ≡ there → amend_covered amendments scope own path bytes there ≡ Ok given → Becomes bytes
     by_neighbour bytes (Some there) here is h = beside bytes there is h
-    by_neighbour bytes None here is h = inside bytes (style_for scope own path) here is refl h
+    by_neighbour bytes None here is h = inside bytes (has_no_style_unread scope own path) here is refl h
 
     table : (bytes : List ℕ) → get tree path ≡ Some bytes → amend_table amendments path bytes ≡ Ok given
         → IsTableAmended amendments (pair_at tree path) (pair_then tree given path)

@@ -11,7 +11,8 @@ use Rattle.reuse_plan.specs.Annotate.{neighbour_of}
 use Rattle.reuse_plan.specs.Annotated.{Pair, pair_at}
 use Rattle.reuse_command.specs.Command.{has_root}
 use Rattle.reuse_plan.specs.Outcome.{Edit, edited, outcome_of, edits_of}
-use Rattle.reuse_plan.specs.TreeStyles.{OwnNames, styles_in}
+use Rattle.reuse_plan.specs.TreeStyles.{styles_in}
+use Rattle.reuse_style.specs.Kinds.{OwnKinds}
 use Rattle.reuse_plan.specs.Selected.{amended_paths}
 use Rattle.reuse_command.specs.declared.command.Command.TheVariants.{Amend}
 use Rattle.reuse_command.specs.declared.command.Place.{Place}
@@ -32,7 +33,7 @@ use Rattle.reuse_plan.proofs.CommandEdits.{edits_at, amendments_by_names, of_ame
 use Rattle.reuse_plan.proofs.TableLemmas.{IsWorkable}
 
 module _ (keeps_block : KeepsBlock) (keeps_neighbour : KeepsNeighbour) (amendments : Amendments) (scope : Scope)
-    (own : OwnNames) (tree : Files) where
+    (own : OwnKinds) (tree : Files) where
   abbrev pub at : List ℕ → Result (Option Edit) Refusal
   at = amended_at amendments scope own tree
 
@@ -72,7 +73,7 @@ module _ (keeps_block : KeepsBlock) (keeps_neighbour : KeepsNeighbour) (amendmen
 
 module _ (keeps_block : KeepsBlock) (keeps_neighbour : KeepsNeighbour) (places : List Place) (amendments : Amendments)
     (scope : Scope) (tree : Files) where
-  by_names : (edits : List Edit) (styles : Result OwnNames Refusal) → styles_in tree ≡ styles
+  by_names : (edits : List Edit) (styles : Result OwnKinds Refusal) → styles_in tree ≡ styles
       → amendments_by_names places amendments scope tree styles ≡ Ok edits
       → Amends places amendments scope tree (edited tree edits)
   by_names edits (Err refusal) is h = absurd (cc)
@@ -91,7 +92,7 @@ module _ (keeps_block : KeepsBlock) (keeps_neighbour : KeepsNeighbour) (places :
 
 -- ---- no file comes or goes
 
-module _ (amendments : Amendments) (scope : Scope) (own : OwnNames) (path : List ℕ) (old new : Pair) where
+module _ (amendments : Amendments) (scope : Scope) (own : OwnKinds) (path : List ℕ) (old new : Pair) where
   abbrev AreThere : Pair → Type 0
   AreThere pair = (is_some pair.file ≡ is_some old.file) × (is_some pair.neighbour ≡ is_some old.neighbour)
 

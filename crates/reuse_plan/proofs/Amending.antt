@@ -12,13 +12,14 @@ use Rattle.reuse_header.specs.Annotation as header
 use Rattle.reuse_header.specs.Neighbour.{is_text}
 use Rattle.reuse_text.specs.declared.TheConstants.{LONGEST_FILE}
 use Rattle.reuse_change.specs.Listing.{is_folder}
-use Rattle.reuse_plan.specs.Amend.{style_for, amendment_edit, amend_neighbour, amend_inside, amend_covered}
+use Rattle.reuse_plan.specs.Amend.{style_for, has_no_style_unread, amendment_edit, amend_neighbour, amend_block}
+use Rattle.reuse_plan.specs.Amend.{amend_inside, amend_covered}
 use Rattle.reuse_plan.specs.Amend.{table_amendment, amend_table, amended_where, amended_at}
 use Rattle.reuse_plan.specs.Annotate.{neighbour_of, edit_by}
 use Rattle.reuse_plan.specs.Tables.{is_table}
 use Rattle.reuse_command.specs.Covered.{is_covered}
 use Rattle.reuse_plan.specs.Edit.{Edit}
-use Rattle.reuse_plan.specs.TreeStyles.{OwnNames}
+use Rattle.reuse_style.specs.Kinds.{OwnKinds}
 use Rattle.reuse_command.specs.declared.command.Place.TheVariants as place
 use Rattle.reuse_command.specs.declared.command.Scope.{Scope}
 use Rattle.reuse_command.specs.declared.reply.Refusal.TheVariants as refusals
@@ -32,12 +33,12 @@ not_false true e = refl
 not_false false e = absurd (false≢true (sym e))
 
 -- the header block of the file itself, which has no neighbour and has a style
-pub record IsInside (amendments : Amendments) (scope : Scope) (own : OwnNames) (tree : Files) (path at bytes : List ℕ)
+pub record IsInside (amendments : Amendments) (scope : Scope) (own : OwnKinds) (tree : Files) (path at bytes : List ℕ)
     (one : header.Edit) : Type 0 where
   pub same : at ≡ path
   pub alone : get tree (neighbour_of path) ≡ None
   pub style : Style
-  pub of_style : style_for scope own path ≡ Some style
+  pub of_style : style_for scope own path bytes ≡ Some style
   pub short : nat_lt LONGEST_FILE (length bytes) ≡ false
   pub text : is_text bytes ≡ true
   pub amends : amendment_of style amendments bytes ≡ Ok (Some one)
@@ -54,7 +55,7 @@ pub record IsTable (path at : List ℕ) : Type 0 where
   pub same : at ≡ path
   pub table : is_table path ≡ true
 
-pub record AmendsThere (amendments : Amendments) (scope : Scope) (own : OwnNames) (tree : Files) (path : List ℕ)
+pub record AmendsThere (amendments : Amendments) (scope : Scope) (own : OwnKinds) (tree : Files) (path : List ℕ)
     (edit : Edit) : Type 0 where
   pub is_file : IsSome (get tree path)
   pub workable : IsWorkable path
@@ -74,7 +75,7 @@ module _ (path : List ℕ) (edit : Edit) where
   of_expected at bytes (Ok (Some one)) e = (one, refl, e)
   of_expected at bytes (Err refusal) e = absurd (cc)
 
-module _ (amendments : Amendments) (scope : Scope) (own : OwnNames) (tree : Files) (path : List ℕ) (edit : Edit) where
+module _ (amendments : Amendments) (scope : Scope) (own : OwnKinds) (tree : Files) (path : List ℕ) (edit : Edit) where
   abbrev Here : Type 0
   Here = AmendsThere amendments scope own tree path edit
 
@@ -100,14 +101,13 @@ module _ (amendments : Amendments) (scope : Scope) (own : OwnNames) (tree : File
         }));
       }
 
-  of_inside : (bytes : List ℕ) (style : Option Style) → get tree path ≡ Some bytes → is_covered path ≡ true
-      → get tree (neighbour_of path) ≡ None → style_for scope own path ≡ style
-      → amend_inside amendments path bytes style ≡ some_edit edit → Here
-  of_inside bytes None here covered alone is e = absurd (cc)
-  of_inside bytes (Some style) here covered alone is e =
-      let short = err_or (nat_lt LONGEST_FILE (length bytes)) (refusals.TooLong path) _ (Some edit) e in
-      let text = unskipped (not (is_text bytes)) _ edit short.1 in
-      let one = of_expected path edit path bytes (amendment_of style amendments bytes) text.1 in
+  of_block : (bytes : List ℕ) (style : Option Style) → get tree path ≡ Some bytes → is_covered path ≡ true
+      → get tree (neighbour_of path) ≡ None → style_for scope own path bytes ≡ style
+      → nat_lt LONGEST_FILE (length bytes) ≡ false → is_text bytes ≡ true
+      → amend_block amendments path bytes style ≡ some_edit edit → Here
+  of_block bytes None here covered alone is short text e = absurd (cc)
+  of_block bytes (Some style) here covered alone is short text e =
+      let one = of_expected path edit path bytes (amendment_of style amendments bytes) e in
       record {
         is_file = ap is_some here;
         workable = inl covered;
@@ -121,17 +121,27 @@ module _ (amendments : Amendments) (scope : Scope) (own : OwnNames) (tree : File
           alone = alone;
           style = style;
           of_style = is;
-          short = short.0;
-          text = not_false (is_text bytes) text.0;
+          short = short;
+          text = text;
           amends = one.1;
         });
       }
+
+  of_inside : (bytes : List ℕ) → get tree path ≡ Some bytes → is_covered path ≡ true
+      → get tree (neighbour_of path) ≡ None
+      → amend_inside amendments scope own path bytes ≡ some_edit edit → Here
+  of_inside bytes here covered alone e =
+      let read = unskipped (has_no_style_unread scope own path) _ edit e in
+      let short = err_or (nat_lt LONGEST_FILE (length bytes)) (refusals.TooLong path) _ (Some edit) read.1 in
+      let text = unskipped (not (is_text bytes)) _ edit short.1 in
+      of_block bytes (style_for scope own path bytes) here covered alone refl short.0
+      (not_false (is_text bytes) text.0) text.1
 
   of_covered : (bytes : List ℕ) (beside : Option (List ℕ)) → get tree path ≡ Some bytes → is_covered path ≡ true
       → get tree (neighbour_of path) ≡ beside
       → amend_covered amendments scope own path bytes beside ≡ some_edit edit → Here
   of_covered bytes (Some beside) here covered is e = of_neighbour beside (ap is_some here) covered is e
-  of_covered bytes None here covered is e = of_inside bytes (style_for scope own path) here covered is refl e
+  of_covered bytes None here covered is e = of_inside bytes here covered is e
 
   of_table : (bytes : List ℕ) → get tree path ≡ Some bytes → is_table path ≡ true
       → amend_table amendments path bytes ≡ some_edit edit → Here

@@ -16,7 +16,7 @@ use Rattle.reuse_header.specs.Neighbour.{is_text}
 use Rattle.reuse_text.specs.declared.TheConstants.{LONGEST_FILE}
 use Rattle.reuse_plan.specs.Amend.{amend_refused_by, amendment_edit, amend_covered, amended_where, amend_table}
 use Rattle.reuse_plan.specs.Amend.{table_amendment}
-use Rattle.reuse_plan.specs.AmendmentPlan.{Expected, Fits, names_of, amended_by, style_by, beside_by, inside_by}
+use Rattle.reuse_plan.specs.AmendmentPlan.{Expected, Fits, own_of, amended_by, style_by, beside_by, inside_by}
 use Rattle.reuse_plan.specs.AmendmentPlan.{table_by}
 use Rattle.reuse_plan.specs.Annotate.{neighbour_of}
 use Rattle.reuse_plan.specs.Tables.{is_table}
@@ -28,6 +28,7 @@ use Rattle.reuse_command.specs.declared.reply.Refusal.{Refusal}
 use Rattle.reuse_command.specs.declared.reply.Refusal.TheVariants as refusals
 use Rattle.reuse_plan.proofs.EditLemmas.{edited_to, refused}
 use Rattle.reuse_plan.proofs.TableLemmas.{not_table}
+use Rattle.reuse_plan.specs.AmendmentPlan.{block_by, has_no_style_by}
 
 -- what is known of each edit is known of an amendment
 pub fits_amendment : (bytes : List ℕ) (expected : Expected) → ((edit : header.Edit) → expected ≡ Ok (Some edit)
@@ -91,20 +92,21 @@ module _ (asked : Amendment) (path bytes : List ℕ) where
       → table_by asked path bytes ≡ table_amendment path bytes (toml_amendment_of asked.amendments.now bytes)
   table_is short = ap (λ b. cond b (refused (refusals.TooLong path)) by_table) short
 
-  module _ (style : Style) where
-    abbrev by_block : Result (Option Edit) Refusal
-    by_block = amendment_edit path path bytes (amendment_of style asked.amendments.now bytes)
+  abbrev by_block : Result (Option Edit) Refusal
+  by_block = block_by asked path bytes (style_by asked path bytes)
 
-    pub inside_is : (text : Bool) → nat_lt LONGEST_FILE (length bytes) ≡ false → is_text bytes ≡ text
-        → inside_by asked path bytes (Some style) ≡ cond (not text) (edited_to None)
-        (amendment_edit path path bytes (amendment_of style asked.amendments.now bytes))
-    inside_is text short is =
-        ap (λ b. cond b (refused (refusals.TooLong path)) (cond (not (is_text bytes)) (edited_to None) by_block)) short
-        ∙ ap (λ b. cond (not b) (edited_to None) by_block) is
+  pub inside_is : (text : Bool) → has_no_style_by asked path ≡ false → nat_lt LONGEST_FILE (length bytes) ≡ false
+      → is_text bytes ≡ text → inside_by asked path bytes ≡ cond (not text) (edited_to None)
+      (block_by asked path bytes (style_by asked path bytes))
+  inside_is text styled short is =
+      ap (λ b. cond b (edited_to None) (cond (nat_lt LONGEST_FILE (length bytes)) (refused (refusals.TooLong path))
+      (cond (not (is_text bytes)) (edited_to None) by_block))) styled
+      ∙ ap (λ b. cond b (refused (refusals.TooLong path)) (cond (not (is_text bytes)) (edited_to None) by_block)) short
+      ∙ ap (λ b. cond (not b) (edited_to None) by_block) is
 
 module _ (asked : Amendment) (tree : Files) (path : List ℕ) where
   abbrev covered_by : List ℕ → Option (List ℕ) → Result (Option Edit) Refusal
-  covered_by bytes beside = amend_covered asked.amendments.now asked.scope.now (names_of asked) path bytes beside
+  covered_by bytes beside = amend_covered asked.amendments.now asked.scope.now (own_of asked) path bytes beside
 
   -- it is a table, or another file
   abbrev by_file : List ℕ → Bool → Result (Option Edit) Refusal
@@ -114,10 +116,10 @@ module _ (asked : Amendment) (tree : Files) (path : List ℕ) where
   pub goes_to_table : (bytes : List ℕ) → get tree path ≡ Some bytes → is_table path ≡ true
       → amended_by asked tree path ≡ table_by asked path bytes
   goes_to_table bytes here table =
-      ap (amended_where asked.amendments.now asked.scope.now (names_of asked) tree path) here ∙ ap (by_file bytes) table
+      ap (amended_where asked.amendments.now asked.scope.now (own_of asked) tree path) here ∙ ap (by_file bytes) table
 
   pub uncovered_is : (file : Option (List ℕ)) → IsSome file → is_table path ≡ false → is_covered path ≡ false
-      → amended_where asked.amendments.now asked.scope.now (names_of asked) tree path file ≡ refused
+      → amended_where asked.amendments.now asked.scope.now (own_of asked) tree path file ≡ refused
       (refusals.NotCovered path)
   uncovered_is None some other e = absurd (false≢true some)
   uncovered_is (Some bytes) some other e = ap (by_file bytes) other
@@ -126,7 +128,7 @@ module _ (asked : Amendment) (tree : Files) (path : List ℕ) where
   covered_is : (bytes : List ℕ) (beside : Option (List ℕ)) → get tree path ≡ Some bytes → is_covered path ≡ true
       → get tree (neighbour_of path) ≡ beside → amended_by asked tree path ≡ covered_by bytes beside
   covered_is bytes beside here covered is =
-      ap (amended_where asked.amendments.now asked.scope.now (names_of asked) tree path) here
+      ap (amended_where asked.amendments.now asked.scope.now (own_of asked) tree path) here
       ∙ ap (by_file bytes) (not_table path covered)
       ∙ ap (λ t. cond (not t) (refused (refusals.NotCovered path)) (covered_by bytes (get tree (neighbour_of path))))
       covered ∙ ap (covered_by bytes) is
@@ -137,8 +139,15 @@ module _ (asked : Amendment) (tree : Files) (path : List ℕ) where
   goes_to_neighbour bytes beside here covered is = covered_is bytes (Some beside) here covered is
 
   -- it isn't
-  pub goes_inside : (bytes : List ℕ) (style : Option Style) → get tree path ≡ Some bytes → is_covered path ≡ true
-      → get tree (neighbour_of path) ≡ None → style_by asked path ≡ style
-      → amended_by asked tree path ≡ inside_by asked path bytes style
-  goes_inside bytes style here covered is styled =
-      covered_is bytes None here covered is ∙ ap (inside_by asked path bytes) styled
+  pub goes_inside : (bytes : List ℕ) → get tree path ≡ Some bytes → is_covered path ≡ true
+      → get tree (neighbour_of path) ≡ None → amended_by asked tree path ≡ inside_by asked path bytes
+  goes_inside bytes here covered is = covered_is bytes None here covered is
+
+  -- and the file has no style, whatever it holds
+  pub goes_nowhere : (bytes : List ℕ) → get tree path ≡ Some bytes → is_covered path ≡ true
+      → get tree (neighbour_of path) ≡ None → has_no_style_by asked path ≡ true
+      → amended_by asked tree path ≡ edited_to None
+  goes_nowhere bytes here covered is none =
+      goes_inside bytes here covered is ∙ ap (λ b. cond b (edited_to None)
+      (cond (nat_lt LONGEST_FILE (length bytes)) (refused (refusals.TooLong path))
+      (cond (not (is_text bytes)) (edited_to None) (block_by asked path bytes (style_by asked path bytes))))) none

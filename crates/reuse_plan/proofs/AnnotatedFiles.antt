@@ -7,18 +7,18 @@ use Rattle.std.proofs.lemmas.Bool.{false≢true, or_cases, or_parts, and_parts, 
 use Rattle.reuse_style.specs.declared.style.Style.{Style}
 use Rattle.reuse_style.specs.declared.style.Kind.{Kind}
 use Rattle.reuse_style.specs.declared.style.Kind.TheVariants as kind
-use Rattle.reuse_style.specs.Names.{kind_in}
 use Rattle.reuse_header.specs.Neighbour.{is_text, neighbour_annotation_of, neighbour_end}
 use Rattle.reuse_text.specs.declared.TheConstants.{LONGEST_FILE}
 use Rattle.reuse_plan.specs.Accepted.{IsUnread}
 use Rattle.reuse_plan.specs.Annotate.{neighbour_of, is_uncommentable, goes_to_neighbour, goes_to_neighbour_unread}
-use Rattle.reuse_plan.specs.Annotate.{target_of_unknown, target_by_name, target_by_style, target_by_bytes}
+use Rattle.reuse_plan.specs.Annotate.{target_of_unknown, target_by_kind, target_by_style, target_by_bytes}
 use Rattle.reuse_plan.specs.Annotate.{neighbour_is_tagged, target_of, edit_by, edit_neighbour, edit_target}
 use Rattle.reuse_plan.specs.Annotate.{annotated_where, annotated_at}
 use Rattle.reuse_plan.specs.Annotated.{pair_at, IsStyleOf, HasKind, TakesComment, TakesNeighbour, IsSameAround}
 use Rattle.reuse_plan.specs.Annotated.{KeepsOthers, block_replaced, part_replaced, Pair, IsCommented, IsAccompanied}
 use Rattle.reuse_plan.specs.Annotated.{IsSkipped, IsAnnotated, file_written}
-use Rattle.reuse_plan.specs.TreeStyles.{OwnNames}
+use Rattle.reuse_style.specs.Kinds.{OwnKinds, kind_of_file, kind_unread}
+use Rattle.reuse_style.proofs.RuleLemmas.{kind_if_unread}
 use Rattle.reuse_command.specs.declared.command.Scope.{Scope}
 use Rattle.reuse_command.specs.declared.command.Unknown.{Unknown}
 use Rattle.reuse_command.specs.declared.command.Unknown.TheVariants as unknown
@@ -55,20 +55,21 @@ no_style : (style : Option Style) → is_none style ≡ true → style ≡ None
 no_style None e = refl
 no_style (Some style) e = absurd (false≢true e)
 
-uncommentable : (of_name : Kind) → is_uncommentable of_name ≡ true → of_name ≡ kind.Uncommentable
-uncommentable (kind.Style style) e = absurd (false≢true e)
-uncommentable kind.Uncommentable e = refl
-uncommentable kind.Unknown e = absurd (false≢true e)
+uncommentable : (known : Option Kind) → is_uncommentable known ≡ true → known ≡ Some kind.Uncommentable
+uncommentable None e = absurd (false≢true e)
+uncommentable (Some (kind.Style style)) e = absurd (false≢true e)
+uncommentable (Some kind.Uncommentable) e = refl
+uncommentable (Some kind.Unknown) e = absurd (false≢true e)
 
 skip_or_neighbour : unknown.Skip ≡ unknown.Neighbour → ⊥
 skip_or_neighbour e = cc
 
-module _ (scope : Scope) (own : OwnNames) (tree : Files) (path bytes : List ℕ) where
+module _ (scope : Scope) (own : OwnKinds) (tree : Files) (path bytes : List ℕ) where
   -- why the information goes there
   abbrev pub Takes : Target → Type 0
   Takes (Inside style) = TakesComment scope own path bytes (pair_at tree path) style
   Takes InNeighbour = TakesNeighbour scope own path bytes (pair_at tree path)
-  Takes Nowhere = HasKind scope own path kind.Unknown × (scope.unknown ≡ unknown.Skip)
+  Takes Nowhere = HasKind scope own path bytes kind.Unknown × (scope.unknown ≡ unknown.Skip)
       × ¬ (TakesNeighbour scope own path bytes (pair_at tree path))
 
   -- the test that is made without reading the file
@@ -76,36 +77,37 @@ module _ (scope : Scope) (own : OwnNames) (tree : Files) (path bytes : List ℕ)
   unread e = elim (or_cases (is_some (get tree (neighbour_of path))) (goes_to_neighbour_unread scope own path) e) [
     | inl there ↦ inl there
     | inr called ↦
-        elim (or_cases scope.force_dot_license (is_none scope.style && is_uncommentable (kind_in own path)) called) [
+        elim (or_cases scope.force_dot_license (is_none scope.style && is_uncommentable (kind_unread own path)) called) [
           | inl forced ↦ inr (inl forced)
           | inr plain ↦
-              let parts = and_parts (is_none scope.style) (is_uncommentable (kind_in own path)) plain in
-              inr (inr (no_style scope.style parts.0, uncommentable (kind_in own path) parts.1))
+              let parts = and_parts (is_none scope.style) (is_uncommentable (kind_unread own path)) plain in
+              inr (inr (no_style scope.style parts.0, uncommentable (kind_unread own path) parts.1))
         ]
   ]
 
   unread_takes : IsUnread scope own path (pair_at tree path) → Takes InNeighbour
   unread_takes (inl there) = inl there
   unread_takes (inr (inl forced)) = inr (inl forced)
-  unread_takes (inr (inr plain)) = inr (inr (inr (inl plain)))
+  unread_takes (inr (inr plain)) =
+      inr (inr (inr (inl (plain.0, kind_if_unread own path bytes kind.Uncommentable plain.1))))
 
   module _ (e : goes_to_neighbour scope own tree path ≡ false) where
     parts : (is_some (get tree (neighbour_of path)) ≡ false) × (goes_to_neighbour_unread scope own path ≡ false)
     parts = or_parts (is_some (get tree (neighbour_of path))) (goes_to_neighbour_unread scope own path) e
 
     unread_parts : (scope.force_dot_license ≡ false)
-        × ((is_none scope.style && is_uncommentable (kind_in own path)) ≡ false)
-    unread_parts = or_parts scope.force_dot_license (is_none scope.style && is_uncommentable (kind_in own path)) parts.1
+        × ((is_none scope.style && is_uncommentable (kind_unread own path)) ≡ false)
+    unread_parts = or_parts scope.force_dot_license (is_none scope.style && is_uncommentable (kind_unread own path)) parts.1
 
     pub is_read : IsUnread scope own path (pair_at tree path) → ⊥
     is_read (inl there) = false≢true (sym parts.0 ∙ there)
     is_read (inr (inl forced)) = false≢true (sym unread_parts.0 ∙ forced)
     is_read (inr (inr plain)) = false≢true (sym unread_parts.1
-        ∙ ap₂ (λ (style : Option Style) (of_name : Kind). is_none style && is_uncommentable of_name) plain.0 plain.1)
+        ∙ ap₂ (λ (style : Option Style) (known : Option Kind). is_none style && is_uncommentable known) plain.0 plain.1)
 
   module _ (e : goes_to_neighbour scope own tree path ≡ false) (text : is_text bytes ≡ true) where
     comment_takes : (style : Style) → (scope.style ≡ Some style)
-        ⊎ ((scope.style ≡ None) × (kind_in own path ≡ kind.Style style)) → Takes (Inside style)
+        ⊎ ((scope.style ≡ None) × (kind_of_file own path bytes ≡ kind.Style style)) → Takes (Inside style)
     comment_takes style of_style = record {
       text = text;
       alone = none_from_test (get tree (neighbour_of path)) (parts e).0;
@@ -114,14 +116,15 @@ module _ (scope : Scope) (own : OwnNames) (tree : Files) (path bytes : List ℕ)
     }
 
     -- nothing calls for a neighbour
-    pub no_neighbour : ((style : Style) × IsStyleOf scope own path style)
-        ⊎ ((kind_in own path ≡ kind.Unknown) × (scope.unknown ≢ unknown.Neighbour))
+    pub no_neighbour : ((style : Style) × IsStyleOf scope own path bytes style)
+        ⊎ ((kind_of_file own path bytes ≡ kind.Unknown) × (scope.unknown ≢ unknown.Neighbour))
         → TakesNeighbour scope own path bytes (pair_at tree path) → ⊥
     no_neighbour named why =
         no_call scope own path bytes (pair_at tree path) (none_from_test (get tree (neighbour_of path)) (parts e).0)
         (unread_parts e).0 text named why
 
-    unknown_takes : (asked : Unknown) → scope.unknown ≡ asked → HasKind scope own path kind.Unknown → (target : Target)
+    unknown_takes : (asked : Unknown) → scope.unknown ≡ asked → HasKind scope own path bytes kind.Unknown
+        → (target : Target)
         → target_of_unknown asked path ≡ Ok target → Takes target
     unknown_takes unknown.Refuse is named target h = absurd (cc)
     unknown_takes unknown.Neighbour is named target h =
@@ -129,21 +132,21 @@ module _ (scope : Scope) (own : OwnNames) (tree : Files) (path bytes : List ℕ)
     unknown_takes unknown.Skip is named target h = subst Takes (same_Ok Nowhere target h)
         (named, is, no_neighbour (inr (named.1, λ e. skip_or_neighbour (sym is ∙ e))))
 
-    name_takes : (of_name : Kind) → kind_in own path ≡ of_name → scope.style ≡ None → (target : Target)
-        → target_by_name scope.unknown path of_name ≡ Ok target → Takes target
-    name_takes (kind.Style style) is none target h =
+    kind_takes : (of_file : Kind) → kind_of_file own path bytes ≡ of_file → scope.style ≡ None → (target : Target)
+        → target_by_kind scope.unknown path of_file ≡ Ok target → Takes target
+    kind_takes (kind.Style style) is none target h =
         subst Takes (same_Ok (Inside style) target h) (comment_takes style (inr (none, is)))
-    name_takes kind.Uncommentable is none target h =
+    kind_takes kind.Uncommentable is none target h =
         subst Takes (same_Ok InNeighbour target h) (inr (inr (inr (inl (none, is)))))
-    name_takes kind.Unknown is none target h = unknown_takes scope.unknown refl (none, is) target h
+    kind_takes kind.Unknown is none target h = unknown_takes scope.unknown refl (none, is) target h
 
     style_takes : (style : Option Style) → scope.style ≡ style → (target : Target)
-        → target_by_style scope own path style ≡ Ok target → Takes target
+        → target_by_style scope own path bytes style ≡ Ok target → Takes target
     style_takes (Some style) is target h = subst Takes (same_Ok (Inside style) target h) (comment_takes style (inl is))
-    style_takes None is target h = name_takes (kind_in own path) refl is target h
+    style_takes None is target h = kind_takes (kind_of_file own path bytes) refl is target h
 
   bytes_take : goes_to_neighbour scope own tree path ≡ false → (b : Bool) → is_text bytes ≡ b → (target : Target)
-      → cond (not b) (aimed InNeighbour) (target_by_style scope own path scope.style) ≡ Ok target → Takes target
+      → cond (not b) (aimed InNeighbour) (target_by_style scope own path bytes scope.style) ≡ Ok target → Takes target
   bytes_take e true text target h = style_takes e text scope.style refl target h
   bytes_take e false text target h = subst Takes (same_Ok InNeighbour target h) (inr (inr (inl text)))
 
@@ -152,7 +155,7 @@ module _ (scope : Scope) (own : OwnNames) (tree : Files) (path bytes : List ℕ)
   takes true e target h = subst Takes (same_Ok InNeighbour target h) (unread_takes (unread e))
   takes false e target h =
       let short = err_or (nat_lt LONGEST_FILE (length bytes)) (refusals.TooLong path)
-      (cond (not (is_text bytes)) (aimed InNeighbour) (target_by_style scope own path scope.style)) target h in
+      (cond (not (is_text bytes)) (aimed InNeighbour) (target_by_style scope own path bytes scope.style)) target h in
       bytes_take e (is_text bytes) refl target short.1
 
 -- ---- where annotate isn't refused at a path, its file and the neighbour become what the rules say of them
@@ -291,7 +294,7 @@ module _ (replaces : ReplacesBlock) (inserts : InsertsBlock) (replaces_beside : 
 
   -- ---- one file
 
-  module _ (additions : Additions) (how : How) (scope : Scope) (own : OwnNames) (tree : Files) (path bytes : List ℕ)
+  module _ (additions : Additions) (how : How) (scope : Scope) (own : OwnKinds) (tree : Files) (path bytes : List ℕ)
       (here : get tree path ≡ Some bytes) where
     abbrev old : Pair
     old = pair_at tree path
@@ -408,7 +411,7 @@ module _ (replaces : ReplacesBlock) (inserts : InsertsBlock) (replaces_beside : 
     becomes (Ok target) reason given h = by_target target (reason target refl) given h
 
   -- what is done at a path
-  pub annotated_there : (additions : Additions) (how : How) (scope : Scope) (own : OwnNames) (tree : Files)
+  pub annotated_there : (additions : Additions) (how : How) (scope : Scope) (own : OwnKinds) (tree : Files)
       (path : List ℕ) (given : Option Edit) → annotated_at how scope additions own tree path ≡ Ok given
       → IsAnnotated additions how scope own path (pair_at tree path) (pair_then tree given path)
   annotated_there additions how scope own tree path given h = of_file (get tree path) refl h

@@ -22,7 +22,7 @@ use Rattle.reuse_plan.specs.Outcome.{Edit, edited, tree_after}
 use Rattle.reuse_plan.specs.Amend.{amended_where, amended_at}
 use Rattle.reuse_plan.specs.Annotate.{annotated_where, annotated_at}
 use Rattle.reuse_header.specs.declared.annotation.How.{How}
-use Rattle.reuse_plan.specs.TreeStyles.{OwnNames}
+use Rattle.reuse_style.specs.Kinds.{OwnKinds}
 use Rattle.reuse_notice.specs.declared.adding.Additions.{Additions}
 use Rattle.reuse_amend.specs.declared.amendments.Amendments.{Amendments}
 use Rattle.reuse_command.specs.declared.command.Scope.{Scope}
@@ -123,7 +123,7 @@ module _ (tree : Files) (path : List ℕ) (paths : List (List ℕ))
   some_file there = sym (among_keys tree path) ∙ sym same ∙ there
 
 pub absent_answer : (tree : Files) (path : List ℕ) (paths : List (List ℕ)) → ShowsPair paths tree path
-    → (how : How) (scope : Scope) (additions : Additions) (own : OwnNames) (b : Bool) → is_among paths path ≡ false
+    → (how : How) (scope : Scope) (additions : Additions) (own : OwnKinds) (b : Bool) → is_among paths path ≡ false
     → is_folder_of paths path ≡ b → annotated_at how scope additions own tree path ≡ cond b
     (refused (refusals.IsFolder (place.Path path))) (refused (refusals.NoSuchPath path))
 absent_answer tree path paths are how scope additions own b none folder =
@@ -132,7 +132,7 @@ absent_answer tree path paths are how scope additions own b none folder =
     (sym (are.folder (sym are.there ∙ none)) ∙ folder)
 
 pub absent_amended : (tree : Files) (path : List ℕ) (paths : List (List ℕ)) → ShowsPair paths tree path
-    → (amendments : Amendments) (scope : Scope) (own : OwnNames) (b : Bool) → is_among paths path ≡ false
+    → (amendments : Amendments) (scope : Scope) (own : OwnKinds) (b : Bool) → is_among paths path ≡ false
     → is_folder_of paths path ≡ b
     → amended_at amendments scope own tree path ≡ cond b (refused (refusals.IsFolder (place.Path path)))
     (refused (refusals.NoSuchPath path))

@@ -12,7 +12,8 @@ use Rattle.reuse_plan.specs.Annotated.{pair_at, IsAnnotated, Annotates, IsSkippe
 use Rattle.reuse_command.specs.Command.{has_root}
 use Rattle.reuse_change.specs.Listing.{ArePaths, is_folder}
 use Rattle.reuse_plan.specs.Outcome.{Edit, edited, outcome_of, edits_of, is_too_many, annotation_at, annotations_by}
-use Rattle.reuse_plan.specs.TreeStyles.{OwnNames, styles_in}
+use Rattle.reuse_plan.specs.TreeStyles.{styles_in}
+use Rattle.reuse_style.specs.Kinds.{OwnKinds}
 use Rattle.reuse_plan.specs.Selected.{selected_paths}
 use Rattle.reuse_command.specs.declared.command.Command.TheVariants.{Annotate}
 use Rattle.reuse_command.specs.declared.command.Place.{Place}
@@ -41,6 +42,8 @@ use Rattle.reuse_style.specs.declared.style.Style.{Style}
 use Rattle.reuse_header.specs.Header.{header_of}
 use Rattle.reuse_text.specs.declared.TheConstants.{LONGEST_FILE}
 use Rattle.reuse_command.specs.Covered.{is_covered}
+use Rattle.reuse_header.specs.declared.harm.Harm.{Harm}
+use Rattle.reuse_plan.specs.Harmed.{harm_in}
 use Rattle.reuse_plan.specs.PathOutcomes.{path_outcome_by, path_outcome_of, limit_path_outcomes, path_outcomes_of}
 use Rattle.reuse_command.specs.declared.path_outcome.PathOutcome.{PathOutcome}
 use Rattle.reuse_command.specs.declared.path_outcome.PathOutcome.TheVariants as path_outcome
@@ -53,7 +56,7 @@ use Rattle.reuse_plan.specs.Skipped.{has_tagged, is_skipped_at, is_skipped_where
 
 module _ (replaces : ReplacesBlock) (inserts : InsertsBlock) (replaces_beside : ReplacesNeighbour)
     (inserts_beside : InsertsNeighbour)
-    (additions : Additions) (how : How) (scope : Scope) (own : OwnNames) (tree : Files) where
+    (additions : Additions) (how : How) (scope : Scope) (own : OwnKinds) (tree : Files) where
   abbrev pub at : List ℕ → Result (Option Edit) Refusal
   at = annotated_at how scope additions own tree
 
@@ -96,7 +99,7 @@ module _ (replaces : ReplacesBlock) (inserts : InsertsBlock) (replaces_beside : 
 module _ (replaces : ReplacesBlock) (inserts : InsertsBlock) (replaces_beside : ReplacesNeighbour)
     (inserts_beside : InsertsNeighbour)
     (places : List Place) (additions : Additions) (how : How) (scope : Scope) (tree : Files) where
-  by_names : (edits : List Edit) (styles : Result OwnNames Refusal) → styles_in tree ≡ styles
+  by_names : (edits : List Edit) (styles : Result OwnKinds Refusal) → styles_in tree ≡ styles
       → edits_by_names places additions how scope tree styles ≡ Ok edits
       → Annotates places additions how scope tree (edited tree edits)
   by_names edits (Err refusal) is h = absurd (cc)
@@ -140,11 +143,11 @@ test_from_root false false through = refl
 test_from_root false true through = absurd (false≢true (through refl))
 
 module _ (places : List Place) (additions : Additions) (how : How) (scope : Scope) (tree : Files) where
-  abbrev edits_named : Result OwnNames Refusal → Result (List Edit) Refusal
+  abbrev edits_named : Result OwnKinds Refusal → Result (List Edit) Refusal
   edits_named styles = edits_by_names places additions how scope tree styles
 
   accepts : ReplacesBlock → InsertsBlock → ReplacesNeighbour → InsertsNeighbour
-      → (edits : List Edit) (styles : Result OwnNames Refusal) → styles_in tree ≡ styles → edits_named styles ≡ Ok edits
+      → (edits : List Edit) (styles : Result OwnKinds Refusal) → styles_in tree ≡ styles → edits_named styles ≡ Ok edits
       → FitsEntry (Annotate places additions how scope) tree
       → CanAnnotate places additions how scope tree
   accepts replaces inserts replaces_beside inserts_beside edits (Err refusal) is h fits = absurd (cc)
@@ -199,7 +202,7 @@ abbrev Reports : Option Edit → Type 0 → Bool → Type 0
 Reports given P true = P × (given ≡ None)
 Reports given P false = P → ⊥
 
-module _ (how : How) (scope : Scope) (additions : Additions) (own : OwnNames) (tree : Files) (path bytes : List ℕ)
+module _ (how : How) (scope : Scope) (additions : Additions) (own : OwnKinds) (tree : Files) (path bytes : List ℕ)
     (given : Option Edit) where
   abbrev ReportsOf : Bool → Type 0
   ReportsOf = Reports given (IsSkipped scope own path bytes (pair_at tree path))
@@ -243,7 +246,7 @@ module _ (how : How) (scope : Scope) (additions : Additions) (own : OwnNames) (t
       (edit_neighbour how scope additions tree path (get tree (neighbour_of path))) given h)
   by_aim (Ok Nowhere) reason h = (inl (reason Nowhere refl), sym (same_Ok None given h))
 
-module _ (how : How) (scope : Scope) (additions : Additions) (own : OwnNames) (tree : Files) (path : List ℕ) where
+module _ (how : How) (scope : Scope) (additions : Additions) (own : OwnKinds) (tree : Files) (path : List ℕ) where
   reported_of : (given : Option Edit) → annotated_at how scope additions own tree path ≡ Ok given
       → (bytes : List ℕ) × (get tree path ≡ Some bytes)
       × Reports given (IsSkipped scope own path bytes (pair_at tree path)) (is_skipped scope own tree path)
@@ -286,8 +289,9 @@ module _ (how : How) (scope : Scope) (additions : Additions) (own : OwnNames) (t
       subst (λ bs. IsSkipped scope own path bs (pair_at tree path))
       (same_Some skipped.0 reported.0 (sym skipped.1 ∙ reported.1)) skipped.2 in
       let by = of_test (is_skipped scope own tree path) reported.2 is in
-      ap (λ b. path_outcome_by path b (annotated_at how scope additions own tree path)) by.0
-      ∙ ap (path_outcome_by path true) (h ∙ ap done by.1)
+      let harm = harm_in scope own tree path in
+      ap (λ b. path_outcome_by path b harm (annotated_at how scope additions own tree path)) by.0
+      ∙ ap (path_outcome_by path true harm) (h ∙ ap done by.1)
     where
       of_test : {P : Type 0} (b : Bool) → Reports given P b → P → (b ≡ true) × (given ≡ None)
       of_test true states p = (refl, states.1)
@@ -295,19 +299,19 @@ module _ (how : How) (scope : Scope) (additions : Additions) (own : OwnNames) (t
 
 -- ---- one path outcome
 
-reported_skipped : (p path : List ℕ) (b : Bool) (r : Result (Option Edit) Refusal)
-    → path_outcome_by p b r ≡ path_outcome.Skipped path → (p ≡ path) × (b ≡ true) × (r ≡ Ok None)
-reported_skipped p path b (Err refusal) e = absurd (cc)
-reported_skipped p path b (Ok (Some edit)) e = absurd (cc)
-reported_skipped p path true (Ok None) e = (cc, refl, refl)
-reported_skipped p path false (Ok None) e = absurd (cc)
+reported_skipped : (p path : List ℕ) (b : Bool) (harm : Option Harm) (r : Result (Option Edit) Refusal)
+    → path_outcome_by p b harm r ≡ path_outcome.Skipped path → (p ≡ path) × (b ≡ true) × (r ≡ Ok None)
+reported_skipped p path b harm (Err refusal) e = absurd (cc)
+reported_skipped p path b harm (Ok (Some edit)) e = absurd (cc)
+reported_skipped p path true harm (Ok None) e = (cc, refl, refl)
+reported_skipped p path false harm (Ok None) e = absurd (cc)
 
-reported_unchanged : (p path : List ℕ) (b : Bool) (r : Result (Option Edit) Refusal)
-    → path_outcome_by p b r ≡ path_outcome.Unchanged path → (p ≡ path) × (r ≡ Ok None)
-reported_unchanged p path b (Err refusal) e = absurd (cc)
-reported_unchanged p path b (Ok (Some edit)) e = absurd (cc)
-reported_unchanged p path true (Ok None) e = absurd (cc)
-reported_unchanged p path false (Ok None) e = (cc, refl)
+reported_unchanged : (p path : List ℕ) (b : Bool) (harm : Option Harm) (r : Result (Option Edit) Refusal)
+    → path_outcome_by p b harm r ≡ path_outcome.Unchanged path → (p ≡ path) × (r ≡ Ok None)
+reported_unchanged p path b harm (Err refusal) e = absurd (cc)
+reported_unchanged p path b harm (Ok (Some edit)) e = absurd (cc)
+reported_unchanged p path true harm (Ok None) e = absurd (cc)
+reported_unchanged p path false harm (Ok None) e = (cc, refl)
 
 -- ---- the path outcomes of all paths
 
@@ -344,7 +348,7 @@ no_limit (Ok edits) reported none c = by_size (is_too_many edits) c
     by_size true c = none refusals.TooMany (in_one (path_outcome.Refused refusals.TooMany) reported c)
     by_size false c = none_in reported c
 
-module _ (places : List Place) (additions : Additions) (how : How) (scope : Scope) (own : OwnNames) (tree : Files)
+module _ (places : List Place) (additions : Additions) (how : How) (scope : Scope) (own : OwnKinds) (tree : Files)
     (styles : styles_in tree ≡ Ok own) where
   abbrev report : List ℕ → PathOutcome
   report path = path_outcome_of (annotation_at how scope additions own tree path)
@@ -394,7 +398,7 @@ module _ (places : List Place) (additions : Additions) (how : How) (scope : Scop
   skipped_reported path c =
       let found = reported_at (path_outcome.Skipped path) (λ refusal e. cc) c in
       let parts = reported_skipped found.0 path (is_skipped scope own tree found.0)
-      (annotated_at how scope additions own tree found.0) found.2 in
+      (harm_in scope own tree found.0) (annotated_at how scope additions own tree found.0) found.2 in
       subst (λ p. Contains (selected_paths scope places tree) p × IsSkippedAt scope own tree p) parts.0 (
         Contains-from_in (selected_paths scope places tree) found.0 found.1,
         skips how scope additions own tree found.0 parts.2 parts.1,
@@ -407,13 +411,13 @@ module _ (places : List Place) (additions : Additions) (how : How) (scope : Scop
   left_reported path (inl c) =
       let found = reported_at (path_outcome.Unchanged path) (λ refusal e. cc) c in
       let parts = reported_unchanged found.0 path (is_skipped scope own tree found.0)
-      (annotated_at how scope additions own tree found.0) found.2 in
+      (harm_in scope own tree found.0) (annotated_at how scope additions own tree found.0) found.2 in
       subst (λ p. In p (selected_paths scope places tree) × (annotated_at how scope additions own tree p ≡ Ok None))
       parts.0 (found.1, parts.1)
   left_reported path (inr c) =
       let found = reported_at (path_outcome.Skipped path) (λ refusal e. cc) c in
       let parts = reported_skipped found.0 path (is_skipped scope own tree found.0)
-      (annotated_at how scope additions own tree found.0) found.2 in
+      (harm_in scope own tree found.0) (annotated_at how scope additions own tree found.0) found.2 in
       subst (λ p. In p (selected_paths scope places tree) × (annotated_at how scope additions own tree p ≡ Ok None))
       parts.0 (found.1, parts.2)
 

@@ -31,7 +31,8 @@ use Rattle.reuse_change.specs.Listing.{is_folder, is_among}
 use Rattle.reuse_plan.specs.Outcome.{edits_of, with_file, edited, path_edits_of, outcome_of}
 use Rattle.reuse_plan.specs.Reverting.{taken_back_on, taken_back_unless, stands_as_written, is_short, put_back}
 use Rattle.reuse_plan.specs.Reverting.{taken_back}
-use Rattle.reuse_plan.specs.TreeStyles.{OwnNames, styles_in}
+use Rattle.reuse_plan.specs.TreeStyles.{styles_in}
+use Rattle.reuse_style.specs.Kinds.{OwnKinds}
 use Rattle.reuse_plan.specs.Selected.{amended_paths, selected_paths}
 use Rattle.reuse_command.specs.declared.command.Command.{Command}
 use Rattle.reuse_command.specs.declared.command.Command.TheVariants.{Annotate, Amend, ConvertDep5, Download, Revert}
@@ -58,6 +59,7 @@ use Rattle.std.proofs.lemmas.List.{append-nil}
 use Rattle.std.proofs.lemmas.List.Elements.{All-contains, Contains-get_or, recursion_from_All, All-from_recursion}
 use Rattle.std.proofs.lemmas.List.Folds.{list_any_at, Any-from_list_any}
 use Rattle.std.proofs.lemmas.Slice.Eq.{bytes_eq-Decides}
+use Rattle.reuse_header.specs.declared.harm.Harm.{Harm}
 use Rattle.reuse_plan.specs.PathOutcomes.{path_outcome_by, path_outcome_of, limit_path_outcomes, path_outcomes_of}
 use Rattle.reuse_plan.specs.PathEdits.{PathEdit, edits_in}
 use Rattle.reuse_command.specs.declared.path_outcome.PathOutcome.{PathOutcome}
@@ -112,7 +114,7 @@ module _
           there path path bytes (header.annotation_of style how additions bytes) edit here
           (unskipped (scope.skip_existing && is_some (header_of style bytes)) _ edit e).1
 
-      of_annotated : (own : OwnNames) → annotated_at how scope additions own tree path ≡ some_edit edit → P edit
+      of_annotated : (own : OwnKinds) → annotated_at how scope additions own tree path ≡ some_edit edit → P edit
       of_annotated own e = of_file (get tree path) refl e
         where
           of_file : (file : Option (List ℕ)) → get tree path ≡ file
@@ -177,7 +179,7 @@ module _
     each_edit (Annotate places additions how scope) edits wanted h =
         by_styles (styles_in tree) (sym (of_annotation places additions how scope tree) ∙ h)
       where
-        by_styles : (styles : Result OwnNames Refusal)
+        by_styles : (styles : Result OwnKinds Refusal)
             → edits_by_names places additions how scope tree styles ≡ Ok edits → AllByRecursion P edits
         by_styles (Err refusal) e = absurd (cc)
         by_styles (Ok own) e =
@@ -188,12 +190,12 @@ module _
     each_edit (Amend places amendments scope) edits wanted h =
         by_styles (styles_in tree) (sym (of_amendment places amendments scope tree) ∙ h)
       where
-        of_amended : (own : OwnNames) (path : List ℕ) (edit : Edit)
+        of_amended : (own : OwnKinds) (path : List ℕ) (edit : Edit)
             → amended_at amendments scope own tree path ≡ some_edit edit → P edit
         of_amended own path edit e = let h = amends_there amendments scope own tree path edit e in
             there path h.at h.bytes (Ok h.one) edit h.here h.by
 
-        by_styles : (styles : Result OwnNames Refusal)
+        by_styles : (styles : Result OwnKinds Refusal)
             → amendments_by_names places amendments scope tree styles ≡ Ok edits → AllByRecursion P edits
         by_styles (Err refusal) e = absurd (cc)
         by_styles (Ok own) e =
@@ -215,37 +217,40 @@ module _
 
 -- the path outcome is that this path changes
 is_change : List ℕ → PathOutcome → Bool
-is_change path (path_outcome.Changes other) = bytes_eq path other
+is_change path (path_outcome.Changes other harm) = bytes_eq path other
 is_change path reported = false
 
 is_that : (path : List ℕ) (reported : PathOutcome) → is_change path reported ≡ true
-    → reported ≡ path_outcome.Changes path
+    → (harm : Option Harm) × (reported ≡ path_outcome.Changes path harm)
 unfolding is_change
-is_that path (path_outcome.Changes other) e = ap path_outcome.Changes (sym ((bytes_eq-Decides path other).0 e))
+is_that path (path_outcome.Changes other harm) e =
+    (harm, ap (λ p. path_outcome.Changes p harm) (sym ((bytes_eq-Decides path other).0 e)))
 is_that path reported e = absurd (false≢true e)
 
-it_is : (path : List ℕ) → is_change path (path_outcome.Changes path) ≡ true
+it_is : (path : List ℕ) (harm : Option Harm) → is_change path (path_outcome.Changes path harm) ≡ true
 unfolding is_change
-it_is path = (bytes_eq-Decides path path).1 refl
+it_is path harm = (bytes_eq-Decides path path).1 refl
 
 changes_where : (path_outcomes : List PathOutcome) (path : List ℕ)
-    → Contains path_outcomes (path_outcome.Changes path) ↔ (list_any (is_change path) path_outcomes ≡ true)
+    → ((harm : Option Harm) × Contains path_outcomes (path_outcome.Changes path harm))
+    ↔ (list_any (is_change path) path_outcomes ≡ true)
 changes_where path_outcomes path = (
-  λ h.
-      All-contains (λ (f : PathOutcome). f ≡ path_outcome.Changes path → list_any (is_change path) path_outcomes ≡ true)
-      path_outcomes (path_outcome.Changes path)
-      (λ i d lt same. list_any_at (is_change path) path_outcomes i d lt (ap (is_change path) same ∙ it_is path)) h refl,
+  λ (harm, h).
+      All-contains (λ (f : PathOutcome).
+      f ≡ path_outcome.Changes path harm → list_any (is_change path) path_outcomes ≡ true) path_outcomes
+      (path_outcome.Changes path harm) (λ i d lt same.
+      list_any_at (is_change path) path_outcomes i d lt (ap (is_change path) same ∙ it_is path harm)) h refl,
   λ e.
       let found = Any-from_list_any (is_change path) path_outcomes e in
-      subst (Contains path_outcomes) (found.3 ∙ is_that path found.1 found.4)
-      (Contains-get_or path_outcomes found.0 found.1 found.2),
+      let that = is_that path found.1 found.4 in
+      (that.0, subst (Contains path_outcomes) (found.3 ∙ that.1) (Contains-get_or path_outcomes found.0 found.1 found.2)),
 )
 
-no_change : (path other : List ℕ) (skipped : Bool) (path_outcomes : List PathOutcome) → list_any (is_change path)
-    (path_outcome_by other skipped (Ok None) ∷ path_outcomes) ≡ list_any (is_change path) path_outcomes
+no_change : (path other : List ℕ) (skipped : Bool) (harm : Option Harm) (path_outcomes : List PathOutcome)
+    → list_any (is_change path) (path_outcome_by other skipped harm (Ok None) ∷ path_outcomes) ≡ list_any (is_change path) path_outcomes
 unfolding is_change
-no_change path other true path_outcomes = refl
-no_change path other false path_outcomes = refl
+no_change path other true harm path_outcomes = refl
+no_change path other false harm path_outcomes = refl
 
 -- where nothing is refused, the paths that change are those of the edits
 of_paths : (path : List ℕ) (all : List PathEdit) (edits : List Edit) → edits_in all ≡ Ok edits
@@ -254,10 +259,10 @@ unfolding is_change
 of_paths path [] edits h = ap (λ es. is_among (paths_at es) path) (sym (no_edits edits h))
 of_paths path (here ∷ all) edits h = elim (first_is here.edit (edits_in all) edits h) [
   | inl none ↦
-      ap (λ r. list_any (is_change path) (path_outcome_by here.path here.skipped r ∷ map path_outcome_of all)) none.0
-      ∙ no_change path here.path here.skipped (map path_outcome_of all) ∙ of_paths path all edits none.1
+      ap (λ r. list_any (is_change path) (path_outcome_by here.path here.skipped here.harm r ∷ map path_outcome_of all)) none.0
+      ∙ no_change path here.path here.skipped here.harm (map path_outcome_of all) ∙ of_paths path all edits none.1
   | inr some ↦
-      ap (λ r. list_any (is_change path) (path_outcome_by here.path here.skipped r ∷ map path_outcome_of all)) some.2
+      ap (λ r. list_any (is_change path) (path_outcome_by here.path here.skipped here.harm r ∷ map path_outcome_of all)) some.2
       ∙ ap (λ b. bytes_eq path some.0.path || b) (of_paths path all some.1 some.3)
       ∙ ap (λ es. is_among (paths_at es) path) (sym some.4)
 ]
@@ -395,7 +400,8 @@ of_all command tree after path holds h =
 
 pub changes_where_trees_differ : (command : Command) (tree after : Files) (path : List ℕ) → HoldsEntry command
     → outcome_of command tree ≡ Ok after
-    → Contains (path_outcomes_of command tree) (path_outcome.Changes path) ↔ (get tree path ≢ get after path)
+    → ((harm : Option Harm) × Contains (path_outcomes_of command tree) (path_outcome.Changes path harm))
+    ↔ (get tree path ≢ get after path)
 changes_where_trees_differ command tree after path holds h =
     let here = changes_where (path_outcomes_of command tree) path in
     let there = of_all command tree after path holds h in

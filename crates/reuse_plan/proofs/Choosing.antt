@@ -333,7 +333,8 @@ left_out globs path folder under e =
     ∙ or_right (matches_glob glob (chars path)) true refl) globs e
 
 module _ (scope : Scope) (given : List (List ℕ)) (path : List ℕ) where
-  pub chosen_free : (works_on : List ℕ → Bool) → is_chosen works_on scope path ≡ true → is_pruned (is_passed_over scope given) path ≡ false
+  pub chosen_free : (works_on : List ℕ → Bool) → is_chosen works_on scope path ≡ true
+      → is_pruned (is_passed_over scope given) path ≡ false
   chosen_free works_on chosen = false_from_ne_true (is_pruned (is_passed_over scope given) path) (λ e.
       let outer =
       and_parts (works_on path && is_listed scope.listed path) (not (matches_one scope.excluded path)) chosen in
@@ -428,7 +429,8 @@ module _ (works_on : List ℕ → Bool) (scope : Scope) (places : List Place) (t
   asked_under path folder h e = asked_at path folder (in_pairs given folder (in_given folder h))
       (ap (λ b. bytes_eq path folder || b) e ∙ or_right (bytes_eq path folder) true refl)
 
-  chosen_wanted : (path : List ℕ) → is_asked folders path ≡ true → is_chosen works_on scope path ≡ true → wanted path ≡ true
+  chosen_wanted : (path : List ℕ) → is_asked folders path ≡ true → is_chosen works_on scope path ≡ true
+      → wanted path ≡ true
   chosen_wanted path asked chosen = and_from _ _ asked (ap not (chosen_free scope given path works_on chosen))
 
   shows_places : (left : List Place) → ((path : List ℕ) → In path (paths_among left) → In path (paths_among places))
@@ -465,7 +467,8 @@ module _ (works_on : List ℕ → Bool) (scope : Scope) (places : List Place) (t
       test_from_under (neighbour_of path) folder
       (x.0 ++ codes ".license", ap (λ p. p ++ codes ".license") x.1 ∙ append_assoc folder (47 ∷ x.0) (codes ".license"))
 
-  shows_one : AreFiles tree → (t : List ℕ) → In t (flat_map (expanded (is_chosen works_on scope) tree) places) → ShowsPair listed tree t
+  shows_one : AreFiles tree → (t : List ℕ) → In t (flat_map (expanded (is_chosen works_on scope) tree) places)
+      → ShowsPair listed tree t
   shows_one are t h = elim (from_expanded (is_chosen works_on scope) tree t places h) [
     | inl named ↦ (
         let here = in_given t named.0 in
@@ -486,7 +489,8 @@ module _ (works_on : List ℕ → Bool) (scope : Scope) (places : List Place) (t
         ])
   ]
 
-  pub shows_selected : AreFiles tree → ShowsEach (Listed listed) tree (set_of (flat_map (expanded (is_chosen works_on scope) tree) places))
+  pub shows_selected : AreFiles tree
+      → ShowsEach (Listed listed) tree (set_of (flat_map (expanded (is_chosen works_on scope) tree) places))
   shows_selected are = record {
     each = all_of_in (ShowsPair listed tree) (set_of (flat_map (expanded (is_chosen works_on scope) tree) places))
         (λ t h. shows_one are t (In-set_of (flat_map (expanded (is_chosen works_on scope) tree) places) t h));

@@ -23,7 +23,8 @@ use Rattle.reuse_plan.specs.PathEdits.{PathEdit, refused_with, refused_alone, al
 use Rattle.reuse_plan.specs.PathEdits.{edits_in}
 use Rattle.reuse_plan.specs.Reverting.{back_or_refused, reverted_at, taken_back_unless}
 use Rattle.reuse_plan.specs.StyleEdits.{style_edits}
-use Rattle.reuse_plan.specs.TreeStyles.{OwnNames, styles_in}
+use Rattle.reuse_plan.specs.TreeStyles.{styles_in}
+use Rattle.reuse_style.specs.Kinds.{OwnKinds}
 use Rattle.reuse_plan.specs.Selected.{amended_paths, selected_paths}
 use Rattle.reuse_command.specs.declared.command.Command.TheVariants.{Annotate, Amend, ConvertDep5, Download, Revert}
 use Rattle.reuse_command.specs.declared.command.Command.TheVariants.{AddStyles}
@@ -47,7 +48,7 @@ abbrev pub edits_at_places : (List ℕ → Result (Option Edit) Refusal) → Sco
 edits_at_places at scope places paths =
     if not scope.recursive && has_root places then Err (IsFolder place.Root) else edits_at at paths
 
-abbrev pub edits_by_names : List Place → Additions → How → Scope → Files → Result OwnNames Refusal
+abbrev pub edits_by_names : List Place → Additions → How → Scope → Files → Result OwnKinds Refusal
     → Result (List Edit) Refusal
 edits_by_names places additions how scope tree (Err refusal) = Err refusal
 edits_by_names places additions how scope tree (Ok own) =
@@ -56,7 +57,7 @@ edits_by_names places additions how scope tree (Ok own) =
 abbrev pub annotation_edits : List Place → Additions → How → Scope → Files → Result (List Edit) Refusal
 annotation_edits places additions how scope tree = edits_by_names places additions how scope tree (styles_in tree)
 
-abbrev pub amendments_by_names : List Place → Amendments → Scope → Files → Result OwnNames Refusal
+abbrev pub amendments_by_names : List Place → Amendments → Scope → Files → Result OwnKinds Refusal
     → Result (List Edit) Refusal
 amendments_by_names places amendments scope tree (Err refusal) = Err refusal
 amendments_by_names places amendments scope tree (Ok own) =
@@ -97,7 +98,7 @@ pub of_annotation : (places : List Place) (additions : Additions) (how : How) (s
     → edits_of (Annotate places additions how scope) tree ≡ annotation_edits places additions how scope tree
 of_annotation places additions how scope tree = by_styles (styles_in tree)
   where
-    by_styles : (styles : Result OwnNames Refusal) → edits_in
+    by_styles : (styles : Result OwnKinds Refusal) → edits_in
         (annotations_by places additions how scope tree styles) ≡ edits_by_names places additions how scope tree styles
     by_styles (Err refusal) = refl
     by_styles (Ok own) = edits_of_places (annotation_at how scope additions own tree) (selected_paths scope places tree)
@@ -107,7 +108,7 @@ pub of_amendment : (places : List Place) (amendments : Amendments) (scope : Scop
     → edits_of (Amend places amendments scope) tree ≡ amendment_edits places amendments scope tree
 of_amendment places amendments scope tree = by_styles (styles_in tree)
   where
-    by_styles : (styles : Result OwnNames Refusal) → edits_in
+    by_styles : (styles : Result OwnKinds Refusal) → edits_in
         (amendments_by places amendments scope tree styles) ≡ amendments_by_names places amendments scope tree styles
     by_styles (Err refusal) = refl
     by_styles (Ok own) = edits_of_places (amendment_at amendments scope own tree)

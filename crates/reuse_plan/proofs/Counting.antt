@@ -45,7 +45,7 @@ none_at_limit (Ok edits) = by_size (is_too_many edits)
 none_behind : (path_outcomes others : List PathOutcome) → skipped_count others ≡ 0
     → skipped_count (path_outcomes ++ others) ≡ skipped_count path_outcomes
 none_behind [] others none = none
-none_behind (path_outcome.Changes path ∷ path_outcomes) others none = none_behind path_outcomes others none
+none_behind (path_outcome.Changes path harm ∷ path_outcomes) others none = none_behind path_outcomes others none
 none_behind (path_outcome.Unchanged path ∷ path_outcomes) others none = none_behind path_outcomes others none
 none_behind (path_outcome.Skipped path ∷ path_outcomes) others none = ap suc (none_behind path_outcomes others none)
 none_behind (path_outcome.Refused refusal ∷ path_outcomes) others none = none_behind path_outcomes others none

@@ -33,7 +33,7 @@ use Rattle.reuse_plan.specs.declared.annotation.Annotation.{Annotation}
 use Rattle.reuse_command.specs.declared.reply.Refusal.{Refusal}
 use Rattle.reuse_plan.proofs.SpliceLemmas.{makes_splice}
 use Rattle.reuse_plan.proofs.AnnotatedFiles.{aimed}
-use Rattle.reuse_plan.specs.Harmed.{harm_at, harm_in, harm_where, new_harm}
+use Rattle.reuse_plan.specs.Harmed.{harm_at, harm_in, harm_where, harm_inside}
 use Rattle.reuse_plan.specs.Skipped.{has_tagged, is_skipped, is_skipped_at, is_skipped_where}
 use Rattle.reuse_plan.specs.PathEdits.{PathEdit}
 
@@ -305,10 +305,10 @@ unskipped path harm edit = record { path = path; skipped = false; harm = harm; e
 module _ (asked : Annotation) (path : List ℕ) where
   pub inside_unskipped : (bytes : List ℕ) (style : Style)
       → (asked.scope.now.skip_existing && is_some (header_of style bytes)) ≡ false
-      → path_inside_by asked path bytes style ≡ unskipped path (new_harm style bytes)
+      → path_inside_by asked path bytes style ≡ unskipped path (harm_inside style bytes)
       (edit_by path path bytes (header.annotation_of style asked.how.now asked.additions.now bytes))
   inside_unskipped bytes style kept =
-      ap₂ (λ s e. record { path = path; skipped = s; harm = new_harm style bytes; edit = e }) kept
+      ap₂ (λ s e. record { path = path; skipped = s; harm = harm_inside style bytes; edit = e }) kept
       (inside_is asked path bytes style kept)
 
   pub beside_unskipped : (tree : Files) (bytes : List ℕ) → nat_lt LONGEST_FILE (length bytes) ≡ false

@@ -33,7 +33,8 @@ use Rattle.reuse_command.specs.Covered.{last_part, is_in, is_outside, has_stem, 
 use Rattle.reuse_change.specs.Listing.{ArePaths, is_among, is_folder}
 use Rattle.reuse_plan.specs.Outcome.{Edit, edits_of}
 use Rattle.reuse_change.specs.Tree.{is_of_tree}
-use Rattle.reuse_plan.specs.TreeStyles.{OwnNames, styles_in}
+use Rattle.reuse_plan.specs.TreeStyles.{styles_in}
+use Rattle.reuse_style.specs.Kinds.{OwnKinds}
 use Rattle.reuse_plan.specs.Selected.{amended_paths, selected_paths}
 use Rattle.reuse_command.specs.declared.command.Command.{Command}
 use Rattle.reuse_command.specs.declared.command.Command.TheVariants.{Annotate, Amend, ConvertDep5, Download, Revert}
@@ -218,7 +219,7 @@ module _ (how : How) (scope : Scope) (additions : Additions) (tree : Files) (pat
   target_at bytes (Ok InNeighbour) e = inr (beside_at e)
   target_at bytes (Ok (Inside style)) e = inl (inside_at bytes style e)
 
-  pub is_placed : (own : OwnNames) → annotated_at how scope additions own tree path ≡ some_edit edit
+  pub is_placed : (own : OwnKinds) → annotated_at how scope additions own tree path ≡ some_edit edit
       → IsPlaced tree path edit
   is_placed own e = of_file (get tree path) refl e
     where
@@ -235,7 +236,7 @@ module _ (how : How) (scope : Scope) (additions : Additions) (tree : Files) (pat
           }
 
 -- an amendment is of a file that is there
-pub amendment_placed : (amendments : Amendments) (scope : Scope) (own : OwnNames) (tree : Files) (path : List ℕ)
+pub amendment_placed : (amendments : Amendments) (scope : Scope) (own : OwnKinds) (tree : Files) (path : List ℕ)
     (edit : Edit) → amended_at amendments scope own tree path ≡ some_edit edit → IsPlaced tree path edit
 amendment_placed amendments scope own tree path edit e =
     let h = amends_there amendments scope own tree path edit e in
@@ -407,7 +408,7 @@ pub command_fits : (command : Command) (tree : Files) → HoldsEntry command →
 command_fits (Annotate places additions how scope) tree holds are edits h =
     by_names (styles_in tree) (sym (of_annotation places additions how scope tree) ∙ h)
   where
-    by_names : (styles : Result OwnNames Refusal) → edits_by_names places additions how scope tree styles ≡ Ok edits
+    by_names : (styles : Result OwnKinds Refusal) → edits_by_names places additions how scope tree styles ≡ Ok edits
         → AreFit tree edits
     by_names (Err refusal) e = absurd (cc)
     by_names (Ok own) e =
@@ -419,7 +420,7 @@ command_fits (Annotate places additions how scope) tree holds are edits h =
 command_fits (Amend places amendments scope) tree holds are edits h =
     by_names (styles_in tree) (sym (of_amendment places amendments scope tree) ∙ h)
   where
-    by_names : (styles : Result OwnNames Refusal) → amendments_by_names places amendments scope tree styles ≡ Ok edits
+    by_names : (styles : Result OwnKinds Refusal) → amendments_by_names places amendments scope tree styles ≡ Ok edits
         → AreFit tree edits
     by_names (Err refusal) e = absurd (cc)
     by_names (Ok own) e =

@@ -19,7 +19,7 @@ use Rattle.reuse_plan.specs.Annotated.{IsStyleOf, HasKind, Pair}
 use Rattle.reuse_plan.specs.Tables.{is_table}
 use Rattle.reuse_plan.proofs.TableLemmas.{not_table}
 use Rattle.reuse_command.specs.Covered.{is_covered}
-use Rattle.reuse_plan.specs.TreeStyles.{OwnNames}
+use Rattle.reuse_style.specs.Kinds.{OwnKinds}
 use Rattle.reuse_plan.specs.Selected.{amended_paths}
 use Rattle.reuse_command.specs.declared.command.Place.{Place}
 use Rattle.reuse_command.specs.declared.command.Scope.{Scope}
@@ -28,10 +28,10 @@ use Rattle.reuse_plan.proofs.Results.{same_Ok}
 
 -- ---- one file
 
--- a name without a style has none
-module _ (scope : Scope) (own : OwnNames) (path : List ℕ) (style : Style) where
-  styled : (named : Kind) → (kind.Style style ≡ named → ⊥) → IsStyleOf scope own path style
-      → HasKind scope own path named → ⊥
+-- a file of a kind without a style has none
+module _ (scope : Scope) (own : OwnKinds) (path bytes : List ℕ) (style : Style) where
+  styled : (named : Kind) → (kind.Style style ≡ named → ⊥) → IsStyleOf scope own path bytes style
+      → HasKind scope own path bytes named → ⊥
   styled named other (inl asked) has = none-some style (sym has.0 ∙ asked)
   styled named other (inr by_name) has = other (sym by_name.1 ∙ has.1)
 
@@ -41,22 +41,22 @@ module _ (scope : Scope) (own : OwnNames) (path : List ℕ) (style : Style) wher
   unknown : kind.Style style ≡ kind.Unknown → ⊥
   unknown e = cc
 
-module _ (amendments : Amendments) (scope : Scope) (own : OwnNames) (path bytes : List ℕ) (old : Pair) where
+module _ (amendments : Amendments) (scope : Scope) (own : OwnKinds) (path bytes : List ℕ) (old : Pair) where
   has_place : (new : Pair) → HasNoPlace scope own path bytes old
       → IsFileAmended amendments scope own path bytes old new → ⊥
   has_place new none file = elim none.1 [
     | inl binary ↦ false≢true (sym binary ∙ file.text)
     | inr named ↦ elim named [
       | inl is ↦
-          styled scope own path file.style kind.Uncommentable (uncommentable scope own path file.style) file.of_style is
-      | inr is ↦ styled scope own path file.style kind.Unknown (unknown scope own path file.style) file.of_style is
+          styled scope own path bytes file.style kind.Uncommentable (uncommentable scope own path bytes file.style) file.of_style is
+      | inr is ↦ styled scope own path bytes file.style kind.Unknown (unknown scope own path bytes file.style) file.of_style is
     ]
   ]
 
   both_files : (new other : Pair) → IsFileAmended amendments scope own path bytes old new
       → IsFileAmended amendments scope own path bytes old other → new ≡ other
   both_files new other one two =
-      let style = one_style scope own path one.style two.style one.of_style two.of_style in
+      let style = one_style scope own path bytes one.style two.style one.of_style two.of_style in
       let made = same_Ok one.made two.made
       (sym one.by_rules ∙ ap (λ s. amended_file bytes (amendment_of s amendments bytes)) style ∙ two.by_rules) in
       one.holds ∙ ap (λ (m : List ℕ). record { file = Some m; neighbour = None }) made ∙ sym two.holds
@@ -87,7 +87,7 @@ module _ (amendments : Amendments) (scope : Scope) (own : OwnNames) (path bytes 
   becomes_one new other (inr (inr one)) (inr (inl two)) = absurd (no_neighbour_there new two.alone one)
   becomes_one new other (inr (inr one)) (inr (inr two)) = both_neighbours new other one two
 
-covered_one : (amendments : Amendments) (scope : Scope) (own : OwnNames) (path : List ℕ) (old new other : Pair)
+covered_one : (amendments : Amendments) (scope : Scope) (own : OwnKinds) (path : List ℕ) (old new other : Pair)
     → IsCoveredAmended amendments scope own path old new
     → IsCoveredAmended amendments scope own path old other → new ≡ other
 covered_one amendments scope own path old new other one two =
@@ -108,7 +108,7 @@ both_tables amendments old new other one two =
 not_both : (path : List ℕ) → is_table path ≡ true → is_covered path ≡ true → ⊥
 not_both path table covered = false≢true (sym (not_table path covered) ∙ table)
 
-amended_one : (amendments : Amendments) (scope : Scope) (own : OwnNames) (path : List ℕ) (old new other : Pair)
+amended_one : (amendments : Amendments) (scope : Scope) (own : OwnKinds) (path : List ℕ) (old new other : Pair)
     → IsAmended amendments scope own path old new → IsAmended amendments scope own path old other → new ≡ other
 amended_one amendments scope own path old new other (inl one) (inl two) =
     both_tables amendments old new other one.1 two.1

@@ -7,12 +7,11 @@ use Rattle.reuse_style.specs.declared.style.Style.{Style}
 use Rattle.reuse_style.specs.declared.style.Kind.{Kind}
 use Rattle.reuse_style.specs.declared.style.Kind.TheVariants as kind
 use Rattle.reuse_header.specs.Header.{header_of}
-use Rattle.reuse_style.specs.Names.{kind_in}
 use Rattle.reuse_header.specs.Neighbour.{is_text, neighbour_annotated}
 use Rattle.reuse_plan.specs.Annotate.{neighbour_is_tagged, neighbour_of}
 use Rattle.reuse_plan.specs.Annotated.{Pair, IsStyleOf, HasKind, TakesComment, TakesNeighbour, IsSkipped, IsCommented}
 use Rattle.reuse_plan.specs.Annotated.{IsAccompanied, IsAnnotated, Annotates, file_written, pair_at, StaysOrIsText}
-use Rattle.reuse_plan.specs.TreeStyles.{OwnNames}
+use Rattle.reuse_style.specs.Kinds.{OwnKinds, kind_of_file}
 use Rattle.reuse_command.specs.declared.command.Scope.{Scope}
 use Rattle.reuse_command.specs.declared.command.Unknown.TheVariants as unknown
 use Rattle.reuse_command.specs.Reading.{get, Files}
@@ -38,44 +37,44 @@ style_or_unknown style e = cc
 style_is_none : (style : Style) → Some style ≡ None → ⊥
 style_is_none style e = cc
 
--- a file of a style that is asked for or of its name has no kind without one
-pub no_kind : (scope : Scope) (own : OwnNames) (path : List ℕ) (style : Style) (of_name : Kind)
-    → (kind.Style style ≡ of_name → ⊥) → IsStyleOf scope own path style → HasKind scope own path of_name → ⊥
-no_kind scope own path style of_name differ (inl asked) named = style_is_none style (sym asked ∙ named.0)
-no_kind scope own path style of_name differ (inr by_name) named = differ (sym by_name.1 ∙ named.1)
+-- a file that has a style, which is asked for or is that of its kind, has no kind without one
+pub no_kind : (scope : Scope) (own : OwnKinds) (path bytes : List ℕ) (style : Style) (of_file : Kind)
+    → (kind.Style style ≡ of_file → ⊥) → IsStyleOf scope own path bytes style → HasKind scope own path bytes of_file → ⊥
+no_kind scope own path bytes style of_file differ (inl asked) named = style_is_none style (sym asked ∙ named.0)
+no_kind scope own path bytes style of_file differ (inr by_kind) named = differ (sym by_kind.1 ∙ named.1)
 
 -- where no neighbour is there or asked for, the file is text, and it has a style or gets no neighbour for want of one,
 -- nothing calls for a neighbour
-pub no_call : (scope : Scope) (own : OwnNames) (path bytes : List ℕ) (pair : Pair) → pair.neighbour ≡ None
+pub no_call : (scope : Scope) (own : OwnKinds) (path bytes : List ℕ) (pair : Pair) → pair.neighbour ≡ None
     → scope.force_dot_license ≡ false → is_text bytes ≡ true
-    → ((style : Style) × IsStyleOf scope own path style)
-    ⊎ ((kind_in own path ≡ kind.Unknown) × (scope.unknown ≢ unknown.Neighbour))
+    → ((style : Style) × IsStyleOf scope own path bytes style)
+    ⊎ ((kind_of_file own path bytes ≡ kind.Unknown) × (scope.unknown ≢ unknown.Neighbour))
     → TakesNeighbour scope own path bytes pair → ⊥
 no_call scope own path bytes pair alone unforced text named (inl there) = false≢true (sym (ap is_some alone) ∙ there)
 no_call scope own path bytes pair alone unforced text named (inr (inl forced)) = false≢true (sym unforced ∙ forced)
 no_call scope own path bytes pair alone unforced text named (inr (inr (inl binary))) = false≢true (sym binary ∙ text)
 no_call scope own path bytes pair alone unforced text (inl styled) (inr (inr (inr (inl plain)))) =
-    no_kind scope own path styled.0 kind.Uncommentable (λ e. kinds_differ styled.0 e) styled.1 plain
+    no_kind scope own path bytes styled.0 kind.Uncommentable (λ e. kinds_differ styled.0 e) styled.1 plain
 no_call scope own path bytes pair alone unforced text (inr nameless) (inr (inr (inr (inl plain)))) =
     let e = sym nameless.0 ∙ plain.1 in cc
 no_call scope own path bytes pair alone unforced text (inl styled) (inr (inr (inr (inr beside)))) =
-    no_kind scope own path styled.0 kind.Unknown (style_or_unknown styled.0) styled.1 beside.0
+    no_kind scope own path bytes styled.0 kind.Unknown (style_or_unknown styled.0) styled.1 beside.0
 no_call scope own path bytes pair alone unforced text (inr nameless) (inr (inr (inr (inr beside)))) =
     nameless.1 beside.1
 
 -- a file that takes a comment takes no neighbour
-pub no_neighbour_too : (scope : Scope) (own : OwnNames) (path bytes : List ℕ) (pair : Pair) (style : Style)
+pub no_neighbour_too : (scope : Scope) (own : OwnKinds) (path bytes : List ℕ) (pair : Pair) (style : Style)
     → TakesComment scope own path bytes pair style → TakesNeighbour scope own path bytes pair → ⊥
 no_neighbour_too scope own path bytes pair style takes =
     no_call scope own path bytes pair takes.alone takes.unforced takes.text (inl (style, takes.of_style))
 
 -- it has one style
-pub one_style : (scope : Scope) (own : OwnNames) (path : List ℕ) (style other : Style) → IsStyleOf scope own path style
-    → IsStyleOf scope own path other → style ≡ other
-one_style scope own path style other (inl e) (inl f) = same_Some style other (sym e ∙ f)
-one_style scope own path style other (inl e) (inr f) = absurd (style_is_none style (sym e ∙ f.0))
-one_style scope own path style other (inr e) (inl f) = absurd (style_is_none other (sym f ∙ e.0))
-one_style scope own path style other (inr e) (inr f) = kind_same style other (sym e.1 ∙ f.1)
+pub one_style : (scope : Scope) (own : OwnKinds) (path bytes : List ℕ) (style other : Style)
+    → IsStyleOf scope own path bytes style → IsStyleOf scope own path bytes other → style ≡ other
+one_style scope own path bytes style other (inl e) (inl f) = same_Some style other (sym e ∙ f)
+one_style scope own path bytes style other (inl e) (inr f) = absurd (style_is_none style (sym e ∙ f.0))
+one_style scope own path bytes style other (inr e) (inl f) = absurd (style_is_none other (sym f ∙ e.0))
+one_style scope own path bytes style other (inr e) (inr f) = kind_same style other (sym e.1 ∙ f.1)
   where
     kind_same : (one two : Style) → kind.Style one ≡ kind.Style two → one ≡ two
     kind_same one two h = cc
@@ -85,20 +84,20 @@ and_true true b e f g = false≢true (sym e ∙ g)
 and_true false b e f g = false≢true f
 
 -- a file that takes a comment, and isn't passed over for its header, isn't skipped
-pub comment_not_skipped : (scope : Scope) (own : OwnNames) (path bytes : List ℕ) (pair : Pair) (style : Style)
+pub comment_not_skipped : (scope : Scope) (own : OwnKinds) (path bytes : List ℕ) (pair : Pair) (style : Style)
     → TakesComment scope own path bytes pair style
     → (scope.skip_existing && is_some (header_of style bytes)) ≡ false → IsSkipped scope own path bytes pair → ⊥
 comment_not_skipped scope own path bytes pair style takes kept (inl nameless) =
-    no_kind scope own path style kind.Unknown (style_or_unknown style) takes.of_style nameless.0
+    no_kind scope own path bytes style kind.Unknown (style_or_unknown style) takes.of_style nameless.0
 comment_not_skipped scope own path bytes pair style takes kept (inr (skip, inl (other, too, tagged))) =
-    let same = one_style scope own path other style too.of_style takes.of_style in
+    let same = one_style scope own path bytes other style too.of_style takes.of_style in
     and_true scope.skip_existing (is_some (header_of style bytes)) kept skip
     (subst (λ s. IsSome (header_of s bytes)) same tagged)
 comment_not_skipped scope own path bytes pair style takes kept (inr (skip, inr (beside, there, tagged))) =
     none-some beside (sym takes.alone ∙ there)
 
 -- nor is one that takes a neighbour, which isn't passed over for its tags
-pub beside_not_skipped : (scope : Scope) (own : OwnNames) (path bytes : List ℕ) (pair : Pair)
+pub beside_not_skipped : (scope : Scope) (own : OwnKinds) (path bytes : List ℕ) (pair : Pair)
     → TakesNeighbour scope own path bytes pair
     → ((beside : List ℕ) → pair.neighbour ≡ Some beside → (scope.skip_existing && neighbour_is_tagged beside) ≡ false)
     → IsSkipped scope own path bytes pair → ⊥
@@ -112,12 +111,12 @@ beside_not_skipped scope own path bytes pair takes kept (inr (skip, inr (beside,
 
 -- ---- one file
 
-module _ (additions : Additions) (how : How) (scope : Scope) (own : OwnNames) (path bytes : List ℕ)
+module _ (additions : Additions) (how : How) (scope : Scope) (own : OwnKinds) (path bytes : List ℕ)
     (old new other : Pair) where
   both_commented : IsCommented additions how scope own path bytes old new
       → IsCommented additions how scope own path bytes old other → new ≡ other
   both_commented one two =
-      let style = one_style scope own path one.style two.style one.takes.of_style two.takes.of_style in
+      let style = one_style scope own path bytes one.style two.style one.takes.of_style two.takes.of_style in
       let made =
       same_Ok one.made two.made (sym one.by_rules ∙ ap (λ s. annotated s how additions bytes) style ∙ two.by_rules) in
       one.holds ∙ ap (λ (m : List ℕ). record { file = Some m; neighbour = None }) made ∙ sym two.holds
@@ -149,7 +148,7 @@ module _ (additions : Additions) (how : How) (scope : Scope) (own : OwnNames) (p
   becomes_one (inr one) (inl two) = absurd (one.0 two.0)
   becomes_one (inr one) (inr two) = both_written one.1 two.1
 
-annotated_one : (additions : Additions) (how : How) (scope : Scope) (own : OwnNames) (path : List ℕ)
+annotated_one : (additions : Additions) (how : How) (scope : Scope) (own : OwnKinds) (path : List ℕ)
     (old new other : Pair) → IsAnnotated additions how scope own path old new
     → IsAnnotated additions how scope own path old other → new ≡ other
 annotated_one additions how scope own path old new other one two =
@@ -235,7 +234,7 @@ written_stays (Some bytes) made text = inr (made, refl, text)
 
 module _ (files : MakesTexts) (beside : MakesNeighbourTexts) (additions : Additions) (how : How) (scope : Scope)
     (plain : ArePlain additions) (utf8 : AreUtf8 additions) where
-  module _ (own : OwnNames) (path : List ℕ) (old new : Pair)
+  module _ (own : OwnKinds) (path : List ℕ) (old new : Pair)
       (is : IsAnnotated additions how scope own path old new) where
     commented : IsCommented additions how scope own path is.bytes old new
         → Stays old.file new.file × Stays old.neighbour new.neighbour

@@ -3,9 +3,10 @@ use Rattle.std.proofs.Common.{◌≡◌, ◌∙◌, ℕ, Bool, true, false, cond
 use Rattle.std.proofs.Common.{IfOk, IfErr, refl, ap}
 use Rattle.std.specs.Prelude.{nat_lt}
 use Rattle.reuse_text.specs.declared.TheConstants.{LONGEST_FILE}
-use Rattle.reuse_style.specs.Marks.{GoodStyle}
+use Rattle.reuse_style.specs.Rules.{CommentRules}
 use Rattle.reuse_style.specs.StyleFile.{IsRefused}
 use Rattle.reuse_style.specs.CommentFile.{comments_of, IsCommentsRefused}
+use Rattle.reuse_style.specs.declared.style.Kind.{Kind}
 use Rattle.reuse_style.specs.declared.comments_refusal.CommentsRefusal.{CommentsRefusal}
 use Rattle.reuse_style.specs.declared.comments_refusal.CommentsRefusal.TheVariants as comments
 use Rattle.reuse_style.specs.declared.style_refusal.StylesRefusal.{StylesRefusal}
@@ -14,7 +15,8 @@ use Rattle.reuse_command.specs.declared.reply.Refusal.{Refusal}
 use Rattle.reuse_command.specs.declared.reply.Refusal.TheVariants as refusals
 use Rattle.reuse_plan.specs.Plan.{IsRefusalOf}
 use Rattle.reuse_plan.proofs.Annotating.{refusal_passes}
-use Rattle.reuse_plan.specs.TreeStyles.{OwnNames, own_file, comments_read, styles_given, styles_read, styles_beside, styles_by}
+use Rattle.reuse_style.specs.Kinds.{OwnKinds}
+use Rattle.reuse_plan.specs.TreeStyles.{own_file, comments_read, styles_given, styles_read, styles_beside, styles_by}
 use Rattle.reuse_plan.specs.TreeStyles.{comments_refusal, styles_refusal}
 
 -- ---- a file
@@ -57,15 +59,20 @@ file_refused path (Some bytes) = by (nat_lt LONGEST_FILE (length bytes))
 
 -- ---- what the files give
 
-pub comments_refused_is : (expected : Result (List GoodStyle) CommentsRefusal) (refusal : CommentsRefusal)
+pub comments_refused_is : (expected : Result CommentRules CommentsRefusal) (refusal : CommentsRefusal)
     → IsCommentsRefused expected refusal → IsRefusalOf (comments_read expected) (comments_refusal refusal)
 comments_refused_is expected (comments.Memory e) is = tt
 comments_refused_is expected refusal is = ap comments_read is
 
-pub styles_refused_is : (expected : Result OwnNames StylesRefusal) (refusal : StylesRefusal)
-    → IsRefused expected refusal → IsRefusalOf (styles_read expected) (styles_refusal refusal)
-styles_refused_is expected (styles.Memory e) is = tt
-styles_refused_is expected refusal is = ap styles_read is
+-- names beside comments and rules
+abbrev pub kinds_ok : (List ℕ → Option Kind) → CommentRules → Result OwnKinds Refusal
+kinds_ok names comments = Ok (record { names = names; comments = comments })
+
+pub styles_refused_is : (comments : CommentRules) (expected : Result (List ℕ → Option Kind) StylesRefusal)
+    (refusal : StylesRefusal) → IsRefused expected refusal
+    → IsRefusalOf (styles_read comments expected) (styles_refusal refusal)
+styles_refused_is comments expected (styles.Memory e) is = tt
+styles_refused_is comments expected refusal is = ap (styles_read comments) is
 
 -- ---- both files
 
@@ -94,7 +101,7 @@ module _ (styles comments : Result (Option (List ℕ)) Refusal) where
       by_own refusal is = refusal_passes (comments_read (comments_of own)) (styles_by styles comments)
           (λ r e. both ∙ ap (styles_beside file) e) refusal is
 
-      module _ (table : List GoodStyle) (table_is : comments_of own ≡ Ok table) where
+      module _ (table : CommentRules) (table_is : comments_of own ≡ Ok table) where
         pub read_is : styles_by styles comments ≡ styles_given file table
-        read_is = both ∙ ap (λ (r : Result (List GoodStyle) CommentsRefusal). styles_beside file (comments_read r))
+        read_is = both ∙ ap (λ (r : Result CommentRules CommentsRefusal). styles_beside file (comments_read r))
             table_is

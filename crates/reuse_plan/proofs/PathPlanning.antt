@@ -4,6 +4,7 @@ use Rattle.std.proofs.Common.{Result, Ok, Err, refl, sym, ap, ◌∙◌, ◌||�
 use Rattle.std.proofs.Common.{inl, inr, IfOk, IfErr, Vec}
 use Rattle.std.specs.Option.{option_or, option_to_list}
 use Rattle.reuse_change.specs.Files.{Files}
+use Rattle.reuse_header.specs.declared.harm.Harm.{Harm}
 use Rattle.reuse_plan.specs.PathOutcomes.{path_outcome_by, path_outcome_of, limit_path_outcomes, path_outcomes_of}
 use Rattle.reuse_plan.specs.PathOutcomes.{first_refusal}
 use Rattle.reuse_plan.specs.Outcome.{Edit, edited, is_too_many, path_edits_of, edits_of, tree_after, outcome_of}
@@ -40,25 +41,26 @@ refusal_in (Err refusal) = Some refusal
 first_append : (xs ys : List PathOutcome) → first_refusal (xs ++ ys) ≡ option_or (first_refusal xs) (first_refusal ys)
 first_append [] ys = refl
 first_append (path_outcome.Refused refusal ∷ xs) ys = refl
-first_append (path_outcome.Changes path ∷ xs) ys = first_append xs ys
+first_append (path_outcome.Changes path harm ∷ xs) ys = first_append xs ys
 first_append (path_outcome.Unchanged path ∷ xs) ys = first_append xs ys
 first_append (path_outcome.Skipped path ∷ xs) ys = first_append xs ys
 
-first_one : (path : List ℕ) (skipped : Bool) (edit : Result (Option Edit) Refusal) (path_outcomes : List PathOutcome)
-    (rest : Result (List Edit) Refusal) → first_refusal path_outcomes ≡ refusal_in rest
-    → first_refusal (path_outcome_by path skipped edit ∷ path_outcomes) ≡ refusal_in (or_first edit rest)
-first_one path skipped (Err refusal) path_outcomes rest h = refl
-first_one path skipped (Ok (Some e)) path_outcomes (Err refusal) h = h
-first_one path skipped (Ok (Some e)) path_outcomes (Ok edits) h = h
-first_one path true (Ok None) path_outcomes (Err refusal) h = h
-first_one path true (Ok None) path_outcomes (Ok edits) h = h
-first_one path false (Ok None) path_outcomes (Err refusal) h = h
-first_one path false (Ok None) path_outcomes (Ok edits) h = h
+first_one : (path : List ℕ) (skipped : Bool) (harm : Option Harm) (edit : Result (Option Edit) Refusal)
+    (path_outcomes : List PathOutcome) (rest : Result (List Edit) Refusal)
+    → first_refusal path_outcomes ≡ refusal_in rest
+    → first_refusal (path_outcome_by path skipped harm edit ∷ path_outcomes) ≡ refusal_in (or_first edit rest)
+first_one path skipped harm (Err refusal) path_outcomes rest h = refl
+first_one path skipped harm (Ok (Some e)) path_outcomes (Err refusal) h = h
+first_one path skipped harm (Ok (Some e)) path_outcomes (Ok edits) h = h
+first_one path true harm (Ok None) path_outcomes (Err refusal) h = h
+first_one path true harm (Ok None) path_outcomes (Ok edits) h = h
+first_one path false harm (Ok None) path_outcomes (Err refusal) h = h
+first_one path false harm (Ok None) path_outcomes (Ok edits) h = h
 
 first_of_paths : (all : List PathEdit) → first_refusal (map path_outcome_of all) ≡ refusal_in (edits_in all)
 first_of_paths [] = refl
 first_of_paths (here ∷ all) =
-    first_one here.path here.skipped here.edit (map path_outcome_of all) (edits_in all) (first_of_paths all)
+    first_one here.path here.skipped here.harm here.edit (map path_outcome_of all) (edits_in all) (first_of_paths all)
 
 first_of_limit : (tree : Files) (given : Result (List Edit) Refusal)
     → option_or (refusal_in given) (first_refusal (limit_path_outcomes given)) ≡ refusal_in (tree_after tree given)
@@ -240,12 +242,12 @@ module _ (policy : Policy) (tree : Files) where
   path_outcome_is : (here : PathEdit) (one : PathPlan) → IsPlanOf policy tree here one
       → path_outcome_planned one ≡ path_outcome_of here
   path_outcome_is here (plan.Change change harm) is =
-      ap path_outcome.Changes is.2.path ∙ sym (ap (path_outcome_by here.path here.skipped) is.1)
+      ap₂ path_outcome.Changes is.2.path is.3 ∙ sym (ap (path_outcome_by here.path here.skipped here.harm) is.1)
   path_outcome_is here (plan.Unchanged path) is =
-      ap path_outcome.Unchanged is.0 ∙ sym (ap₂ (path_outcome_by here.path) is.2 is.1)
+      ap path_outcome.Unchanged is.0 ∙ sym (ap₂ (λ s. path_outcome_by here.path s here.harm) is.2 is.1)
   path_outcome_is here (plan.Skipped path) is =
-      ap path_outcome.Skipped is.0 ∙ sym (ap₂ (path_outcome_by here.path) is.2 is.1)
-  path_outcome_is here (plan.Refused refusal) is = sym (ap (path_outcome_by here.path here.skipped) is.0)
+      ap path_outcome.Skipped is.0 ∙ sym (ap₂ (λ s. path_outcome_by here.path s here.harm) is.2 is.1)
+  path_outcome_is here (plan.Refused refusal) is = sym (ap (path_outcome_by here.path here.skipped here.harm) is.0)
 
   pub path_outcomes_are : (all : List PathEdit) (plans : List PathPlan) → ArePlansOf policy tree all plans
       → map path_outcome_planned plans ≡ map path_outcome_of all

@@ -27,7 +27,8 @@ kept_more test xs i d start old new low so is =
 -- what stands for one more
 pub expanded_more : (chooses : List ℕ → Bool) (tree : Files) (places : List Place) (i : ℕ) (d : Place) (old new : List (List ℕ))
     → i < length places → old ≡ flat_map (expanded chooses tree) (take i places)
-    → new ≡ old ++ expanded chooses tree (get_or places i d) → new ≡ flat_map (expanded chooses tree) (take (i + 1) places)
+    → new ≡ old ++ expanded chooses tree (get_or places i d)
+    → new ≡ flat_map (expanded chooses tree) (take (i + 1) places)
 expanded_more chooses tree places i d old new low so is =
     is ∙ ap (λ ys. ys ++ expanded chooses tree (get_or places i d)) so
     ∙ ap (λ ys. flat_map (expanded chooses tree) (take i places) ++ ys)

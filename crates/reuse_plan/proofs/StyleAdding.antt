@@ -1,6 +1,8 @@
 -- An addition of styles: its edits, and the changes that carry them out.
-use Rattle.std.proofs.Common.{◌≡◌, ◌⊎◌, inl, inr, ℕ, ◌+◌, ◌-◌, ◌≤◌, Bool, true, false, cond, ◌||◌, nat_lt, List, [], ◌∷◌, ◌++◌}
-use Rattle.std.proofs.Common.{length, take, drop, Option, Some, None, Result, Ok, Err, IsTrue, refl, sym, ap, subst, ◌∙◌}
+use Rattle.std.proofs.Common.{◌≡◌, ◌⊎◌, inl, inr, ℕ, ◌+◌, ◌-◌, ◌≤◌, Bool, true, false, cond, ◌||◌, nat_lt}
+use Rattle.std.proofs.Common.{List, [], ◌∷◌, ◌++◌}
+use Rattle.std.proofs.Common.{length, take, drop, Option, Some, None, Result, Ok, Err, IsTrue, refl, sym}
+use Rattle.std.proofs.Common.{ap, subst, ◌∙◌}
 use Rattle.std.proofs.Common.{arith, ◌≢◌, bytes_eq, length-append}
 use Rattle.std.specs.List.{AllByRecursion}
 use Rattle.std.specs.List.Sorted.{IsStrictlySortedBy}
@@ -118,7 +120,8 @@ pub record AreBoth (one two : Result (Option Edit) Refusal) (edits : List Edit) 
   pub is_second : two ≡ done second
   pub they_are : option_to_list first ++ option_to_list second ≡ edits
 
-pub both_are : (one two : Result (Option Edit) Refusal) (edits : List Edit) → or_first one (or_first two (Ok [])) ≡ Ok edits
+pub both_are : (one two : Result (Option Edit) Refusal) (edits : List Edit)
+    → or_first one (or_first two (Ok [])) ≡ Ok edits
     → AreBoth one two edits
 both_are (Err refusal) two edits h = absurd (cc)
 both_are (Ok None) (Err refusal) edits h = absurd (cc)
@@ -223,7 +226,8 @@ pub record IsAddition (additions : StyleAdditions) (tree : Files) (edits : List 
   pub both : AreBoth (lines_edit tree comments_path (get tree comments_path) added.comments)
       (lines_edit tree styles_path (get tree styles_path) added.styles) edits
 
-pub addition_is : (additions : StyleAdditions) (tree : Files) (edits : List Edit) → style_edits additions tree ≡ Ok edits
+pub addition_is : (additions : StyleAdditions) (tree : Files) (edits : List Edit)
+    → style_edits additions tree ≡ Ok edits
     → IsAddition additions tree edits
 addition_is additions tree edits h = of_lines (lines_for additions tree (styles_in tree)) refl h
   where
@@ -238,8 +242,10 @@ addition_is additions tree edits h = of_lines (lines_for additions tree (styles_
     }
 
 -- each edit is one of lines
-pub edits_of_lines : (additions : StyleAdditions) (tree : Files) (edits : List Edit) (P : Edit → Type 0) → ((path lines : List ℕ) (edit : Edit)
-    → IsMadeOfLines tree path lines edit ⊎ HasLinesBehind tree path lines edit → P edit) → IsAddition additions tree edits
+pub edits_of_lines : (additions : StyleAdditions) (tree : Files) (edits : List Edit) (P : Edit → Type 0)
+    → ((path lines : List ℕ) (edit : Edit)
+    → IsMadeOfLines tree path lines edit ⊎ HasLinesBehind tree path lines edit
+    → P edit) → IsAddition additions tree edits
     → AllByRecursion P edits
 edits_of_lines additions tree edits P each is = subst (AllByRecursion P) is.both.they_are
     (all_both P is.both.first is.both.second
@@ -248,7 +254,8 @@ edits_of_lines additions tree edits P each is = subst (AllByRecursion P) is.both
     (λ edit e. each styles_path is.added.styles edit (lines_are tree styles_path is.added.styles edit
     (get tree styles_path) refl (is.both.is_second ∙ ap done e))))
 
-pub addition_fits : (additions : StyleAdditions) (tree : Files) (edits : List Edit) → style_edits additions tree ≡ Ok edits
+pub addition_fits : (additions : StyleAdditions) (tree : Files) (edits : List Edit)
+    → style_edits additions tree ≡ Ok edits
     → AreEdits tree edits
 addition_fits additions tree edits h = let is = addition_is additions tree edits h in
     subst (AreEdits tree) is.both.they_are (both_fit tree is.both.first is.both.second

@@ -1,5 +1,6 @@
 -- What an addition of styles leaves where it isn't refused.
-use Rattle.std.proofs.Common.{◌≡◌, ◌≢◌, ◌⊎◌, inl, inr, ℕ, ◌+◌, ◌≤◌, Bool, true, false, cond, ◌&&◌, nat_lt, List, [], ◌∷◌, ◌++◌}
+use Rattle.std.proofs.Common.{◌≡◌, ◌≢◌, ◌⊎◌, inl, inr, ℕ, ◌+◌, ◌≤◌, Bool, true, false, cond, ◌&&◌, nat_lt}
+use Rattle.std.proofs.Common.{List, [], ◌∷◌, ◌++◌}
 use Rattle.std.proofs.Common.{length, Option, Some, None, is_none, Result, Ok, Err, refl, sym, ap, subst, ◌∙◌}
 use Rattle.std.proofs.Common.{arith, length-append}
 use Rattle.std.specs.FinMap.{get}
@@ -15,12 +16,15 @@ use Rattle.reuse_text.specs.Text.{is_empty}
 use Rattle.reuse_text.specs.declared.TheConstants.{LONGEST_FILE}
 use Rattle.reuse_style.specs.Marks.{GoodStyle}
 use Rattle.reuse_style.specs.CommentFile.{comments_of}
+use Rattle.reuse_style.specs.Kinds.{OwnKinds}
+use Rattle.reuse_style.specs.Rules.{CommentRules}
 use Rattle.reuse_style.specs.StyleFile.{styles_of}
 use Rattle.reuse_style.specs.declared.comments_refusal.CommentsRefusal.{CommentsRefusal}
 use Rattle.reuse_style.specs.declared.style.Kind.{Kind}
 use Rattle.reuse_style.specs.declared.style_refusal.StylesRefusal.{StylesRefusal}
 use Rattle.reuse_ready.specs.Additions.{are_named, comment_lines, has_kind, if_named, if_read, lines_added}
-use Rattle.reuse_ready.specs.Additions.{missing_names, missing_tables, read_back, style_lines, with_lines}
+use Rattle.reuse_ready.specs.Additions.{missing_names, missing_rules, missing_tables, read_back, style_lines}
+use Rattle.reuse_ready.specs.Additions.{with_lines}
 use Rattle.reuse_ready.specs.declared.additions.NameAddition.{NameAddition}
 use Rattle.reuse_ready.specs.declared.additions.StyleAdditions.{StyleAdditions}
 use Rattle.reuse_ready.specs.declared.own_lines.AddedLines.{AddedLines}
@@ -33,9 +37,9 @@ use Rattle.reuse_command.specs.declared.reply.Refusal.{Refusal}
 use Rattle.reuse_command.specs.declared.reply.Refusal.TheVariants as refusals
 use Rattle.reuse_plan.specs.Edit.{Edit, made, appended}
 use Rattle.reuse_plan.specs.Outcome.{edited, edits_of, outcome_of, with_file}
-use Rattle.reuse_plan.specs.StyleEdits.{file_with, good_comments, lines_edit, lines_for, lines_read}
+use Rattle.reuse_plan.specs.StyleEdits.{file_with, lines_edit, lines_for, lines_read}
 use Rattle.reuse_plan.specs.StylesAdded.{AddsStyles, IsNamed, StandsInFront}
-use Rattle.reuse_plan.specs.TreeStyles.{OwnNames, comments_path, own_file, styles_by}
+use Rattle.reuse_plan.specs.TreeStyles.{comments_path, own_file, styles_by}
 use Rattle.reuse_plan.specs.TreeStyles.{styles_in, styles_path}
 use Rattle.reuse_plan.proofs.CommandEdits.{of_addition}
 use Rattle.reuse_plan.proofs.Outcomes.{done, no_edit, edits_of_tree}
@@ -46,10 +50,10 @@ use Rattle.reuse_plan.proofs.StyleAdding.{IsMadeOfLines, HasLinesBehind, additio
 -- ---- what was read back
 
 pub record IsReadBack (names : List NameAddition) (styles comments : Option (List ℕ)) (added : AddedLines) : Type 0 where
-  pub own_comments : List GoodStyle
+  pub own_comments : CommentRules
   pub comments_are : comments_of (with_lines comments added.comments) ≡ Ok own_comments
-  pub now : OwnNames
-  pub styles_are : styles_of own_comments (with_lines styles added.styles) ≡ Ok now
+  pub now : List ℕ → Option Kind
+  pub styles_are : styles_of own_comments.styles (with_lines styles added.styles) ≡ Ok now
   pub named : are_named now names ≡ true
 
 abbrev ok_lines : AddedLines → Result AddedLines AdditionRefusal
@@ -62,8 +66,9 @@ back_is names styles comments lines added h = of_comments (comments_of (with_lin
     same : ok_lines lines ≡ ok_lines added → lines ≡ added
     same e = cc
 
-    of_test : (b : Bool) → (c : List GoodStyle) → comments_of (with_lines comments lines.comments) ≡ Ok c
-        → (own : OwnNames) → styles_of c (with_lines styles lines.styles) ≡ Ok own → are_named own names ≡ b
+    of_test : (b : Bool) → (c : CommentRules) → comments_of (with_lines comments lines.comments) ≡ Ok c
+        → (own : List ℕ → Option Kind) → styles_of c.styles (with_lines styles lines.styles) ≡ Ok own
+        → are_named own names ≡ b
         → cond b (ok_lines lines) (Err refused.Styles) ≡ ok_lines added → IsReadBack names styles comments added
     of_test false c are own is all e = absurd (cc)
     of_test true c are own is all e = subst (IsReadBack names styles comments) (same e) (record {
@@ -74,19 +79,21 @@ back_is names styles comments lines added h = of_comments (comments_of (with_lin
       named = all;
     })
 
-    of_styles : (c : List GoodStyle) → comments_of (with_lines comments lines.comments) ≡ Ok c
-        → (given : Result OwnNames StylesRefusal) → styles_of c (with_lines styles lines.styles) ≡ given
+    of_styles : (c : CommentRules) → comments_of (with_lines comments lines.comments) ≡ Ok c
+        → (given : Result (List ℕ → Option Kind) StylesRefusal)
+        → styles_of c.styles (with_lines styles lines.styles) ≡ given
         → if_named lines names given ≡ ok_lines added → IsReadBack names styles comments added
     of_styles c are (Err refusal) is e = absurd (cc)
     of_styles c are (Ok own) is e = of_test (are_named own names) c are own is refl e
 
-    of_comments : (given : Result (List GoodStyle) CommentsRefusal) → comments_of (with_lines comments lines.comments) ≡ given
+    of_comments : (given : Result CommentRules CommentsRefusal)
+        → comments_of (with_lines comments lines.comments) ≡ given
         → if_read lines names (with_lines styles lines.styles) given ≡ ok_lines added
         → IsReadBack names styles comments added
     of_comments (Err refusal) are e = absurd (cc)
-    of_comments (Ok c) are e = of_styles c are (styles_of c (with_lines styles lines.styles)) refl e
+    of_comments (Ok c) are e = of_styles c are (styles_of c.styles (with_lines styles lines.styles)) refl e
 
-lines_back : (additions : StyleAdditions) (styles comments : Option (List ℕ)) (own : OwnNames)
+lines_back : (additions : StyleAdditions) (styles comments : Option (List ℕ)) (own : List ℕ → Option Kind)
     (own_comments : List GoodStyle) (added : AddedLines)
     → lines_added additions styles comments own own_comments ≡ ok_lines added
     → IsReadBack (missing_names own additions.names) styles comments added
@@ -94,38 +101,37 @@ unfolding lines_added
 lines_back additions styles comments own own_comments added h =
     back_is (missing_names own additions.names) styles comments (record {
       styles = style_lines styles (missing_names own additions.names);
-      comments = comment_lines comments (missing_tables own_comments additions.tables);
+      comments = comment_lines comments (missing_tables own_comments additions.tables)
+          (missing_rules comments additions.rules);
     }) added h
 
 -- the tree's own styles weren't refused, and what is added is read back so
 pub record WasRead (additions : StyleAdditions) (tree : Files) (added : AddedLines) : Type 0 where
-  pub own : OwnNames
+  pub own : OwnKinds
   pub was : styles_in tree ≡ Ok own
-  pub back : IsReadBack (missing_names own additions.names) (get tree styles_path) (get tree comments_path) added
+  pub back : IsReadBack (missing_names own.names additions.names) (get tree styles_path) (get tree comments_path) added
 
 was_read : (additions : StyleAdditions) (tree : Files) (added : AddedLines)
     → lines_for additions tree (styles_in tree) ≡ Ok added → WasRead additions tree added
 was_read additions tree added h = of_styles (styles_in tree) refl h
   where
-    of_lines : (own : OwnNames) (comments : List GoodStyle) → styles_in tree ≡ Ok own
-        → (given : Result AddedLines AdditionRefusal)
-        → lines_added additions (get tree styles_path) (get tree comments_path) own comments ≡ given
+    of_lines : (own : OwnKinds) → styles_in tree ≡ Ok own → (given : Result AddedLines AdditionRefusal)
+        → lines_added additions (get tree styles_path) (get tree comments_path) own.names own.comments.styles ≡ given
         → lines_read given ≡ Ok added → WasRead additions tree added
-    of_lines own comments was (Err refusal) is e = absurd (cc)
-    of_lines own comments was (Ok lines) is e = record {
+    of_lines own was (Err refusal) is e = absurd (cc)
+    of_lines own was (Ok lines) is e = record {
       own = own;
       was = was;
-      back = lines_back additions (get tree styles_path) (get tree comments_path) own comments added
+      back = lines_back additions (get tree styles_path) (get tree comments_path) own.names own.comments.styles added
           (is ∙ ap ok_lines (same_Ok lines added e));
     }
 
-    of_styles : (given : Result OwnNames Refusal) → styles_in tree ≡ given → lines_for additions tree given ≡ Ok added
+    of_styles : (given : Result OwnKinds Refusal) → styles_in tree ≡ given → lines_for additions tree given ≡ Ok added
         → WasRead additions tree added
     of_styles (Err refusal) was e = absurd (cc)
     of_styles (Ok own) was e =
-        of_lines own (good_comments (comments_of (get tree comments_path))) was
-        (lines_added additions (get tree styles_path) (get tree comments_path) own
-        (good_comments (comments_of (get tree comments_path)))) refl e
+        of_lines own was (lines_added additions (get tree styles_path) (get tree comments_path) own.names
+        own.comments.styles) refl e
 
 -- ---- one file
 
@@ -176,7 +182,8 @@ leaves tree path lines None h = none_added (is_empty lines) refl (get tree path)
         by_length false false k = absurd (cc)
     none_added false e (Some bytes) k = by_length (nat_lt LONGEST_FILE (length bytes + length lines)) k
       where
-        by_length : (b : Bool) → cond b (Err (refusals.TooLong path)) (done (Some (appended path bytes lines))) ≡ no_edit
+        by_length : (b : Bool)
+            → cond b (Err (refusals.TooLong path)) (done (Some (appended path bytes lines))) ≡ no_edit
             → with_lines (Some bytes) lines ≡ Some bytes
         by_length true k = absurd (cc)
         by_length false k = absurd (cc)
@@ -189,7 +196,8 @@ leaves tree path lines (Some edit) h = of_kind (lines_are tree path lines edit (
       subst (whole path) (sym (ap (λ b. cond b None (Some lines)) e)) (short_whole path lines short),
     )
 
-    of_kind : IsMadeOfLines tree path lines edit ⊎ HasLinesBehind tree path lines edit → GivesLines path lines (get tree path) edit
+    of_kind : IsMadeOfLines tree path lines edit ⊎ HasLinesBehind tree path lines edit
+        → GivesLines path lines (get tree path) edit
     of_kind (inl new) = subst (λ f. GivesLines path lines f edit) (sym new.absent) (subst (GivesLines path lines None) new.it_is (made_whole new.some new.short))
     of_kind (inr behind) = subst (λ f. GivesLines path lines f edit) (sym behind.here) (subst (GivesLines path lines (Some behind.bytes)) behind.it_is (
       refl,
@@ -249,7 +257,7 @@ record WereWhole (tree : Files) : Type 0 where
   styles : whole styles_path (get tree styles_path)
   comments : whole comments_path (get tree comments_path)
 
-were_whole : (tree : Files) (own : OwnNames) → styles_in tree ≡ Ok own → WereWhole tree
+were_whole : (tree : Files) (own : OwnKinds) → styles_in tree ≡ Ok own → WereWhole tree
 were_whole tree own h =
     of_files (own_file styles_path (get tree styles_path)) refl (own_file comments_path (get tree comments_path)) refl h
   where
@@ -263,29 +271,30 @@ were_whole tree own h =
       comments = file_is comments_path (get tree comments_path) comments f;
     }
 
-styles_after : (after : Files) (s c : Option (List ℕ)) (comments : List GoodStyle) (now : OwnNames)
+styles_after : (after : Files) (s c : Option (List ℕ)) (comments : CommentRules) (now : List ℕ → Option Kind)
     → get after styles_path ≡ s → get after comments_path ≡ c → whole styles_path s → whole comments_path c
-    → comments_of c ≡ Ok comments → styles_of comments s ≡ Ok now → styles_in after ≡ Ok now
+    → comments_of c ≡ Ok comments → styles_of comments.styles s ≡ Ok now
+    → styles_in after ≡ Ok (record { names = now; comments = comments })
 styles_after after s c comments now s_is c_is s_whole c_whole comments_are now_is =
     rw (s_is, c_is, s_whole, c_whole, comments_are, now_is) refl
 
-each_named : (own now : OwnNames) (names : List NameAddition) → are_named now (missing_names own names) ≡ true
-    → AllByRecursion (IsNamed own now) names
+each_named : (own now : OwnKinds) (names : List NameAddition)
+    → are_named now.names (missing_names own.names names) ≡ true → AllByRecursion (IsNamed own now) names
 each_named own now [] h = tt
-each_named own now (n ∷ names) h = by_own (own n.name) refl h (each_named own now names)
+each_named own now (n ∷ names) h = by_own (own.names n.name) refl h (each_named own now names)
   where
-    by_test : (b : Bool) → has_kind (now n.name) n.style ≡ b
-        → (b && are_named now (missing_names own names)) ≡ true
-        → (b ≡ true) × (are_named now (missing_names own names) ≡ true)
+    by_test : (b : Bool) → has_kind (now.names n.name) n.style ≡ b
+        → (b && are_named now.names (missing_names own.names names)) ≡ true
+        → (b ≡ true) × (are_named now.names (missing_names own.names names) ≡ true)
     by_test true e k = (refl, k)
     by_test false e k = absurd (false≢true k)
 
-    by_own : (o : Option Kind) → own n.name ≡ o
-        → are_named now (cond (is_none o) (n ∷ missing_names own names) (missing_names own names)) ≡ true
-        → (are_named now (missing_names own names) ≡ true → AllByRecursion (IsNamed own now) names)
+    by_own : (o : Option Kind) → own.names n.name ≡ o
+        → are_named now.names (cond (is_none o) (n ∷ missing_names own.names names) (missing_names own.names names)) ≡ true
+        → (are_named now.names (missing_names own.names names) ≡ true → AllByRecursion (IsNamed own now) names)
         → AllByRecursion (IsNamed own now) (n ∷ names)
     by_own None e k rest =
-        let both = by_test (has_kind (now n.name) n.style) refl k in (λ none. both.0, rest both.1)
+        let both = by_test (has_kind (now.names n.name) n.style) refl k in (λ none. both.0, rest both.1)
     by_own (Some kind) e k rest = (λ none. absurd (none-some kind (sym none ∙ e)), rest k)
 
 -- ---- together
@@ -298,6 +307,7 @@ addition_adds additions tree after h =
     let is = addition_is additions tree given.0 (sym (of_addition additions tree) ∙ given.1) in
     let read = was_read additions tree is.added is.lines in
     let whole = were_whole tree read.own read.was in
+    let now : OwnKinds = record { names = read.back.now; comments = read.back.own_comments } in
     let first = leaves tree comments_path is.added.comments is.both.first is.both.is_first in
     let second = leaves tree styles_path is.added.styles is.both.second is.both.is_second in
     let left = subst (AreLeft tree is.added.comments is.added.styles) (ap (edited tree) is.both.they_are ∙ given.2)
@@ -305,14 +315,14 @@ addition_adds additions tree after h =
     record {
       own = read.own;
       was = read.was;
-      now = read.back.now;
+      now = now;
       is = styles_after after (with_lines (get tree styles_path) is.added.styles)
           (with_lines (get tree comments_path) is.added.comments) read.back.own_comments read.back.now left.styles
           left.comments (whole_after tree styles_path is.added.styles is.both.second second whole.styles)
           (whole_after tree comments_path is.added.comments is.both.first first whole.comments)
           read.back.comments_are read.back.styles_are;
-      named = All-from_recursion (IsNamed read.own read.back.now) additions.names
-          (each_named read.own read.back.now additions.names read.back.named);
+      named = All-from_recursion (IsNamed read.own now) additions.names
+          (each_named read.own now additions.names read.back.named);
       comments = subst (StandsInFront (get tree comments_path)) (sym left.comments)
           (in_front (get tree comments_path) is.added.comments);
       styles = subst (StandsInFront (get tree styles_path)) (sym left.styles)

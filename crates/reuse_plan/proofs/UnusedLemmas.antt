@@ -6,7 +6,7 @@ use Rattle.reuse_change.specs.Files.{Files}
 use Rattle.reuse_command.specs.Command.{has_root}
 use Rattle.reuse_plan.specs.Plan.{IsRefusalOf}
 use Rattle.reuse_command.specs.Answer.{IsNoFailure}
-use Rattle.reuse_plan.specs.TreeStyles.{OwnNames}
+use Rattle.reuse_style.specs.Kinds.{OwnKinds}
 use Rattle.reuse_plan.specs.Unused.{AreUnusedAt, AreUnusedIf, AreUnusedWhere}
 use Rattle.reuse_command.specs.declared.command.Place.{Place}
 use Rattle.reuse_command.specs.declared.command.Scope.{Scope}
@@ -32,7 +32,7 @@ unused_none works_on scope places tree unused alone names globs =
     subst (λ b. AreUnusedWhere b works_on scope places tree unused) (sym alone) (names, globs)
 
 -- where the tree's styles are refused, and a walk that goes on reports that, nothing is promised
-pub refused_unused : {A : Type 0} (policy : Policy) (styles : Result OwnNames Refusal) (refusal : Refusal)
+pub refused_unused : {A : Type 0} (policy : Policy) (styles : Result OwnKinds Refusal) (refusal : Refusal)
     (works_on : List ℕ → Bool) (scope : Scope) (places : List Place) (tree : Files) (unused : Unused)
     (result : Result A Refusal)
     → IsRefusalOf styles refusal → IfOk result (λ plans. IsNoFailure refusal)

@@ -10,7 +10,9 @@ use Rattle.reuse_header.specs.Annotation.{annotated}
 use Rattle.reuse_header.specs.Amendment.{amended_file, amendment_of, neighbour_amendment_of}
 use Rattle.reuse_header.specs.Neighbour.{is_text, neighbour_annotated}
 use Rattle.reuse_header.specs.declared.annotation.How.{How}
+use Rattle.reuse_style.specs.Kinds.{OwnKinds, kind_unread}
 use Rattle.reuse_style.specs.declared.style.Style.{Style}
+use Rattle.reuse_style.specs.declared.style.Kind.{Kind}
 use Rattle.reuse_style.specs.declared.style.Kind.TheVariants as kind
 use Rattle.reuse_dep5.specs.Conversion.{converted}
 use Rattle.reuse_toml.specs.TomlAmending.{toml_amendment_of}
@@ -25,7 +27,7 @@ use Rattle.reuse_plan.specs.Downloads.{text_for}
 use Rattle.reuse_plan.specs.Licence.{is_id, licence_path}
 use Rattle.reuse_plan.specs.Outcome.{edit_count, edits_of, recorded_size}
 use Rattle.reuse_plan.specs.Tables.{is_table}
-use Rattle.reuse_plan.specs.TreeStyles.{OwnNames, styles_in}
+use Rattle.reuse_plan.specs.TreeStyles.{styles_in}
 use Rattle.reuse_plan.specs.Selected.{amended_paths, selected_paths}
 use Rattle.reuse_command.specs.declared.command.Command.{Command}
 use Rattle.reuse_command.specs.declared.command.Command.TheVariants.{Amend, Annotate, ConvertDep5, Download}
@@ -69,10 +71,14 @@ pub record CanConvert (tree : Files) : Type 0 where
 
 -- ---- annotations
 
--- the file needn't be read: a neighbour is there or asked for, or the file's name takes no comment
-abbrev pub IsUnread : Scope → OwnNames → List ℕ → Pair → Type 0
+-- no style is asked for, and the file has this kind whatever it holds
+abbrev pub HasKindUnread : Scope → OwnKinds → List ℕ → Kind → Type 0
+HasKindUnread scope own path of_file = (scope.style ≡ None) × (kind_unread own path ≡ Some of_file)
+
+-- the file needn't be read: a neighbour is there or asked for, or the file takes no comment whatever it holds
+abbrev pub IsUnread : Scope → OwnKinds → List ℕ → Pair → Type 0
 IsUnread scope own path pair =
-    IsSome pair.neighbour ⊎ (scope.force_dot_license ≡ true) ⊎ HasKind scope own path kind.Uncommentable
+    IsSome pair.neighbour ⊎ (scope.force_dot_license ≡ true) ⊎ HasKindUnread scope own path kind.Uncommentable
 
 -- the neighbour's path isn't too long, nor is the neighbour; where it isn't there its path doesn't clash
 pub record HasRoomForNeighbour (tree : Files) (path : List ℕ) : Type 0 where
@@ -81,7 +87,7 @@ pub record HasRoomForNeighbour (tree : Files) (path : List ℕ) : Type 0 where
   pub free : get tree (neighbour_of path) ≡ None → ¬ (Clashes tree (neighbour_of path))
 
 -- the file is skipped, or the header rules accept its bytes in its style, or those of its neighbour
-abbrev pub RulesAccept : Additions → How → Scope → OwnNames → List ℕ → List ℕ → Pair → Type 0
+abbrev pub RulesAccept : Additions → How → Scope → OwnKinds → List ℕ → List ℕ → Pair → Type 0
 RulesAccept additions how scope own path bytes pair =
     IsSkipped scope own path bytes pair
     ⊎ ((style : Style) × TakesComment scope own path bytes pair style × IsOk (annotated style how additions bytes))
@@ -90,7 +96,7 @@ RulesAccept additions how scope own path bytes pair =
 
 -- the path has a covered file, which isn't too long where it is read, room beside it where its neighbour takes the
 -- information, and what the rules accept
-pub record CanBeAnnotated (additions : Additions) (how : How) (scope : Scope) (own : OwnNames) (tree : Files)
+pub record CanBeAnnotated (additions : Additions) (how : How) (scope : Scope) (own : OwnKinds) (tree : Files)
     (path : List ℕ) : Type 0 where
   pub bytes : List ℕ
   pub there : get tree path ≡ Some bytes
@@ -103,7 +109,7 @@ pub record CanBeAnnotated (additions : Additions) (how : How) (scope : Scope) (o
 -- can be annotated, and one entry holds them all
 pub record CanAnnotate (places : List Place) (additions : Additions) (how : How) (scope : Scope)
     (tree : Files) : Type 0 where
-  pub own : OwnNames
+  pub own : OwnKinds
   pub styles : styles_in tree ≡ Ok own
   pub root : has_root places ≡ true → scope.recursive ≡ true
   pub each : (path : List ℕ) → Contains (selected_paths scope places tree) path
@@ -118,22 +124,28 @@ pub record CanNeighbourBeAmended (amendments : Amendments) (path beside : List �
   pub short : length beside ≤ LONGEST_FILE
   pub accepted : IsOk (amended_file beside (neighbour_amendment_of amendments beside))
 
--- the file isn't too long, and the rules accept its bytes in the style, where it is text
-pub record CanFileBeAmended (amendments : Amendments) (style : Style) (bytes : List ℕ) : Type 0 where
-  pub short : length bytes ≤ LONGEST_FILE
-  pub accepted : is_text bytes ≡ true → IsOk (amended_file bytes (amendment_of style amendments bytes))
+-- the file has no style whatever it holds, and isn't read
+abbrev pub HasNoStyleUnread : Scope → OwnKinds → List ℕ → Type 0
+HasNoStyleUnread scope own path =
+    HasKindUnread scope own path kind.Uncommentable ⊎ HasKindUnread scope own path kind.Unknown
 
--- the path has a covered file; its neighbour can be amended where that is there, else the file itself where it has a
--- style
-pub record CanCoveredBeAmended (amendments : Amendments) (scope : Scope) (own : OwnNames) (tree : Files)
+-- the file isn't too long, and the rules accept its bytes in its style, where it is text and has one
+pub record CanFileBeAmended (amendments : Amendments) (scope : Scope) (own : OwnKinds)
+    (path bytes : List ℕ) : Type 0 where
+  pub short : length bytes ≤ LONGEST_FILE
+  pub accepted : is_text bytes ≡ true → (style : Style) → IsStyleOf scope own path bytes style
+      → IsOk (amended_file bytes (amendment_of style amendments bytes))
+
+-- the path has a covered file; its neighbour can be amended where that is there, else the file itself where it is read
+pub record CanCoveredBeAmended (amendments : Amendments) (scope : Scope) (own : OwnKinds) (tree : Files)
     (path : List ℕ) : Type 0 where
   pub bytes : List ℕ
   pub there : get tree path ≡ Some bytes
   pub covered : is_covered path ≡ true
   pub by_neighbour : (beside : List ℕ) → get tree (neighbour_of path) ≡ Some beside
       → CanNeighbourBeAmended amendments path beside
-  pub by_file : get tree (neighbour_of path) ≡ None → (style : Style) → IsStyleOf scope own path style
-      → CanFileBeAmended amendments style bytes
+  pub by_file : get tree (neighbour_of path) ≡ None → ¬ (HasNoStyleUnread scope own path)
+      → CanFileBeAmended amendments scope own path bytes
 
 -- the path has a table, which isn't too long, and the rules accept its bytes
 pub record CanTableBeAmended (amendments : Amendments) (tree : Files) (path : List ℕ) : Type 0 where
@@ -144,14 +156,14 @@ pub record CanTableBeAmended (amendments : Amendments) (tree : Files) (path : Li
   pub accepted : IsOk (amended_table bytes (toml_amendment_of amendments bytes))
 
 -- the path has a table that can be amended, or a covered file that can be
-abbrev pub CanBeAmended : Amendments → Scope → OwnNames → Files → List ℕ → Type 0
+abbrev pub CanBeAmended : Amendments → Scope → OwnKinds → Files → List ℕ → Type 0
 CanBeAmended amendments scope own tree path =
     CanTableBeAmended amendments tree path ⊎ CanCoveredBeAmended amendments scope own tree path
 
 -- the tree's own styles are good, the root is given only where folders are gone through, each path that is gone through
 -- can be amended, and one entry holds them all
 pub record CanAmend (places : List Place) (amendments : Amendments) (scope : Scope) (tree : Files) : Type 0 where
-  pub own : OwnNames
+  pub own : OwnKinds
   pub styles : styles_in tree ≡ Ok own
   pub root : has_root places ≡ true → scope.recursive ≡ true
   pub each : (path : List ℕ) → Contains (amended_paths scope places tree) path

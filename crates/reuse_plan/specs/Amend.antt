@@ -1,8 +1,8 @@
 -- What amend does at each path of a tree: the information is amended where it stands, in the neighbour that is there or
 -- else in the file's own header block, and in a table, a file `REUSE.toml`, in its values. Nothing is made, and no file
 -- is refused for want of a style (docs/RULES.md, "What amend writes").
-use Rattle.std.specs.Prelude.{ℕ, not, List, length, take, drop, nat_lt, Option, Some, None, Result, Ok, Err}
-use Rattle.std.specs.Prelude.{if◌then◌else◌}
+use Rattle.std.specs.Prelude.{ℕ, Bool, false, not, ◌&&◌, List, length, take, drop, nat_lt, Option, Some, None, is_none}
+use Rattle.std.specs.Prelude.{Result, Ok, Err, if◌then◌else◌}
 use Rattle.std.specs.FinMap.{get}
 use Rattle.reuse_text.specs.Text.{spliced}
 use Rattle.reuse_toml.specs.declared.toml_change.TomlSplice.{TomlSplice}
@@ -15,7 +15,7 @@ use Rattle.reuse_style.specs.declared.style.Kind.{Kind}
 use Rattle.reuse_style.specs.declared.style.Kind.TheVariants as kind
 use Rattle.reuse_header.specs.declared.amendment.AmendHeaderRefusal.{AmendHeaderRefusal}
 use Rattle.reuse_header.specs.declared.amendment.AmendHeaderRefusal.TheVariants as header_refusals
-use Rattle.reuse_style.specs.Names.{kind_in}
+use Rattle.reuse_style.specs.Kinds.{OwnKinds, kind_of_file, kind_unread}
 use Rattle.reuse_text.specs.declared.TheConstants.{LONGEST_FILE}
 use Rattle.reuse_header.specs.Amendment.{amendment_of, neighbour_amendment_of}
 use Rattle.reuse_header.specs.Annotation as header
@@ -27,7 +27,6 @@ use Rattle.reuse_command.specs.Covered.{is_covered}
 use Rattle.reuse_plan.specs.Edit.{Edit}
 use Rattle.reuse_plan.specs.HeaderFaults.{refused_by}
 use Rattle.reuse_plan.specs.Tables.{is_table}
-use Rattle.reuse_plan.specs.TreeStyles.{OwnNames}
 use Rattle.reuse_command.specs.declared.amend_fault.AmendFault.TheVariants.{BadExpression, NothingLeft, CannotBeAmended}
 use Rattle.reuse_command.specs.declared.command.Place.TheVariants as place
 use Rattle.reuse_command.specs.declared.command.Scope.{Scope}
@@ -45,12 +44,21 @@ style_of_kind kind.Unknown = None
 
 -- the one that is asked for
 abbrev pub style_or_named : Option Style → Kind → Option Style
-style_or_named (Some style) of_name = Some style
-style_or_named None of_name = style_of_kind of_name
+style_or_named (Some style) of_file = Some style
+style_or_named None of_file = style_of_kind of_file
 
--- else that of the name, of which the tree's own stand first
-abbrev pub style_for : Scope → OwnNames → List ℕ → Option Style
-style_for scope own path = style_or_named scope.style (kind_in own path)
+-- else that which a file of these bytes has by its name or by a rule of the tree
+abbrev pub style_for : Scope → OwnKinds → List ℕ → List ℕ → Option Style
+style_for scope own path bytes = style_or_named scope.style (kind_of_file own path bytes)
+
+-- a kind that is known, and has no style
+abbrev pub has_no_style : Option Kind → Bool
+has_no_style None = false
+has_no_style (Some of_file) = is_none (style_of_kind of_file)
+
+-- there is no style, whatever the file holds
+abbrev pub has_no_style_unread : Scope → OwnKinds → List ℕ → Bool
+has_no_style_unread scope own path = is_none scope.style && has_no_style (kind_unread own path)
 
 -- ---- what is done at a place
 
@@ -74,19 +82,25 @@ amend_neighbour amendments path beside =
     else if nat_lt LONGEST_FILE (length beside) then Err (TooLong path)
     else amendment_edit path (neighbour_of path) beside (neighbour_amendment_of amendments beside)
 
--- the header block of a file that is text; without a style it isn't looked for
-abbrev pub amend_inside : Amendments → List ℕ → List ℕ → Option Style → Result (Option Edit) Refusal
-amend_inside amendments path bytes None = Ok None
-amend_inside amendments path bytes (Some style) =
-    if nat_lt LONGEST_FILE (length bytes) then Err (TooLong path)
+-- the header block of a file; without a style it isn't looked for
+abbrev pub amend_block : Amendments → List ℕ → List ℕ → Option Style → Result (Option Edit) Refusal
+amend_block amendments path bytes None = Ok None
+amend_block amendments path bytes (Some style) =
+    amendment_edit path path bytes (amendment_of style amendments bytes)
+
+-- the file itself, if it is text; it isn't read where it has no style whatever it holds
+abbrev pub amend_inside : Amendments → Scope → OwnKinds → List ℕ → List ℕ → Result (Option Edit) Refusal
+amend_inside amendments scope own path bytes =
+    if has_no_style_unread scope own path then Ok None
+    else if nat_lt LONGEST_FILE (length bytes) then Err (TooLong path)
     else if not (is_text bytes) then Ok None
-    else amendment_edit path path bytes (amendment_of style amendments bytes)
+    else amend_block amendments path bytes (style_for scope own path bytes)
 
 -- the neighbour where it is there, else the file
-abbrev pub amend_covered : Amendments → Scope → OwnNames → List ℕ → List ℕ → Option (List ℕ)
+abbrev pub amend_covered : Amendments → Scope → OwnKinds → List ℕ → List ℕ → Option (List ℕ)
     → Result (Option Edit) Refusal
 amend_covered amendments scope own path bytes (Some beside) = amend_neighbour amendments path beside
-amend_covered amendments scope own path bytes None = amend_inside amendments path bytes (style_for scope own path)
+amend_covered amendments scope own path bytes None = amend_inside amendments scope own path bytes
 
 -- ---- a table
 
@@ -127,7 +141,7 @@ amend_table amendments path bytes =
 -- ---- a path
 
 -- what amend does at a path, where the tree has this
-abbrev pub amended_where : Amendments → Scope → OwnNames → Files → List ℕ → Option (List ℕ)
+abbrev pub amended_where : Amendments → Scope → OwnKinds → Files → List ℕ → Option (List ℕ)
     → Result (Option Edit) Refusal
 amended_where amendments scope own tree path None =
     if is_folder tree path then Err (IsFolder (place.Path path)) else Err (NoSuchPath path)
@@ -136,5 +150,5 @@ amended_where amendments scope own tree path (Some bytes) =
     else if not (is_covered path) then Err (NotCovered path)
     else amend_covered amendments scope own path bytes (get tree (neighbour_of path))
 
-abbrev pub amended_at : Amendments → Scope → OwnNames → Files → List ℕ → Result (Option Edit) Refusal
+abbrev pub amended_at : Amendments → Scope → OwnKinds → Files → List ℕ → Result (Option Edit) Refusal
 amended_at amendments scope own tree path = amended_where amendments scope own tree path (get tree path)

@@ -8,6 +8,7 @@ use Rattle.reuse_text.specs.Text.{mark_len_of}
 use Rattle.reuse_amend.specs.declared.amendments.Amendments.{Amendments}
 use Rattle.reuse_toml.specs.TomlAmending.{toml_amendment_of}
 use Rattle.reuse_toml.specs.TomlLaws.{IsAmendedText, DiffersInStrings}
+use Rattle.reuse_style.specs.Kinds.{OwnKinds}
 use Rattle.reuse_style.specs.declared.style.Style.{Style}
 use Rattle.reuse_style.specs.declared.style.Kind.TheVariants as kind
 use Rattle.reuse_header.specs.Amendment.{amended_file, amendment_of, neighbour_amendment_of}
@@ -19,7 +20,7 @@ use Rattle.reuse_plan.specs.Annotate.{neighbour_of}
 use Rattle.reuse_plan.specs.Annotated.{IsSameAround, IsStyleOf, HasKind, Pair, pair_at}
 use Rattle.reuse_command.specs.Covered.{is_covered}
 use Rattle.reuse_plan.specs.Tables.{is_table}
-use Rattle.reuse_plan.specs.TreeStyles.{OwnNames, styles_in}
+use Rattle.reuse_plan.specs.TreeStyles.{styles_in}
 use Rattle.reuse_plan.specs.Selected.{amended_paths}
 use Rattle.reuse_command.specs.declared.command.Place.{Place}
 use Rattle.reuse_command.specs.declared.command.Scope.{Scope}
@@ -44,26 +45,27 @@ pub record IsNeighbourAmended (amendments : Amendments) (old new : Pair) : Type 
 
 -- The file has no neighbour, is text and has a style. It holds what the rules make of its own bytes, and no neighbour
 -- is made. It is as it was, or has a header block and each byte outside it stays.
-pub record IsFileAmended (amendments : Amendments) (scope : Scope) (own : OwnNames) (path bytes : List ℕ)
+pub record IsFileAmended (amendments : Amendments) (scope : Scope) (own : OwnKinds) (path bytes : List ℕ)
     (old new : Pair) : Type 0 where
   pub alone : old.neighbour ≡ None
   pub text : is_text bytes ≡ true
   pub style : Style
-  pub of_style : IsStyleOf scope own path style
+  pub of_style : IsStyleOf scope own path bytes style
   pub made : List ℕ
   pub by_rules : amended_file bytes (amendment_of style amendments bytes) ≡ Ok made
   pub holds : new ≡ record { file = Some made; neighbour = None }
   pub keeps : (made ≡ bytes) ⊎ KeepsOutsideBlock style bytes made
 
 -- it has no neighbour, and isn't text or has no style, so that nothing in it is amended
-abbrev pub HasNoPlace : Scope → OwnNames → List ℕ → List ℕ → Pair → Type 0
+abbrev pub HasNoPlace : Scope → OwnKinds → List ℕ → List ℕ → Pair → Type 0
 HasNoPlace scope own path bytes pair =
     (pair.neighbour ≡ None)
-    × ((is_text bytes ≡ false) ⊎ HasKind scope own path kind.Uncommentable ⊎ HasKind scope own path kind.Unknown)
+    × ((is_text bytes ≡ false) ⊎ HasKind scope own path bytes kind.Uncommentable
+    ⊎ HasKind scope own path bytes kind.Unknown)
 
 -- the path has a covered file, which has no place that is amended, and then both stay; or it is amended, or its
 -- neighbour is
-pub record IsCoveredAmended (amendments : Amendments) (scope : Scope) (own : OwnNames) (path : List ℕ)
+pub record IsCoveredAmended (amendments : Amendments) (scope : Scope) (own : OwnKinds) (path : List ℕ)
     (old new : Pair) : Type 0 where
   pub bytes : List ℕ
   pub there : old.file ≡ Some bytes
@@ -86,16 +88,16 @@ pub record IsTableAmended (amendments : Amendments) (old new : Pair) : Type 0 wh
   pub keeps : (made ≡ bytes) ⊎ DiffersInStrings bytes made
 
 -- the path is that of a table, which is amended; or it has a covered file, which is
-abbrev pub IsAmended : Amendments → Scope → OwnNames → List ℕ → Pair → Pair → Type 0
+abbrev pub IsAmended : Amendments → Scope → OwnKinds → List ℕ → Pair → Pair → Type 0
 IsAmended amendments scope own path old new =
     ((is_table path ≡ true) × IsTableAmended amendments old new) ⊎ IsCoveredAmended amendments scope own path old new
 
 -- ---- the tree
 
--- by the tree's own names each file that is gone through is amended, and each path holds what it held that is none of
+-- by the tree's own styles each file that is gone through is amended, and each path holds what it held that is none of
 -- these nor a neighbour of one
 pub record Amends (places : List Place) (amendments : Amendments) (scope : Scope) (before after : Files) : Type 0 where
-  pub own : OwnNames
+  pub own : OwnKinds
   pub styles : styles_in before ≡ Ok own
   pub selected : (path : List ℕ) → Contains (amended_paths scope places before) path
       → IsAmended amendments scope own path (pair_at before path) (pair_at after path)

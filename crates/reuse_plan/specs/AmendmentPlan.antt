@@ -1,16 +1,16 @@
 -- What an amendment that is asked for does, by the styles of its tree, for private clauses.
-use Rattle.std.specs.Prelude.{ℕ, ◌+◌, ◌≤◌, List, length, Option, Some, None, Result, Ok, Err}
+use Rattle.std.specs.Prelude.{ℕ, Bool, ◌+◌, ◌≤◌, List, length, Option, Some, None, Result, Ok, Err}
 use Rattle.reuse_toml.specs.declared.toml_change.TomlSplice.{TomlSplice}
 use Rattle.reuse_toml.specs.declared.toml_values.AmendTomlRefusal.{AmendTomlRefusal}
 use Rattle.reuse_header.specs.Annotation as header
-use Rattle.reuse_style.specs.Names.{lookup}
+use Rattle.reuse_style.specs.Kinds.{OwnKinds, kinds_by}
 use Rattle.reuse_header.specs.declared.amendment.AmendHeaderRefusal.{AmendHeaderRefusal}
 use Rattle.reuse_style.specs.declared.style.Style.{Style}
 use Rattle.reuse_text.specs.declared.TheConstants.{LONGEST_FILE}
 use Rattle.reuse_change.specs.Files.{Files}
-use Rattle.reuse_plan.specs.Amend.{amended_at, amend_inside, amend_neighbour, amend_table, style_for}
+use Rattle.reuse_plan.specs.Amend.{amended_at, amend_inside, amend_neighbour, amend_table}
+use Rattle.reuse_plan.specs.Amend.{amend_block, has_no_style_unread, style_for}
 use Rattle.reuse_plan.specs.Edit.{Edit}
-use Rattle.reuse_plan.specs.TreeStyles.{OwnNames}
 use Rattle.reuse_plan.specs.declared.annotation.Amendment.{Amendment}
 use Rattle.reuse_command.specs.declared.reply.Refusal.{Refusal}
 
@@ -25,24 +25,32 @@ Fits bytes (Ok (Some edit)) =
 Fits bytes (Ok None) = Unit {0}
 Fits bytes (Err refusal) = Unit {0}
 
--- the tree's own names
-abbrev pub names_of : Amendment → OwnNames
-names_of asked = lookup asked.styles.now
+-- the tree's own styles
+abbrev pub own_of : Amendment → OwnKinds
+own_of asked = kinds_by asked.styles.now
 
 abbrev pub amended_by : Amendment → Files → List ℕ → Result (Option Edit) Refusal
-amended_by asked tree path = amended_at asked.amendments.now asked.scope.now (names_of asked) tree path
+amended_by asked tree path = amended_at asked.amendments.now asked.scope.now (own_of asked) tree path
 
--- the style of the file
-abbrev pub style_by : Amendment → List ℕ → Option Style
-style_by asked path = style_for asked.scope.now (names_of asked) path
+-- the style of the file, of these bytes
+abbrev pub style_by : Amendment → List ℕ → List ℕ → Option Style
+style_by asked path bytes = style_for asked.scope.now (own_of asked) path bytes
+
+-- there is none, whatever the file holds
+abbrev pub has_no_style_by : Amendment → List ℕ → Bool
+has_no_style_by asked path = has_no_style_unread asked.scope.now (own_of asked) path
 
 -- where its neighbour is there, of these bytes
 abbrev pub beside_by : Amendment → List ℕ → List ℕ → Result (Option Edit) Refusal
 beside_by asked path beside = amend_neighbour asked.amendments.now path beside
 
 -- where it isn't, and the file has these bytes
-abbrev pub inside_by : Amendment → List ℕ → List ℕ → Option Style → Result (Option Edit) Refusal
-inside_by asked path bytes style = amend_inside asked.amendments.now path bytes style
+abbrev pub inside_by : Amendment → List ℕ → List ℕ → Result (Option Edit) Refusal
+inside_by asked path bytes = amend_inside asked.amendments.now asked.scope.now (own_of asked) path bytes
+
+-- its header block, in this style
+abbrev pub block_by : Amendment → List ℕ → List ℕ → Option Style → Result (Option Edit) Refusal
+block_by asked path bytes style = amend_block asked.amendments.now path bytes style
 
 -- a table, of these bytes
 abbrev pub table_by : Amendment → List ℕ → List ℕ → Result (Option Edit) Refusal

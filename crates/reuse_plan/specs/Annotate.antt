@@ -11,9 +11,8 @@ use Rattle.reuse_style.specs.declared.style.Kind.{Kind}
 use Rattle.reuse_style.specs.declared.style.Kind.TheVariants as kind
 use Rattle.reuse_header.specs.declared.annotation.How.{How}
 use Rattle.reuse_header.specs.declared.annotation.HeaderRefusal.{HeaderRefusal}
-use Rattle.reuse_style.specs.Names.{kind_in}
+use Rattle.reuse_style.specs.Kinds.{OwnKinds, kind_of_file, kind_unread}
 use Rattle.reuse_text.specs.declared.TheConstants.{LONGEST_FILE}
-use Rattle.reuse_plan.specs.TreeStyles.{OwnNames}
 use Rattle.reuse_header.specs.Header.{header_of, neighbour_contents}
 use Rattle.reuse_header.specs.Tagged.{has_tag}
 use Rattle.reuse_header.specs.Annotation as header
@@ -46,42 +45,43 @@ target_of_unknown unknown.Refuse path = Err (Unrecognised path)
 target_of_unknown unknown.Neighbour path = Ok InNeighbour
 target_of_unknown unknown.Skip path = Ok Nowhere
 
--- by the name of the file
-abbrev pub target_by_name : Unknown → List ℕ → Kind → Result Target Refusal
-target_by_name asked path (kind.Style style) = Ok (Inside style)
-target_by_name asked path kind.Uncommentable = Ok InNeighbour
-target_by_name asked path kind.Unknown = target_of_unknown asked path
+-- by the kind of the file
+abbrev pub target_by_kind : Unknown → List ℕ → Kind → Result Target Refusal
+target_by_kind asked path (kind.Style style) = Ok (Inside style)
+target_by_kind asked path kind.Uncommentable = Ok InNeighbour
+target_by_kind asked path kind.Unknown = target_of_unknown asked path
 
--- by the style that is asked for, else by the name; the tree's own names stand first
-abbrev pub target_by_style : Scope → OwnNames → List ℕ → Option Style → Result Target Refusal
-target_by_style scope own path (Some style) = Ok (Inside style)
-target_by_style scope own path None = target_by_name scope.unknown path (kind_in own path)
+-- by the style that is asked for, else by the kind that the file has by its name or by a rule
+abbrev pub target_by_style : Scope → OwnKinds → List ℕ → List ℕ → Option Style → Result Target Refusal
+target_by_style scope own path bytes (Some style) = Ok (Inside style)
+target_by_style scope own path bytes None = target_by_kind scope.unknown path (kind_of_file own path bytes)
 
 -- by the bytes of the file: a binary goes to its neighbour
-abbrev pub target_by_bytes : Scope → OwnNames → List ℕ → List ℕ → Result Target Refusal
+abbrev pub target_by_bytes : Scope → OwnKinds → List ℕ → List ℕ → Result Target Refusal
 target_by_bytes scope own path bytes =
     if nat_lt LONGEST_FILE (length bytes) then Err (TooLong path)
     else if not (is_text bytes) then Ok InNeighbour
-    else target_by_style scope own path scope.style
+    else target_by_style scope own path bytes scope.style
 
--- a name that takes no comment
-abbrev pub is_uncommentable : Kind → Bool
-is_uncommentable (kind.Style style) = false
-is_uncommentable kind.Uncommentable = true
-is_uncommentable kind.Unknown = false
+-- a kind that is known, and takes no comment
+abbrev pub is_uncommentable : Option Kind → Bool
+is_uncommentable None = false
+is_uncommentable (Some (kind.Style style)) = false
+is_uncommentable (Some kind.Uncommentable) = true
+is_uncommentable (Some kind.Unknown) = false
 
--- the target is the neighbour, whether that is there or not: it is asked for, or the name takes no comment and no style
--- is asked for
-abbrev pub goes_to_neighbour_unread : Scope → OwnNames → List ℕ → Bool
+-- the target is the neighbour, whether that is there or not, and whatever the file holds: it is asked for, or the file
+-- takes no comment, by its name or by a rule, and no style is asked for
+abbrev pub goes_to_neighbour_unread : Scope → OwnKinds → List ℕ → Bool
 goes_to_neighbour_unread scope own path =
-    scope.force_dot_license || (is_none scope.style && is_uncommentable (kind_in own path))
+    scope.force_dot_license || (is_none scope.style && is_uncommentable (kind_unread own path))
 
 -- the target is the neighbour, whatever the file holds: so, or since it is there
-abbrev pub goes_to_neighbour : Scope → OwnNames → Files → List ℕ → Bool
+abbrev pub goes_to_neighbour : Scope → OwnKinds → Files → List ℕ → Bool
 goes_to_neighbour scope own tree path =
     is_some (get tree (neighbour_of path)) || goes_to_neighbour_unread scope own path
 
-abbrev pub target_of : Scope → OwnNames → Files → List ℕ → List ℕ → Result Target Refusal
+abbrev pub target_of : Scope → OwnKinds → Files → List ℕ → List ℕ → Result Target Refusal
 target_of scope own tree path bytes =
     if goes_to_neighbour scope own tree path then Ok InNeighbour else target_by_bytes scope own path bytes
 
@@ -132,7 +132,7 @@ edit_target how scope additions tree path bytes (Ok InNeighbour) = edit_of_neigh
 edit_target how scope additions tree path bytes (Ok (Inside style)) = edit_inside how scope additions path bytes style
 
 -- what annotate does at a path, where the tree has this
-abbrev pub annotated_where : How → Scope → Additions → OwnNames → Files → List ℕ → Option (List ℕ)
+abbrev pub annotated_where : How → Scope → Additions → OwnKinds → Files → List ℕ → Option (List ℕ)
     → Result (Option Edit) Refusal
 annotated_where how scope additions own tree path None =
     if is_folder tree path then Err (IsFolder (place.Path path)) else Err (NoSuchPath path)
@@ -140,5 +140,5 @@ annotated_where how scope additions own tree path (Some bytes) =
     if not (is_covered path) then Err (NotCovered path)
     else edit_target how scope additions tree path bytes (target_of scope own tree path bytes)
 
-abbrev pub annotated_at : How → Scope → Additions → OwnNames → Files → List ℕ → Result (Option Edit) Refusal
+abbrev pub annotated_at : How → Scope → Additions → OwnKinds → Files → List ℕ → Result (Option Edit) Refusal
 annotated_at how scope additions own tree path = annotated_where how scope additions own tree path (get tree path)

@@ -13,12 +13,12 @@ use Rattle.reuse_style.specs.declared.style.Kind.TheVariants as kind
 use Rattle.reuse_header.specs.declared.annotation.How.{How}
 use Rattle.reuse_header.specs.Annotation.{annotated, replaced_block}
 use Rattle.reuse_header.specs.Header.{HeaderSpan, header_of, span_in}
-use Rattle.reuse_style.specs.Names.{kind_in}
+use Rattle.reuse_style.specs.Kinds.{OwnKinds, kind_of_file}
 use Rattle.reuse_header.specs.Neighbour.{is_text, neighbour_annotated, neighbour_end}
 use Rattle.reuse_change.specs.Files.{Files}
 use Rattle.reuse_plan.specs.Annotate.{neighbour_of, neighbour_is_tagged}
 use Rattle.reuse_command.specs.Covered.{is_covered}
-use Rattle.reuse_plan.specs.TreeStyles.{OwnNames, styles_in}
+use Rattle.reuse_plan.specs.TreeStyles.{styles_in}
 use Rattle.reuse_plan.specs.Selected.{selected_paths}
 use Rattle.reuse_command.specs.declared.command.Place.{Place}
 use Rattle.reuse_command.specs.declared.command.Scope.{Scope}
@@ -53,35 +53,35 @@ pub record Pair : Type 0 where
 abbrev pub pair_at : Files → List ℕ → Pair
 pair_at files path = record { file = get files path; neighbour = get files (neighbour_of path) }
 
--- the style of the comments of a file: the one that is asked for, or else that of its name; the tree's own names stand
--- first
-abbrev pub IsStyleOf : Scope → OwnNames → List ℕ → Style → Type 0
-IsStyleOf scope own path style =
-    (scope.style ≡ Some style) ⊎ ((scope.style ≡ None) × (kind_in own path ≡ kind.Style style))
+-- the style of the comments of a file: the one that is asked for, or else that which the file has by its name or by a
+-- rule of the tree
+abbrev pub IsStyleOf : Scope → OwnKinds → List ℕ → List ℕ → Style → Type 0
+IsStyleOf scope own path bytes style =
+    (scope.style ≡ Some style) ⊎ ((scope.style ≡ None) × (kind_of_file own path bytes ≡ kind.Style style))
 
--- no style is asked for, and the name has this kind
-abbrev pub HasKind : Scope → OwnNames → List ℕ → Kind → Type 0
-HasKind scope own path of_name = (scope.style ≡ None) × (kind_in own path ≡ of_name)
+-- no style is asked for, and the file has this kind
+abbrev pub HasKind : Scope → OwnKinds → List ℕ → List ℕ → Kind → Type 0
+HasKind scope own path bytes of_file = (scope.style ≡ None) × (kind_of_file own path bytes ≡ of_file)
 
 -- the file takes a comment of this style: it is text, and has no neighbour, nor is one asked for
-pub record TakesComment (scope : Scope) (own : OwnNames) (path bytes : List ℕ) (pair : Pair)
+pub record TakesComment (scope : Scope) (own : OwnKinds) (path bytes : List ℕ) (pair : Pair)
     (style : Style) : Type 0 where
   pub text : is_text bytes ≡ true
   pub alone : pair.neighbour ≡ None
   pub unforced : scope.force_dot_license ≡ false
-  pub of_style : IsStyleOf scope own path style
+  pub of_style : IsStyleOf scope own path bytes style
 
--- its neighbour takes the information: it is there or asked for, or the file isn't text, or its name takes no comment,
--- or has no style and such files have neighbours
-abbrev pub TakesNeighbour : Scope → OwnNames → List ℕ → List ℕ → Pair → Type 0
+-- its neighbour takes the information: it is there or asked for, or the file isn't text, or takes no comment by its
+-- kind, or has no style and such files have neighbours
+abbrev pub TakesNeighbour : Scope → OwnKinds → List ℕ → List ℕ → Pair → Type 0
 TakesNeighbour scope own path bytes pair =
     IsSome pair.neighbour ⊎ (scope.force_dot_license ≡ true) ⊎ (is_text bytes ≡ false)
-    ⊎ HasKind scope own path kind.Uncommentable
-    ⊎ (HasKind scope own path kind.Unknown × (scope.unknown ≡ unknown.Neighbour))
+    ⊎ HasKind scope own path bytes kind.Uncommentable
+    ⊎ (HasKind scope own path bytes kind.Unknown × (scope.unknown ≡ unknown.Neighbour))
 
 -- The file is commented: it holds what the header rules make of its own bytes. Each byte outside the old header block
 -- stays, and there is no neighbour.
-pub record IsCommented (additions : Additions) (how : How) (scope : Scope) (own : OwnNames) (path bytes : List ℕ)
+pub record IsCommented (additions : Additions) (how : How) (scope : Scope) (own : OwnKinds) (path bytes : List ℕ)
     (old new : Pair) : Type 0 where
   pub style : Style
   pub takes : TakesComment scope own path bytes old style
@@ -97,7 +97,7 @@ file_written old made = Some made
 
 -- The file stays, and its neighbour holds what the rules make of the neighbour's own bytes, or of none where it isn't
 -- there. Each byte outside its old block stays.
-pub record IsAccompanied (additions : Additions) (how : How) (scope : Scope) (own : OwnNames) (path bytes : List ℕ)
+pub record IsAccompanied (additions : Additions) (how : How) (scope : Scope) (own : OwnKinds) (path bytes : List ℕ)
     (old new : Pair) : Type 0 where
   pub takes : TakesNeighbour scope own path bytes old
   pub made : List ℕ
@@ -107,26 +107,26 @@ pub record IsAccompanied (additions : Additions) (how : How) (scope : Scope) (ow
       (unwrap_or old.neighbour []) made
 
 -- the file or its neighbour, whichever takes it, has licensing information
-abbrev pub HasInformation : Scope → OwnNames → List ℕ → List ℕ → Pair → Type 0
+abbrev pub HasInformation : Scope → OwnKinds → List ℕ → List ℕ → Pair → Type 0
 HasInformation scope own path bytes pair =
     ((style : Style) × TakesComment scope own path bytes pair style × IsSome (header_of style bytes))
     ⊎ ((beside : List ℕ) × (pair.neighbour ≡ Some beside) × (neighbour_is_tagged beside ≡ true))
 
--- it is asked for that such a file is skipped: its name has no style, and nothing else calls for its neighbour; or
+-- it is asked for that such a file is skipped: it has no style, and nothing else calls for its neighbour; or
 -- there is licensing information
-abbrev pub IsSkipped : Scope → OwnNames → List ℕ → List ℕ → Pair → Type 0
+abbrev pub IsSkipped : Scope → OwnKinds → List ℕ → List ℕ → Pair → Type 0
 IsSkipped scope own path bytes pair =
-    (HasKind scope own path kind.Unknown × (scope.unknown ≡ unknown.Skip)
+    (HasKind scope own path bytes kind.Unknown × (scope.unknown ≡ unknown.Skip)
     × ¬ (TakesNeighbour scope own path bytes pair))
     ⊎ ((scope.skip_existing ≡ true) × HasInformation scope own path bytes pair)
 
 -- the path has a file, which is skipped
-abbrev pub IsSkippedAt : Scope → OwnNames → Files → List ℕ → Type 0
+abbrev pub IsSkippedAt : Scope → OwnKinds → Files → List ℕ → Type 0
 IsSkippedAt scope own tree path =
     (bytes : List ℕ) × (get tree path ≡ Some bytes) × IsSkipped scope own path bytes (pair_at tree path)
 
 -- the path has a covered file, which is skipped, and then both stay; or is commented; or accompanied
-pub record IsAnnotated (additions : Additions) (how : How) (scope : Scope) (own : OwnNames) (path : List ℕ)
+pub record IsAnnotated (additions : Additions) (how : How) (scope : Scope) (own : OwnKinds) (path : List ℕ)
     (old new : Pair) : Type 0 where
   pub bytes : List ℕ
   pub there : old.file ≡ Some bytes
@@ -138,11 +138,11 @@ pub record IsAnnotated (additions : Additions) (how : How) (scope : Scope) (own 
 
 -- ---- the tree
 
--- by the tree's own names each file that is gone through is annotated, and each path holds what it held that is none of
--- these nor a neighbour of one
+-- by the tree's own styles each file that is gone through is annotated, and each path holds what it held that is none
+-- of these nor a neighbour of one
 pub record Annotates (places : List Place) (additions : Additions) (how : How) (scope : Scope)
     (before after : Files) : Type 0 where
-  pub own : OwnNames
+  pub own : OwnKinds
   pub styles : styles_in before ≡ Ok own
   pub selected : (path : List ℕ) → Contains (selected_paths scope places before) path
       → IsAnnotated additions how scope own path (pair_at before path) (pair_at after path)

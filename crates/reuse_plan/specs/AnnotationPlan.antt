@@ -2,24 +2,23 @@
 use Rattle.std.specs.Prelude.{ℕ, ◌&&◌, List, Option, None, is_some, Result}
 use Rattle.std.specs.FinMap.{get}
 use Rattle.reuse_header.specs.Header.{header_of}
-use Rattle.reuse_style.specs.Names.{lookup}
+use Rattle.reuse_style.specs.Kinds.{OwnKinds, kinds_by}
 use Rattle.reuse_style.specs.declared.style.Style.{Style}
 use Rattle.reuse_change.specs.Files.{Files}
 use Rattle.reuse_plan.specs.Annotate.{neighbour_of, annotated_at, edit_of_neighbour, edit_inside, edit_neighbour}
 use Rattle.reuse_plan.specs.Annotate.{edit_target, target_by_bytes}
 use Rattle.reuse_plan.specs.Edit.{Edit}
-use Rattle.reuse_plan.specs.Harmed.{harm_at, new_harm}
+use Rattle.reuse_plan.specs.Harmed.{harm_at, harm_inside}
 use Rattle.reuse_plan.specs.Outcome.{annotation_at}
 use Rattle.reuse_plan.specs.PathEdits.{PathEdit}
 use Rattle.reuse_plan.specs.Skipped.{has_tagged, is_skipped_at}
-use Rattle.reuse_plan.specs.TreeStyles.{OwnNames}
 use Rattle.reuse_plan.specs.declared.annotation.Annotation.{Annotation}
 use Rattle.reuse_command.specs.declared.reply.Refusal.{Refusal}
 use Rattle.reuse_plan.specs.declared.target.Target.{Target}
 
--- the tree's own names
-abbrev pub own_of : Annotation → OwnNames
-own_of asked = lookup asked.styles.now
+-- the tree's own styles
+abbrev pub own_of : Annotation → OwnKinds
+own_of asked = kinds_by asked.styles.now
 
 abbrev pub annotated_by : Annotation → Files → List ℕ → Result (Option Edit) Refusal
 annotated_by asked tree path = annotated_at asked.how.now asked.scope.now asked.additions.now (own_of asked) tree path
@@ -86,6 +85,6 @@ path_inside_by asked path bytes style =
     record {
       path = path;
       skipped = asked.scope.now.skip_existing && is_some (header_of style bytes);
-      harm = new_harm style bytes;
+      harm = harm_inside style bytes;
       edit = inside_by asked path bytes style;
     }

@@ -19,7 +19,8 @@ use Rattle.reuse_plan.specs.PathEdits.{PathEdit, refused_alone, all_or_none, edi
 use Rattle.reuse_plan.specs.Reverting.{reverted_at}
 use Rattle.reuse_plan.specs.Skipped.{is_skipped}
 use Rattle.reuse_plan.specs.StyleEdits.{style_edits}
-use Rattle.reuse_plan.specs.TreeStyles.{OwnNames, styles_in}
+use Rattle.reuse_plan.specs.TreeStyles.{styles_in}
+use Rattle.reuse_style.specs.Kinds.{OwnKinds}
 use Rattle.reuse_plan.specs.Selected.{amended_paths, selected_paths}
 use Rattle.reuse_command.specs.declared.command.Command.{Command}
 use Rattle.reuse_command.specs.declared.command.Command.TheVariants.{Annotate, Amend, ConvertDep5, Download, Revert}
@@ -69,7 +70,7 @@ at_places at scope places paths =
     if not scope.recursive && has_root places then refused_alone (IsFolder place.Root) else map at paths
 
 -- what annotate does at a path, where the tree gives these kinds to its own names
-abbrev pub annotation_at : How → Scope → Additions → OwnNames → Files → List ℕ → PathEdit
+abbrev pub annotation_at : How → Scope → Additions → OwnKinds → Files → List ℕ → PathEdit
 annotation_at how scope additions own tree path =
     record {
       path = path;
@@ -79,17 +80,17 @@ annotation_at how scope additions own tree path =
     }
 
 -- at these places; the refusal of the tree's styles stands alone
-abbrev pub annotations_by : List Place → Additions → How → Scope → Files → Result OwnNames Refusal → List PathEdit
+abbrev pub annotations_by : List Place → Additions → How → Scope → Files → Result OwnKinds Refusal → List PathEdit
 annotations_by places additions how scope tree (Err refusal) = refused_alone refusal
 annotations_by places additions how scope tree (Ok own) =
     at_places (annotation_at how scope additions own tree) scope places (selected_paths scope places tree)
 
 -- what amend does at a path: it skips none, and puts no header into a file without one
-abbrev pub amendment_at : Amendments → Scope → OwnNames → Files → List ℕ → PathEdit
+abbrev pub amendment_at : Amendments → Scope → OwnKinds → Files → List ℕ → PathEdit
 amendment_at amendments scope own tree path =
     record { path = path; skipped = false; harm = None; edit = amended_at amendments scope own tree path }
 
-abbrev pub amendments_by : List Place → Amendments → Scope → Files → Result OwnNames Refusal → List PathEdit
+abbrev pub amendments_by : List Place → Amendments → Scope → Files → Result OwnKinds Refusal → List PathEdit
 amendments_by places amendments scope tree (Err refusal) = refused_alone refusal
 amendments_by places amendments scope tree (Ok own) =
     at_places (amendment_at amendments scope own tree) scope places (amended_paths scope places tree)

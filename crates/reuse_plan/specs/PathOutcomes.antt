@@ -1,6 +1,7 @@
 -- What a call would do, path by path: reported on the whole tree, before anything changes.
 use Rattle.std.specs.Prelude.{◌≡◌, ℕ, Bool, List, [], ◌∷◌, ◌++◌, map, Option, Some, None, Result, Ok, Err}
 use Rattle.std.specs.Prelude.{if◌then◌else◌}
+use Rattle.reuse_header.specs.declared.harm.Harm.{Harm}
 use Rattle.reuse_change.specs.Files.{Files}
 use Rattle.reuse_change.specs.Change.{path_of}
 use Rattle.reuse_change.specs.declared.change.Change.{Change}
@@ -17,15 +18,15 @@ use Rattle.reuse_command.specs.declared.reply.Refusal.TheVariants.{Moved, TooMan
 
 -- ---- one path
 
--- by what is done at the path: the place that is written changes; where nothing is, the file is skipped or needs no
--- change
-abbrev pub path_outcome_by : List ℕ → Bool → Result (Option Edit) Refusal → PathOutcome
-path_outcome_by path skipped (Err refusal) = Refused refusal
-path_outcome_by path skipped (Ok (Some edit)) = Changes edit.path
-path_outcome_by path skipped (Ok None) = if skipped then Skipped path else Unchanged path
+-- by what is done at the path: the place that is written changes, with what a new header could break there; where
+-- nothing is, the file is skipped or needs no change
+abbrev pub path_outcome_by : List ℕ → Bool → Option Harm → Result (Option Edit) Refusal → PathOutcome
+path_outcome_by path skipped harm (Err refusal) = Refused refusal
+path_outcome_by path skipped harm (Ok (Some edit)) = Changes edit.path harm
+path_outcome_by path skipped harm (Ok None) = if skipped then Skipped path else Unchanged path
 
 abbrev pub path_outcome_of : PathEdit → PathOutcome
-path_outcome_of here = path_outcome_by here.path here.skipped here.edit
+path_outcome_of here = path_outcome_by here.path here.skipped here.harm here.edit
 
 -- ---- commands
 
@@ -47,9 +48,13 @@ first_refusal (path_outcome ∷ path_outcomes) = first_refusal path_outcomes
 
 -- ---- an undo or a redo
 
+-- a path changes, and no header is new in its file
+abbrev pub changes_plainly : List ℕ → PathOutcome
+changes_plainly path = Changes path None
+
 -- gone through this way, the change can be made on the tree and its path changes, or it can't and is refused
 abbrev pub IsPathOutcomeOf : Direction → Files → Change → PathOutcome → Type 0
-IsPathOutcomeOf direction tree change (Changes path) = (path ≡ path_of change) × CanBeMade direction tree change
+IsPathOutcomeOf direction tree change (Changes path None) = (path ≡ path_of change) × CanBeMade direction tree change
 IsPathOutcomeOf direction tree change (Refused (Moved path)) =
     (path ≡ path_of change) × ¬ (CanBeMade direction tree change)
 IsPathOutcomeOf direction tree change path_outcome = ⊥

@@ -60,7 +60,7 @@ EndsWalk Collect refusal = IsEarlyFailure refusal
 -- ---- what is made of plans
 
 abbrev pub path_outcome_planned : PathPlan → PathOutcome
-path_outcome_planned (plan.Change change harm) = path_outcome.Changes (path_of change)
+path_outcome_planned (plan.Change change harm) = path_outcome.Changes (path_of change) harm
 path_outcome_planned (plan.Unchanged path) = path_outcome.Unchanged path
 path_outcome_planned (plan.Skipped path) = path_outcome.Skipped path
 path_outcome_planned (plan.Refused refusal) = path_outcome.Refused refusal

@@ -2,9 +2,9 @@
 use Rattle.std.specs.Prelude.{ℕ, Bool, true, false, ◌&&◌, List, Option, Some, None, is_some, Result, Ok, Err}
 use Rattle.std.specs.FinMap.{get}
 use Rattle.reuse_header.specs.Header.{header_of}
+use Rattle.reuse_style.specs.Kinds.{OwnKinds}
 use Rattle.reuse_change.specs.Files.{Files}
 use Rattle.reuse_plan.specs.Annotate.{neighbour_of, neighbour_is_tagged, target_of}
-use Rattle.reuse_plan.specs.TreeStyles.{OwnNames}
 use Rattle.reuse_command.specs.declared.command.Scope.{Scope}
 use Rattle.reuse_plan.specs.declared.target.Target.{Target}
 use Rattle.reuse_plan.specs.declared.target.Target.TheVariants.{Inside, InNeighbour, Nowhere}
@@ -15,7 +15,7 @@ abbrev pub has_tagged : Option (List ℕ) → Bool
 has_tagged None = false
 has_tagged (Some bytes) = neighbour_is_tagged bytes
 
--- whether a file of these bytes is skipped, whose licensing information goes there: its name has no style and such
+-- whether a file of these bytes is skipped, whose licensing information goes there: it has no style and such
 -- files are skipped, or the place has licensing information and such files are skipped
 abbrev pub is_skipped_at : Scope → Files → List ℕ → List ℕ → Result Target Refusal → Bool
 is_skipped_at scope tree path bytes (Err refusal) = false
@@ -23,10 +23,10 @@ is_skipped_at scope tree path bytes (Ok Nowhere) = true
 is_skipped_at scope tree path bytes (Ok InNeighbour) = scope.skip_existing && has_tagged (get tree (neighbour_of path))
 is_skipped_at scope tree path bytes (Ok (Inside style)) = scope.skip_existing && is_some (header_of style bytes)
 
-abbrev pub is_skipped_where : Scope → OwnNames → Files → List ℕ → Option (List ℕ) → Bool
+abbrev pub is_skipped_where : Scope → OwnKinds → Files → List ℕ → Option (List ℕ) → Bool
 is_skipped_where scope own tree path None = false
 is_skipped_where scope own tree path (Some bytes) =
     is_skipped_at scope tree path bytes (target_of scope own tree path bytes)
 
-abbrev pub is_skipped : Scope → OwnNames → Files → List ℕ → Bool
+abbrev pub is_skipped : Scope → OwnKinds → Files → List ℕ → Bool
 is_skipped scope own tree path = is_skipped_where scope own tree path (get tree path)

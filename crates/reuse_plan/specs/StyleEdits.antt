@@ -4,9 +4,6 @@ use Rattle.std.specs.Prelude.{ℕ, ◌+◌, List, [], length, nat_lt, Option, So
 use Rattle.std.specs.FinMap.{get}
 use Rattle.reuse_text.specs.Text.{is_empty}
 use Rattle.reuse_text.specs.declared.TheConstants.{LONGEST_FILE}
-use Rattle.reuse_style.specs.Marks.{GoodStyle}
-use Rattle.reuse_style.specs.CommentFile.{comments_of}
-use Rattle.reuse_style.specs.declared.comments_refusal.CommentsRefusal.{CommentsRefusal}
 use Rattle.reuse_ready.specs.Additions.{lines_added}
 use Rattle.reuse_ready.specs.declared.additions.StyleAdditions.{StyleAdditions}
 use Rattle.reuse_ready.specs.declared.own_lines.AddedLines.{AddedLines}
@@ -16,7 +13,8 @@ use Rattle.reuse_change.specs.Clash.{is_clash}
 use Rattle.reuse_change.specs.Files.{Files}
 use Rattle.reuse_plan.specs.Edit.{Edit, made, appended}
 use Rattle.reuse_plan.specs.PathEdits.{or_first}
-use Rattle.reuse_plan.specs.TreeStyles.{OwnNames, styles_in, styles_path, comments_path}
+use Rattle.reuse_style.specs.Kinds.{OwnKinds}
+use Rattle.reuse_plan.specs.TreeStyles.{styles_in, styles_path, comments_path}
 use Rattle.reuse_command.specs.declared.amend_fault.AmendFault.TheVariants.{CannotBeAmended}
 use Rattle.reuse_command.specs.declared.failure.Failure.TheVariants.{Memory}
 use Rattle.reuse_command.specs.declared.reply.Refusal.{Refusal}
@@ -39,11 +37,6 @@ lines_edit tree path file lines = if is_empty lines then Ok None else file_with 
 
 -- ---- both files
 
--- the comments that a file of them gives, where it is good
-abbrev pub good_comments : Result (List GoodStyle) CommentsRefusal → List GoodStyle
-good_comments (Ok comments) = comments
-good_comments (Err refusal) = []
-
 -- a refusal of what would be read back as one of the command
 abbrev pub addition_refusal : AdditionRefusal → Refusal
 addition_refusal (refused.Memory e) = Failed Memory
@@ -55,10 +48,10 @@ lines_read (Ok added) = Ok added
 lines_read (Err refusal) = Err (addition_refusal refusal)
 
 -- what is added, unless the tree's own styles are refused
-abbrev pub lines_for : StyleAdditions → Files → Result OwnNames Refusal → Result AddedLines Refusal
+abbrev pub lines_for : StyleAdditions → Files → Result OwnKinds Refusal → Result AddedLines Refusal
 lines_for additions tree (Err refusal) = Err refusal
-lines_for additions tree (Ok own) = lines_read (lines_added additions (get tree styles_path) (get tree comments_path) own
-    (good_comments (comments_of (get tree comments_path))))
+lines_for additions tree (Ok own) = lines_read (lines_added additions (get tree styles_path) (get tree comments_path)
+    own.names own.comments.styles)
 
 -- the file of comments stands before that of styles
 abbrev pub edits_for : Files → Result AddedLines Refusal → Result (List Edit) Refusal

@@ -6,7 +6,8 @@ use Rattle.reuse_ready.specs.Additions.{has_kind}
 use Rattle.reuse_ready.specs.declared.additions.NameAddition.{NameAddition}
 use Rattle.reuse_ready.specs.declared.additions.StyleAdditions.{StyleAdditions}
 use Rattle.reuse_change.specs.Files.{Files}
-use Rattle.reuse_plan.specs.TreeStyles.{OwnNames, styles_in, styles_path, comments_path}
+use Rattle.reuse_style.specs.Kinds.{OwnKinds}
+use Rattle.reuse_plan.specs.TreeStyles.{styles_in, styles_path, comments_path}
 
 -- a file that was there has bytes behind those that it had
 abbrev pub StandsInFront : Option (List ℕ) → Option (List ℕ) → Type 0
@@ -14,15 +15,15 @@ StandsInFront None after = Unit {0}
 StandsInFront (Some bytes) after = (more : List ℕ) × (after ≡ Some (bytes ++ more))
 
 -- a name that had no style of the tree's own has the one that is added
-abbrev pub IsNamed : OwnNames → OwnNames → NameAddition → Type 0
-IsNamed own now name = own name.name ≡ None → has_kind (now name.name) name.style ≡ true
+abbrev pub IsNamed : OwnKinds → OwnKinds → NameAddition → Type 0
+IsNamed own now name = own.names name.name ≡ None → has_kind (now.names name.name) name.style ≡ true
 
 -- the tree's own styles were good and are, each name that had none has its style, what stood in the two files stands in
 -- front there, and no other path differs
 pub record AddsStyles (additions : StyleAdditions) (before after : Files) : Type 0 where
-  pub own : OwnNames
+  pub own : OwnKinds
   pub was : styles_in before ≡ Ok own
-  pub now : OwnNames
+  pub now : OwnKinds
   pub is : styles_in after ≡ Ok now
   pub named : All (IsNamed own now) additions.names
   pub comments : StandsInFront (get before comments_path) (get after comments_path)

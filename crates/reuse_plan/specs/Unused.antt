@@ -11,7 +11,8 @@ use Rattle.reuse_command.specs.Choice.{is_listed, is_passed_over, leaves_out, ma
 use Rattle.reuse_command.specs.Command.{paths_among}
 use Rattle.reuse_command.specs.Covered.{is_covered}
 use Rattle.reuse_plan.specs.Shown.{folders_for}
-use Rattle.reuse_plan.specs.TreeStyles.{styles_in, OwnNames}
+use Rattle.reuse_plan.specs.TreeStyles.{styles_in}
+use Rattle.reuse_style.specs.Kinds.{OwnKinds}
 use Rattle.reuse_plan.specs.Selected.{paths_for}
 use Rattle.reuse_plan.specs.Tables.{is_amendable}
 use Rattle.reuse_command.specs.declared.command.Command.{Command}
@@ -63,7 +64,7 @@ abbrev pub AreUnusedAt : (List ℕ → Bool) → Scope → List Place → Files 
 AreUnusedAt works_on scope places tree unused = AreUnusedWhere scope.recursive works_on scope places tree unused
 
 -- where the styles of the tree can be read
-abbrev pub AreUnusedIf : Result OwnNames Refusal → (List ℕ → Bool) → Scope → List Place → Files → Unused → Type 0
+abbrev pub AreUnusedIf : Result OwnKinds Refusal → (List ℕ → Bool) → Scope → List Place → Files → Unused → Type 0
 AreUnusedIf (Ok own) works_on scope places tree unused = AreUnusedAt works_on scope places tree unused
 AreUnusedIf (Err refusal) works_on scope places tree unused = Unit {0}
 

@@ -1,9 +1,11 @@
 //! What amend does at a path. What it works on is a table, a file `REUSE.toml`, or the neighbour of
 //! a file where that is there, else the header block of the file itself. It makes nothing.
-ghost use Rattle.std.specs.Prelude.{◌≡◌, ℕ, List, IfErr, Some, length, nat_lt, false};
+ghost use Rattle.std.specs.Prelude.{◌≡◌, ◌≤◌, ℕ, List, IfErr, Some, length, nat_lt, false};
+ghost use Rattle.reuse_text.specs.declared.TheConstants.{LONGEST_FILE};
 ghost use Rattle.reuse_command.specs.Reading.{get, reading_of, tree_of, Files, IsOfPlan, ReadsAlone};
-ghost use Rattle.reuse_plan.specs.Amend.{style_of_kind};
-ghost use Rattle.reuse_plan.specs.AmendmentPlan.{amended_by, beside_by, inside_by, style_by, table_by};
+ghost use Rattle.reuse_plan.specs.Amend.{has_no_style, style_of_kind};
+ghost use Rattle.reuse_plan.specs.AmendmentPlan.{amended_by, beside_by, has_no_style_by, inside_by, style_by};
+ghost use Rattle.reuse_plan.specs.AmendmentPlan.{block_by, table_by};
 ghost use Rattle.reuse_plan.specs.Annotate.{neighbour_of};
 ghost use Rattle.reuse_plan.specs.Plan.{AnswersEdit};
 ghost use Rattle.reuse_command.specs.Refused.{IsNoFault};
@@ -47,10 +49,10 @@ pub(crate) fn plan_amended<S: Store>(
     if is_among(paths, neighbour.as_slice()) {
         return plan_in_neighbour(alloc, store, path, asked);
     }
-    match style_of(path, asked) {
-        Some(style) => plan_inside(alloc, store, path, &style, asked),
-        None => Ok(None),
+    if has_no_style_unread(path, asked) {
+        return Ok(None);
     }
+    plan_inside(alloc, store, path, asked)
 }
 
 // The change of a table, which is there.
@@ -84,13 +86,30 @@ fn plan_table_text(
     table_change_by(alloc, path, bytes.as_slice(), made)
 }
 
-// The style of a file: the one that is asked for, else that of its name.
-fn style_of<'a>(path: &PathText, asked: &Amendment<'_, 'a>) -> Option<Style<'a>>
-    ensures { result ≡ style_by asked.now path.now }
+// Whether a file has no style, whatever it holds.
+fn has_no_style_unread(path: &PathText, asked: &Amendment<'_, '_>) -> bool
+    ensures { result ≡ has_no_style_by asked.now path.now }
+{
+    asked.scope.style.is_none() && has_no_style(asked.styles.style_unread(path.text()))
+}
+
+// Whether a kind is known that has no style.
+fn has_no_style(kind: Option<Kind<'_>>) -> bool
+    ensures { result ≡ has_no_style kind.entry }
+{
+    match kind {
+        None => false,
+        Some(kind) => style_of_kind(kind).is_none(),
+    }
+}
+
+// The style of a file of these bytes: the one that is asked for, else that of its kind.
+fn style_of<'a>(path: &PathText, bytes: &[u8], asked: &Amendment<'_, 'a>) -> Option<Style<'a>>
+    ensures { result ≡ style_by asked.now path.now bytes.now }
 {
     match &asked.scope.style {
         Some(style) => Some(style.style()),
-        None => style_of_kind(asked.styles.style_of(path.text())),
+        None => style_of_kind(asked.styles.style_of(path.text(), bytes)),
     }
 }
 
@@ -144,41 +163,59 @@ fn plan_neighbour(
     amendment_by(alloc, path, neighbour, bytes.as_slice(), made)
 }
 
-// The change of the header block of a file that has no neighbour.
+// The change of the header block of a file that has no neighbour and may have a style.
 fn plan_inside<S: Store>(
     alloc: Global,
     store: &mut S,
     path: &PathText,
-    style: &Style<'_>,
     asked: &Amendment<'_, '_>,
 ) -> Result<Option<Change>, Refusal>
     ensures edit { S.honest store.new → (bytes : List ℕ) → get (tree_of (S.files store.old)) path.now ≡ Some bytes
-        → AnswersEdit (tree_of (S.files store.old)) (inside_by asked.now path.now bytes (Some style.now)) result }
+        → has_no_style_by asked.now path.now ≡ false
+        → AnswersEdit (tree_of (S.files store.old)) (inside_by asked.now path.now bytes) result }
     ensures asks { ReadsAlone S.Store IsOfPlan store.old store.new result }
 {
     let reading = store.read(alloc, path, LONGEST_FILE)?;
-    plan_block(alloc, path, style, asked, reading)
+    plan_reading(alloc, path, asked, reading)
 }
 
 // The change of the header block of a file, by what was read of it.
-fn plan_block(
+fn plan_reading(
     alloc: Global,
     path: &PathText,
-    style: &Style<'_>,
     asked: &Amendment<'_, '_>,
     reading: Reading,
 ) -> Result<Option<Change>, Refusal>
     ensures edit { (tree : Files) (bytes : List ℕ) → get tree path.now ≡ Some bytes
-        → reading ≡ reading_of (Some bytes) LONGEST_FILE
-        → AnswersEdit tree (inside_by asked.now path.now bytes (Some style.now)) result }
+        → has_no_style_by asked.now path.now ≡ false → reading ≡ reading_of (Some bytes) LONGEST_FILE
+        → AnswersEdit tree (inside_by asked.now path.now bytes) result }
     ensures no_fault { IfErr result IsNoFault }
 {
     let bytes = short_bytes(alloc, path, reading)?;
     if !is_text(bytes.as_slice()) {
         return Ok(None);
     }
+    match style_of(path, bytes.as_slice(), asked) {
+        Some(style) => plan_block(alloc, path, bytes.as_slice(), &style, asked),
+        None => Ok(None),
+    }
+}
+
+// The change of the header block of a file of these bytes.
+fn plan_block(
+    alloc: Global,
+    path: &PathText,
+    bytes: &[u8],
+    style: &Style<'_>,
+    asked: &Amendment<'_, '_>,
+) -> Result<Option<Change>, Refusal>
+    requires { length bytes.now ≤ LONGEST_FILE }
+    ensures edit { (tree : Files) → get tree path.now ≡ Some bytes.now
+        → AnswersEdit tree (block_by asked.now path.now bytes.now (Some style.now)) result }
+    ensures no_fault { IfErr result IsNoFault }
+{
     // That the edit lies within the file, and makes none that is too long.
     amendments_fit();
-    let made = amend_file(alloc, bytes.as_slice(), style, asked.amendments);
-    amendment_by(alloc, path, path, bytes.as_slice(), made)
+    let made = amend_file(alloc, bytes, style, asked.amendments);
+    amendment_by(alloc, path, path, bytes, made)
 }

@@ -6,13 +6,13 @@ ghost use Rattle.reuse_command.specs.Covered.{is_covered};
 ghost use Rattle.reuse_plan.specs.Shown.{ShowsPair};
 ghost use Rattle.reuse_change.specs.Clash.{is_clash};
 ghost use Rattle.reuse_header.specs.declared.annotation.How.{How};
-ghost use Rattle.reuse_plan.specs.TreeStyles.{OwnNames};
+ghost use Rattle.reuse_style.specs.Kinds.{OwnKinds};
 ghost use Rattle.reuse_notice.specs.declared.adding.Additions.{Additions};
 ghost use Rattle.reuse_amend.specs.declared.amendments.Amendments.{Amendments};
 ghost use Rattle.reuse_plan.specs.Amend.{amended_at};
 ghost use Rattle.reuse_plan.specs.Annotate.{neighbour_of, annotated_at};
 ghost use Rattle.reuse_plan.specs.AnnotationPlan.{neighbour_by, path_inside_by, path_neighbour_by};
-ghost use Rattle.reuse_plan.specs.Harmed.{new_harm};
+ghost use Rattle.reuse_plan.specs.Harmed.{harm_inside};
 ghost use Rattle.reuse_plan.specs.PathPlans.{AnswersPlan};
 ghost use Rattle.reuse_change.specs.Listing.{is_among};
 ghost use Rattle.reuse_plan.specs.Plan.{AnswersEdit, AnswersOf};
@@ -33,7 +33,7 @@ use reuse_command::failure::Failure;
 use reuse_command::reply::Refusal;
 use reuse_header::{
     Harm, Style, annotate_file, annotate_neighbour, annotations_fit, find, harm_of,
-    neighbour_has_tag,
+    neighbour_has_tag, text_stands_first,
 };
 use reuse_store::{Reading, Store, is_clash_at};
 use reuse_text::{Bytes, LONGEST_FILE};
@@ -54,10 +54,10 @@ pub(crate) fn absent_refusal(
     paths: &[PathText],
     path: &PathText,
 ) -> Result<Refusal, AllocError>
-    ensures annotated { (how : How) (scope : Scope) (additions : Additions) (own : OwnNames) (tree : Files)
+    ensures annotated { (how : How) (scope : Scope) (additions : Additions) (own : OwnKinds) (tree : Files)
         → ShowsPair paths.now tree path.now → is_among paths.now path.now ≡ false
         → IfOk result (λ refusal. annotated_at how scope additions own tree path.now ≡ Err refusal) }
-    ensures amended { (amendments : Amendments) (scope : Scope) (own : OwnNames) (tree : Files)
+    ensures amended { (amendments : Amendments) (scope : Scope) (own : OwnKinds) (tree : Files)
         → ShowsPair paths.now tree path.now → is_among paths.now path.now ≡ false
         → IfOk result (λ refusal. amended_at amendments scope own tree path.now ≡ Err refusal) }
     ensures no_fault { IfOk result IsNoFault }
@@ -150,7 +150,7 @@ fn plan_inside(
     let made = annotate_file(alloc, bytes, style, asked.additions, asked.how);
     match change_by(alloc, path, path, bytes, made) {
         Ok(Some(change)) => {
-            let harm = new_harm(bytes, style);
+            let harm = harm_inside(bytes, style);
             Ok(Step::Done(PathPlan::Change { change, harm }))
         }
         Ok(None) => Ok(Step::Done(PathPlan::Unchanged(path.try_clone(alloc)?))),
@@ -158,16 +158,16 @@ fn plan_inside(
     }
 }
 
-// What a header could break in a file of these bytes, if it is the file's first. Few files hold
-// what it could break, and only those are searched for a header.
-fn new_harm(bytes: &[u8], style: &Style<'_>) -> Option<Harm>
-    ensures { result ≡ new_harm style.now bytes.now }
+// What a header could break in a file of these bytes: one that is changed, or else the file's first.
+fn harm_inside(bytes: &[u8], style: &Style<'_>) -> Option<Harm>
+    ensures { result ≡ harm_inside style.now bytes.now }
 {
-    let harm = harm_of(bytes, style)?;
-    if find(bytes, style).block.is_some() {
-        None
+    if find(bytes, style).block.is_none() {
+        harm_of(bytes, style)
+    } else if text_stands_first(bytes, style) {
+        Some(Harm::BelowText)
     } else {
-        Some(harm)
+        None
     }
 }
 

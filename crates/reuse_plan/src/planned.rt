@@ -48,10 +48,10 @@ impl Planned {
         ensures refused { OnOk result (self.new.is_refused ≡ (self.old.is_refused || is_refusal plan)) }
     {
         let path_outcome = match plan {
-            PathPlan::Change { change, harm: _ } => {
+            PathPlan::Change { change, harm } => {
                 let path = change.path().try_clone(alloc)?;
                 self.changes.push(change)?;
-                PathOutcome::Changes(path)
+                PathOutcome::Changes { path, harm }
             }
             PathPlan::Unchanged(path) => PathOutcome::Unchanged(path),
             PathPlan::Skipped(path) => PathOutcome::Skipped(path),

@@ -1,8 +1,8 @@
-//! The styles that a tree gives to its own names, and its own comments.
+//! The styles that a tree gives to its own names, and its own comments and rules.
 ghost use Rattle.std.specs.Prelude.{◌≡◌, List, ℕ, Option, IfOk, IfErr, Ok};
 ghost use Rattle.std.specs.Option.{option_copied};
-ghost use Rattle.reuse_style.specs.Names.{lookup};
 ghost use Rattle.reuse_style.specs.CommentFile.{comments_of};
+ghost use Rattle.reuse_style.specs.Kinds.{kinds_by};
 ghost use Rattle.reuse_command.specs.Reading.{get, reading_of, tree_of, IsOfPlan, ReadsAlone};
 ghost use Rattle.reuse_plan.specs.Plan.{IsRefusalOf};
 ghost use Rattle.reuse_command.specs.Refused.{IsNoFault};
@@ -14,18 +14,18 @@ use reuse_change::PathText;
 use reuse_command::failure::Failure;
 use reuse_command::known_path::known_path;
 use reuse_command::reply::Refusal;
-use reuse_header::{CommentTable, CommentsRefusal, StyleTable, StylesRefusal};
+use reuse_header::{CommentRules, CommentsRefusal, StyleTable, StylesRefusal};
 use reuse_store::{Reading, Store};
 use reuse_text::{Bytes, LONGEST_FILE};
 use std::alloc::Global;
 
 /// What a tree states of its own styles: the bytes of its `.reuse/styles.toml` and of its
-/// `.reuse/comments.toml`, if it has them, and the comments of the latter.
+/// `.reuse/comments.toml`, if it has them, and the comments and rules of the latter.
 #[derive(Drop)]
 pub(crate) struct OwnFiles {
     pub(crate) styles: Option<Bytes>,
     pub(crate) comments_file: Option<Bytes>,
-    pub(crate) comments: CommentTable,
+    pub(crate) comments: CommentRules,
 }
 
 /// What the tree that the store has states of its own styles.
@@ -87,13 +87,13 @@ pub(crate) fn lent(file: &Option<Bytes>) -> Option<&[u8]>
     }
 }
 
-// The tree's own comments by their file.
-fn comments_by(alloc: Global, file: &Option<Bytes>) -> Result<CommentTable, Refusal>
+// The tree's own comments and rules by their file.
+fn comments_by(alloc: Global, file: &Option<Bytes>) -> Result<CommentRules, Refusal>
     ensures comments { IfOk result (λ comments. comments_of file.now ≡ Ok comments) }
     ensures refusal { IfErr result (IsRefusalOf (comments_read (comments_of file.now))) }
     ensures no_fault { IfErr result IsNoFault }
 {
-    match CommentTable::read(alloc, lent(file)) {
+    match CommentRules::read(alloc, lent(file)) {
         Ok(comments) => Ok(comments),
         Err(refusal) => Err(of_comments(refusal)),
     }
@@ -101,7 +101,7 @@ fn comments_by(alloc: Global, file: &Option<Bytes>) -> Result<CommentTable, Refu
 
 /// The styles of the tree by its own files.
 pub(crate) fn styles_by(alloc: Global, own: &OwnFiles) -> Result<StyleTable<'_>, Refusal>
-    ensures styles { IfOk result (λ styles. styles_given own.now.styles own.now.comments ≡ Ok (lookup styles)) }
+    ensures styles { IfOk result (λ styles. styles_given own.now.styles own.now.comments ≡ Ok (kinds_by styles)) }
     ensures refusal { IfErr result (IsRefusalOf (styles_given own.now.styles own.now.comments)) }
     ensures no_fault { IfErr result IsNoFault }
 {

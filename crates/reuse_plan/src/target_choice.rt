@@ -1,10 +1,9 @@
 //! The choice of where the licensing information of a file goes.
 ghost use Rattle.std.specs.Prelude.{◌≡◌, ◌≤◌, IfOk, IfErr, length};
-ghost use Rattle.reuse_style.specs.Names.{kind_in, lookup};
 ghost use Rattle.reuse_change.specs.Files.{Files};
 ghost use Rattle.reuse_text.specs.declared.TheConstants.{LONGEST_FILE};
 ghost use Rattle.reuse_plan.specs.Annotate.{neighbour_of, is_uncommentable, goes_to_neighbour};
-ghost use Rattle.reuse_plan.specs.Annotate.{goes_to_neighbour_unread, target_of_unknown, target_by_name};
+ghost use Rattle.reuse_plan.specs.Annotate.{goes_to_neighbour_unread, target_of_unknown, target_by_kind};
 ghost use Rattle.reuse_plan.specs.Annotate.{target_by_style};
 ghost use Rattle.reuse_plan.specs.AnnotationPlan.{own_of, place_by};
 ghost use Rattle.reuse_plan.specs.Plan.{AnswersOf};
@@ -16,7 +15,7 @@ use crate::target::Target;
 use reuse_change::{PathText, is_among};
 use reuse_command::command::Unknown;
 use reuse_command::reply::Refusal;
-use reuse_header::{Kind, StyleTable};
+use reuse_header::Kind;
 use reuse_text::{Bytes, is_text};
 use std::alloc::{AllocError, Global};
 
@@ -30,7 +29,7 @@ pub(crate) fn neighbour_of(alloc: Global, path: &PathText) -> Result<Bytes, Allo
 }
 
 /// Whether the neighbour is the place, whatever the file holds: it is there, that is asked for, or
-/// the name takes no comment and no style is asked for. `paths` show whether it is there.
+/// the file takes no comment and no style is asked for. `paths` show whether it is there.
 pub(crate) fn goes_to_neighbour(
     alloc: Global,
     paths: &[PathText],
@@ -49,17 +48,14 @@ pub(crate) fn goes_to_neighbour_unread(path: &PathText, asked: &Annotation<'_, '
     ensures { result ≡ goes_to_neighbour_unread asked.now.scope.now (own_of asked.now) path.now }
 {
     asked.scope.force_dot_license
-        || (asked.scope.style.is_none() && is_uncommentable(asked.styles.style_of(path.text())))
+        || (asked.scope.style.is_none() && is_uncommentable(asked.styles.style_unread(path.text())))
 }
 
-fn is_uncommentable(kind: Kind<'_>) -> bool
+// Whether a kind is known that takes no comment.
+fn is_uncommentable(kind: Option<Kind<'_>>) -> bool
     ensures { result ≡ is_uncommentable kind.entry }
 {
-    match kind {
-        Kind::Style(_) => false,
-        Kind::Uncommentable => true,
-        Kind::Unknown => false,
-    }
+    matches!(kind, Some(Kind::Uncommentable))
 }
 
 /// The place by the bytes of the file, which are no more than `LONGEST_FILE`.
@@ -76,43 +72,47 @@ pub(crate) fn target_by_bytes<'a>(
     if !is_text(bytes) {
         return Ok(Target::InNeighbour);
     }
-    target_by_style(alloc, path, asked)
+    target_by_style(alloc, path, bytes, asked)
 }
 
-// The place by the style that is asked for, else by the name.
+// The place by the style that is asked for, else by the kind of the file.
 fn target_by_style<'a>(
     alloc: Global,
     path: &PathText,
+    bytes: &[u8],
     asked: &Annotation<'_, 'a>,
 ) -> Result<Target<'a>, Refusal>
-    ensures target { AnswersOf
-        (target_by_style asked.now.scope.now (own_of asked.now) path.now asked.now.scope.now.style) result }
+    ensures target { AnswersOf (target_by_style asked.now.scope.now (own_of asked.now) path.now bytes.now
+        asked.now.scope.now.style) result }
     ensures no_fault { IfErr result IsNoFault }
 {
     match &asked.scope.style {
         Some(style) => Ok(Target::Inside(style.style())),
-        None => target_by_name(alloc, path, asked.scope.unknown, asked.styles),
+        None => {
+            let kind = asked.styles.style_of(path.text(), bytes);
+            target_by_kind(alloc, path, asked.scope.unknown, kind)
+        }
     }
 }
 
-// The place by the name.
-fn target_by_name<'a>(
+// The place by the kind of the file.
+fn target_by_kind<'a>(
     alloc: Global,
     path: &PathText,
     unknown: Unknown,
-    styles: &StyleTable<'a>,
+    kind: Kind<'a>,
 ) -> Result<Target<'a>, Refusal>
-    ensures target { AnswersOf (target_by_name unknown path.now (kind_in (lookup styles.now) path.now)) result }
+    ensures target { AnswersOf (target_by_kind unknown path.now kind.entry) result }
     ensures no_fault { IfErr result IsNoFault }
 {
-    match styles.style_of(path.text()) {
+    match kind {
         Kind::Style(style) => Ok(Target::Inside(style)),
         Kind::Uncommentable => Ok(Target::InNeighbour),
         Kind::Unknown => target_of_unknown(alloc, path, unknown),
     }
 }
 
-// The place where the name has no style.
+// The place where the file has no style.
 fn target_of_unknown<'a>(
     alloc: Global,
     path: &PathText,

@@ -233,7 +233,8 @@ fn plan_places<S: Store>(
     ensures plans { S.honest store.new → AnswersPlans policy (tree_of (S.files store.old))
         (at_places_by asked.now (tree_of (S.files store.old)) places.now) result }
     ensures unused { S.honest store.new
-        → OnOk result (AreUnusedAt (works_on asked.now) (scope_of asked.now) places.now (tree_of (S.files store.old)) unused.new) }
+        → OnOk result (AreUnusedAt (works_on asked.now) (scope_of asked.now) places.now (tree_of (S.files store.old))
+        unused.new) }
     ensures asks { ReadsAlone S.Store (EndsWalk policy) store.old store.new result }
 {
     if gives_root(places, asked.scope()) {

@@ -1,11 +1,15 @@
--- The names for which an annotation that was previewed is refused, since they have no comment style.
-use Rattle.std.specs.Prelude.{◌≡◌, ℕ, Bool, true, false, ◌||◌, List, [], ◌∷◌, Option, None, Some, Result, Ok, Err}
+-- The names for which an annotation that was previewed is refused, since they have no comment style, and those that a
+-- ready style is better for.
+use Rattle.std.specs.Prelude.{◌≡◌, ℕ, Bool, true, false, is_some, ◌&&◌, ◌||◌, List, [], ◌∷◌, Option, None}
+use Rattle.std.specs.Prelude.{Some, Result, Ok, Err}
 use Rattle.std.specs.Prelude.{codes, filter_map, if◌then◌else◌}
 use Rattle.std.specs.Str.{bytes_eq}
 use Rattle.std.specs.declared.vec.Vec.{Vec}
+use Rattle.reuse_header.specs.declared.harm.Harm.{Harm}
+use Rattle.reuse_header.specs.declared.harm.Harm.TheVariants.{BelowText}
 use Rattle.reuse_command.specs.declared.failure.Failure.TheVariants.{Memory}
 use Rattle.reuse_command.specs.declared.path_outcome.PathOutcome.{PathOutcome}
-use Rattle.reuse_command.specs.declared.path_outcome.PathOutcome.TheVariants.{Refused}
+use Rattle.reuse_command.specs.declared.path_outcome.PathOutcome.TheVariants.{Changes, Refused}
 use Rattle.reuse_command.specs.declared.reply.Refusal.{Refusal}
 use Rattle.reuse_command.specs.declared.reply.Refusal.TheVariants.{NoSuchPath, TooLong, Unrecognised, BadStyles}
 use Rattle.reuse_command.specs.declared.reply.Refusal.TheVariants.{BadComments, Failed}
@@ -13,17 +17,30 @@ use Rattle.reuse_print.specs.Names.{name_lines, name_objects}
 use Rattle.reuse_print.specs.Outputs.{Adds, AddsFront}
 use Rattle.reuse_print.specs.declared.fault.Fault.{Fault}
 use Rattle.reuse_print.specs.declared.fault.Fault.TheVariants as faults
-use Rattle.reuse_ready.specs.Tally.{tally}
+use Rattle.reuse_ready.specs.Ready.{ready_style}
+use Rattle.reuse_ready.specs.Tally.{name_of, tally}
 use Rattle.reuse_ready.specs.declared.name_count.NameCount.{NameCount}
 use Rattle.reuse_shown.specs.declared.shown_name.NameDisplay.{NameDisplay}
 
--- the path of a file whose name has no style
-abbrev pub unrecognised_path : PathOutcome → Option (List ℕ)
-unrecognised_path (Refused (Unrecognised path)) = Some path
-unrecognised_path path_outcome = None
+-- what a header could break is a line that has to stay the first one, which a style can keep in front
+abbrev pub breaks_first_line : Option Harm → Bool
+breaks_first_line None = false
+breaks_first_line (Some BelowText) = false
+breaks_first_line (Some harm) = true
 
-abbrev pub unrecognised_paths : List PathOutcome → List (List ℕ)
-unrecognised_paths path_outcomes = filter_map unrecognised_path path_outcomes
+-- the counted name of the path has a ready style
+abbrev pub has_ready_style : List ℕ → Bool
+has_ready_style path = is_some (ready_style (name_of path))
+
+-- the path of a file whose name has no style, or whose first line a header could break, if a ready style is known for
+-- it
+abbrev pub listed_path : PathOutcome → Option (List ℕ)
+listed_path (Refused (Unrecognised path)) = Some path
+listed_path (Changes path harm) = if breaks_first_line harm && has_ready_style path then Some path else None
+listed_path path_outcome = None
+
+abbrev pub listed_paths : List PathOutcome → List (List ℕ)
+listed_paths path_outcomes = filter_map listed_path path_outcomes
 
 -- a file of the tree's own styles or comments
 abbrev pub is_own_file : List ℕ → Bool
@@ -49,10 +66,9 @@ unless_first (refusal ∷ refusals) value = Err refusal
 abbrev pub unless_for_all : {A : Type 0} → List PathOutcome → A → Result A Refusal
 unless_for_all path_outcomes value = unless_first (filter_map refusal_for_all path_outcomes) value
 
--- the names of the files that are refused as unrecognised, each with how many files have it, unless a refusal is of the
--- whole call
+-- the names of these files, each with how many of them have it, unless a refusal is of the whole call
 abbrev pub names_found : List PathOutcome → Result (List NameCount) Refusal
-names_found path_outcomes = unless_for_all path_outcomes (tally (unrecognised_paths path_outcomes))
+names_found path_outcomes = unless_for_all path_outcomes (tally (listed_paths path_outcomes))
 
 -- what is expected was found, as a list; an allocation failure may take its place
 abbrev pub IsFound : {A B : Type 0} → Result (List B) Refusal → Result (Vec B A) Refusal → Type 0

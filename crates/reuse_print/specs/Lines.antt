@@ -33,7 +33,7 @@ lines_of names word paths = joined (line_of names word) paths
 
 -- what would become of a path; a refusal is reported elsewhere
 abbrev pub path_outcome_line : NameDisplay → PathOutcome → List ℕ
-path_outcome_line names (Changes path) = line_of names (codes "would change") path
+path_outcome_line names (Changes path harm) = line_of names (codes "would change") path
 path_outcome_line names (Unchanged path) = line_of names (codes "unchanged") path
 path_outcome_line names (Skipped path) = line_of names (codes "skipped") path
 path_outcome_line names (Refused refusal) = []
@@ -97,7 +97,7 @@ IsResponseText names (responses.Recovered recovered) text = text ≡ recovered_t
 
 -- whether a path would change
 abbrev pub would_change : PathOutcome → Bool
-would_change (Changes path) = true
+would_change (Changes path harm) = true
 would_change path_outcome = false
 
 -- how many paths a reply reports that changed, or that would change

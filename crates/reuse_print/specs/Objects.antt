@@ -5,6 +5,8 @@ use Rattle.jiff.specs.Types.{Date}
 use Rattle.jiff.specs.Words.{date_text}
 use Rattle.serde_json.specs.Data.{Data, null, string, boolean}
 use Rattle.serde_json.specs.Written.{compact_text}
+use Rattle.reuse_header.specs.declared.harm.Harm.{Harm}
+use Rattle.reuse_header.specs.declared.harm.Harm.TheVariants as harms
 use Rattle.reuse_dep5.specs.declared.refusal.Dep5Refusal.TheVariants as dep5
 use Rattle.reuse_change.specs.Change.{path_of}
 use Rattle.reuse_change.specs.declared.change.Change.{Change}
@@ -67,6 +69,25 @@ IsShownObject shown text =
 abbrev pub outcome_value : List ℕ → List ℕ → Data
 outcome_value outcome path = object_of ((codes "outcome", string outcome) ∷ (codes "path", string path) ∷ [])
 
+-- what has to stay in front of a header, or what that may be in
+abbrev pub harm_word : Harm → List ℕ
+harm_word harms.InnerAttribute = codes "inner attribute"
+harm_word harms.FrontMatter = codes "front matter"
+harm_word harms.Directive = codes "directive"
+harm_word harms.ModeLine = codes "mode line"
+harm_word harms.CloudConfig = codes "cloud-config"
+harm_word harms.Charset = codes "charset"
+harm_word harms.BelowText = codes "string"
+
+-- a path that would change, with what its new header could break
+abbrev pub change_outcome_value : List ℕ → Option Harm → Data
+change_outcome_value path None = outcome_value (codes "would change") path
+change_outcome_value path (Some harm) =
+    object_of (
+    (codes "could_break", string (harm_word harm)) ∷ (codes "outcome", string (codes "would change"))
+    ∷ (codes "path", string path) ∷ []
+    )
+
 -- the path that a refusal names
 abbrev pub refused_path : Refusal → Option (List ℕ)
 refused_path (refusals.NoSuchPath path) = Some path
@@ -101,7 +122,7 @@ refused_value refusal =
 
 -- the object of what would become of a path, on a line
 abbrev pub IsPathOutcomeObject : PathOutcome → List ℕ → Type 0
-IsPathOutcomeObject (Changes path) text = text ≡ object_line (outcome_value (codes "would change") path)
+IsPathOutcomeObject (Changes path harm) text = text ≡ object_line (change_outcome_value path harm)
 IsPathOutcomeObject (Unchanged path) text = text ≡ object_line (outcome_value (codes "unchanged") path)
 IsPathOutcomeObject (Skipped path) text = text ≡ object_line (outcome_value (codes "skipped") path)
 IsPathOutcomeObject (Refused refusal) text = text ≡ object_line (refused_value refusal)

@@ -1,6 +1,6 @@
 //! The names for which an annotation that was previewed is refused, since they have no comment
-//! style, and the list of them.
-ghost use Rattle.std.specs.Prelude.{◌≡◌, ◌++◌, Err, IfErr, IfOk, List, None, Ok, OnOk, Result};
+//! style, and those that a ready style is better for; and the list of them.
+ghost use Rattle.std.specs.Prelude.{◌≡◌, ◌++◌, Err, IfErr, IfOk, List, None, Ok, OnOk, Result, Some};
 ghost use Rattle.std.specs.Option.{option_to_list};
 ghost use Rattle.reuse_command.specs.Refused.{IsRefused};
 ghost use Rattle.reuse_print.specs.FoundNames.{IsNoRefusal, ReportsNames, TellsFailure, names_text};
@@ -8,7 +8,8 @@ ghost use Rattle.reuse_print.specs.declared.fault.Fault.TheVariants as faults;
 ghost use Rattle.reuse_command.specs.declared.reply.Refusal.{Refusal};
 ghost use Rattle.reuse_ready.specs.declared.name_count.NameCount.{NameCount};
 ghost use Rattle.reuse_print.specs.FoundNames.{IsFound, is_for_all, is_own_file, names_found, refusal_for_all};
-ghost use Rattle.reuse_print.specs.FoundNames.{unless_for_all, unrecognised_path, unrecognised_paths};
+ghost use Rattle.reuse_print.specs.FoundNames.{has_ready_style, breaks_first_line, listed_path};
+ghost use Rattle.reuse_print.specs.FoundNames.{listed_paths, unless_for_all};
 
 use crate::fault::{Fault, in_memory};
 use crate::names::{print_name_objects, print_names};
@@ -16,27 +17,32 @@ use crate::output::{Sink, write_text};
 use reuse_change::PathText;
 use reuse_command::path_outcome::{PathOutcome, PathOutcomes};
 use reuse_command::reply::Refusal;
-use reuse_ready::{NameCount, tally};
+use reuse_header::Harm;
+use reuse_ready::{NameCount, ready_style, tally};
 use reuse_shown::shown_name::NameDisplay;
-use std::alloc::Global;
+use reuse_style::ending;
+use reuse_text::last_part;
+use std::alloc::{AllocError, Global};
 
-/// The names of the files that are refused as unrecognised, each with how many files have it.
-/// Other refusals of single files are passed over; one that is of the whole call is the answer.
+/// The names of the files that are refused as unrecognised, and of those whose first line a header
+/// could break, if the name has a ready style; each with how many of these files have it. Other
+/// refusals of single files are passed over; one that is of the whole call is the answer.
 pub fn names_found(alloc: Global, path_outcomes: PathOutcomes) -> Result<Vec<NameCount>, Refusal>
     ensures { IsFound (names_found path_outcomes) result }
 {
-    let paths = unrecognised_paths(alloc, path_outcomes)?;
+    let paths = listed_paths(alloc, path_outcomes)?;
     Ok(tally(alloc, paths.as_slice())?)
 }
 
 // The paths of these files; or the first refusal that is of the whole call.
-fn unrecognised_paths(alloc: Global, path_outcomes: PathOutcomes) -> Result<Vec<PathText>, Refusal>
-    ensures { IsFound (unless_for_all path_outcomes (unrecognised_paths path_outcomes)) result }
+fn listed_paths(alloc: Global, path_outcomes: PathOutcomes) -> Result<Vec<PathText>, Refusal>
+    ensures { IsFound (unless_for_all path_outcomes (listed_paths path_outcomes)) result }
 {
     let mut paths = Vec::new(alloc);
     for path_outcome in path_outcomes.into_vec() {
         match path_outcome {
             PathOutcome::Refused(refusal) => push_unrecognised(&mut paths, refusal)?,
+            PathOutcome::Changes { path, harm } => push_harmed(&mut paths, path, harm)?,
             other => drop(other),
         }
     }
@@ -46,7 +52,7 @@ fn unrecognised_paths(alloc: Global, path_outcomes: PathOutcomes) -> Result<Vec<
 // Adds the path that is refused as unrecognised; a refusal that is of the whole call is handed back.
 fn push_unrecognised(paths: &mut Vec<PathText>, refusal: Refusal) -> Result<(), Refusal>
     ensures pushed { OnOk result ((refusal_for_all (PathOutcome.Refused refusal) ≡ None)
-        × (paths.new.items ≡ paths.old.items ++ option_to_list (unrecognised_path (PathOutcome.Refused refusal)))) }
+        × (paths.new.items ≡ paths.old.items ++ option_to_list (listed_path (PathOutcome.Refused refusal)))) }
     ensures refused { IfErr result (IsRefused (refusal_for_all (PathOutcome.Refused refusal))) }
 {
     match refusal {
@@ -62,6 +68,42 @@ fn push_unrecognised(paths: &mut Vec<PathText>, refusal: Refusal) -> Result<(), 
             Ok(())
         }
     }
+}
+
+// Adds the path of a file that a header could break so, if a ready style is known that may keep its
+// first line in front.
+fn push_harmed(
+    paths: &mut Vec<PathText>,
+    path: PathText,
+    harm: Option<Harm>,
+) -> Result<(), AllocError>
+    ensures { OnOk result (paths.new.items ≡ paths.old.items
+        ++ option_to_list (listed_path (PathOutcome.Changes path harm))) }
+{
+    if breaks_first_line(harm) && has_ready_style(path.as_bytes()) {
+        paths.push(path)?;
+    } else {
+        drop(path);
+    }
+    Ok(())
+}
+
+// Whether what a header could break is a line that has to stay the first one.
+fn breaks_first_line(harm: Option<Harm>) -> bool
+    ensures { result ≡ breaks_first_line harm }
+{
+    match harm {
+        None | Some(Harm::BelowText) => false,
+        Some(_) => true,
+    }
+}
+
+// Whether the counted name of a path has a ready style.
+fn has_ready_style(path: &[u8]) -> bool
+    ensures { result ≡ has_ready_style path.now }
+{
+    let part = last_part(path);
+    ready_style(part).is_some() || ready_style(ending(part)).is_some()
 }
 
 // Whether the refusal is of the whole call: a PATH that isn't there, or a file of the tree's own

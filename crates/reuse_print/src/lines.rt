@@ -91,7 +91,7 @@ fn print_path_outcome<W: Write>(
         (Appends (W.contents out.old) (W.contents out.new) (path_outcome_line names path_outcome.now)) }
 {
     match path_outcome {
-        PathOutcome::Changes(path) => print_path(out, names, "would change", path),
+        PathOutcome::Changes { path, harm: _harm } => print_path(out, names, "would change", path),
         PathOutcome::Unchanged(path) => print_path(out, names, "unchanged", path),
         PathOutcome::Skipped(path) => print_path(out, names, "skipped", path),
         PathOutcome::Refused(_) => Ok(()),
@@ -223,5 +223,5 @@ fn change_count(path_outcomes: &[PathOutcome]) -> usize
 fn would_change(path_outcome: &PathOutcome) -> bool
     ensures { result ≡ would_change path_outcome.now }
 {
-    matches!(path_outcome, PathOutcome::Changes(_))
+    matches!(path_outcome, PathOutcome::Changes { .. })
 }

@@ -7,6 +7,7 @@ ghost use Rattle.serde_json.specs.Written.{has_float};
 ghost use Rattle.reuse_command.specs.RefusalTexts.{refusal_text};
 ghost use Rattle.reuse_print.specs.Objects.{row_value, shown_value, change_value, changes_value, outcome_value};
 ghost use Rattle.reuse_print.specs.Objects.{refused_path, refused_value, json_byte, object_line, ArePathOutcomeObjects};
+ghost use Rattle.reuse_print.specs.Objects.{change_outcome_value, harm_word};
 ghost use Rattle.reuse_print.specs.Objects.{AreRowObjects, IsPathOutcomeObject, IsRowObject, IsShownObject};
 ghost use Rattle.reuse_shown.specs.JoinedTexts.{AppendsSome};
 
@@ -17,6 +18,7 @@ use reuse_change::{Change, PathText};
 use reuse_command::path_outcome::PathOutcome;
 use reuse_command::reply::{Refusal, Row, Shown};
 use reuse_dep5::Dep5Refusal;
+use reuse_header::Harm;
 use reuse_shown::date::date_of;
 use serde_json::{Value, json};
 use std::alloc::{AllocError, Global};
@@ -148,7 +150,7 @@ fn print_path_outcome_object<W: Write>(
         (AppendsSome (W.contents out.old) (W.contents out.new) (IsPathOutcomeObject path_outcome.now)) }
 {
     match path_outcome {
-        PathOutcome::Changes(path) => print_outcome(out, alloc, "would change", path),
+        PathOutcome::Changes { path, harm } => print_change_outcome(out, alloc, path, *harm),
         PathOutcome::Unchanged(path) => print_outcome(out, alloc, "unchanged", path),
         PathOutcome::Skipped(path) => print_outcome(out, alloc, "skipped", path),
         PathOutcome::Refused(refusal) => print_refused(out, alloc, refusal),
@@ -166,6 +168,50 @@ fn print_outcome<W: Write>(
 {
     let value = outcome_value(alloc, outcome, path)?;
     print_value(out, alloc, &value)
+}
+
+fn print_change_outcome<W: Write>(
+    out: &mut W,
+    alloc: Global,
+    path: &PathText,
+    harm: Option<Harm>,
+) -> io::Result<()>
+    ensures { OnOk result
+        (Appends (W.contents out.old) (W.contents out.new) (object_line (change_outcome_value path.now harm))) }
+{
+    let value = change_outcome_value(alloc, path, harm)?;
+    print_value(out, alloc, &value)
+}
+
+fn change_outcome_value(
+    alloc: Global,
+    path: &PathText,
+    harm: Option<Harm>,
+) -> Result<Value, AllocError>
+    ensures { IfOk result (λ value. view value ≡ change_outcome_value path.now harm) }
+{
+    match harm {
+        None => outcome_value(alloc, "would change", path),
+        Some(harm) => {
+            let word = harm_word(harm);
+            json!(in alloc; {"could_break": word, "outcome": "would change", "path": path.text()})
+        }
+    }
+}
+
+/// What has to stay in front of a header, or what that may be in.
+pub fn harm_word(harm: Harm) -> &'static str
+    ensures { result.now ≡ harm_word harm }
+{
+    match harm {
+        Harm::InnerAttribute => "inner attribute",
+        Harm::FrontMatter => "front matter",
+        Harm::Directive => "directive",
+        Harm::ModeLine => "mode line",
+        Harm::CloudConfig => "cloud-config",
+        Harm::Charset => "charset",
+        Harm::BelowText => "string",
+    }
 }
 
 fn outcome_value(alloc: Global, outcome: &str, path: &PathText) -> Result<Value, AllocError>

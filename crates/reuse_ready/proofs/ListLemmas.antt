@@ -4,7 +4,8 @@ use Rattle.std.proofs.Common.{append_assoc, ap, sym}
 use Rattle.std.proofs.lemmas.List.{take_more}
 
 -- one more of what is gathered, behind what stands in front
-pub gathered : {X Y : Type 0} (F : List X → List Y) → ((xs ys : List X) → F (xs ++ ys) ≡ F xs ++ F ys) → (front : List Y)
+pub gathered : {X Y : Type 0} (F : List X → List Y) → ((xs ys : List X) → F (xs ++ ys) ≡ F xs ++ F ys)
+    → (front : List Y)
     (xs : List X) (i : ℕ) (d : X) (old new : List Y) → i < length xs → old ≡ front ++ F (take i xs)
     → new ≡ old ++ F (get_or xs i d ∷ []) → new ≡ front ++ F (take (i + 1) xs)
 gathered F joins front xs i d old new low so is =

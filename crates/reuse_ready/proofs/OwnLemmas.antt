@@ -13,9 +13,10 @@ use Rattle.reuse_ready.specs.declared.own_lines.AdditionRefusal.TheVariants as r
 use Rattle.reuse_style.specs.CommentFile.{comments_of}
 use Rattle.reuse_style.specs.Marks.{GoodStyle}
 use Rattle.reuse_ready.specs.declared.additions.TableAddition.{TableAddition}
+use Rattle.reuse_ready.specs.declared.additions.RuleAddition.{RuleAddition}
 use Rattle.reuse_ready.specs.declared.additions.StyleAdditions.{StyleAdditions}
 use Rattle.reuse_ready.specs.Additions.{is_ended, if_named, if_read, are_named, has_kind, lines_added, missing_names}
-use Rattle.reuse_ready.specs.Additions.{missing_tables, style_lines, comment_lines, with_lines}
+use Rattle.reuse_ready.specs.Additions.{missing_tables, missing_rules, style_lines, comment_lines, with_lines}
 
 -- the last byte says whether bytes are ended
 pub ended : (bytes : List ℕ) (i d : ℕ) → i + 1 ≡ length bytes → is_ended bytes ≡ (get_or bytes i d == 10)
@@ -43,21 +44,24 @@ named_back added names given own b e is =
 
 -- what is added, by what was found of it one after the other
 pub lines_are : (additions : StyleAdditions) (styles comments : Option (List ℕ)) (own : List ℕ → Option Kind)
-    (own_comments : List GoodStyle) (names : List NameAddition) (tables : List TableAddition) (added : AddedLines)
+    (own_comments : List GoodStyle) (names : List NameAddition) (tables : List TableAddition)
+    (rules : List RuleAddition) (added : AddedLines)
     (styles_after comments_after : Option (List ℕ)) → names ≡ missing_names own additions.names
-    → tables ≡ missing_tables own_comments additions.tables → added.styles ≡ style_lines styles names
-    → added.comments ≡ comment_lines comments tables → styles_after ≡ with_lines styles added.styles
+    → tables ≡ missing_tables own_comments additions.tables → rules ≡ missing_rules comments additions.rules
+    → added.styles ≡ style_lines styles names
+    → added.comments ≡ comment_lines comments tables rules → styles_after ≡ with_lines styles added.styles
     → comments_after ≡ with_lines comments added.comments
     → lines_added additions styles comments own own_comments ≡ if_read added names styles_after (comments_of comments_after)
 unfolding lines_added
-lines_are additions styles comments own own_comments names tables added styles_after comments_after n t s c sa ca =
+lines_are additions styles comments own own_comments names tables rules added styles_after comments_after n t r s c sa ca =
     let same : record {
       styles = style_lines styles (missing_names own additions.names);
-      comments = comment_lines comments (missing_tables own_comments additions.tables);
+      comments = comment_lines comments (missing_tables own_comments additions.tables)
+          (missing_rules comments additions.rules);
     } ≡ added = ap₂ (λ (x y : List ℕ). record { styles = x; comments = y })
-    (ap (style_lines styles) (sym n) ∙ sym s) (ap (comment_lines comments) (sym t) ∙ sym c) in
-    ap (λ (r : AddedLines). if_read r (missing_names own additions.names) (with_lines styles r.styles)
-    (comments_of (with_lines comments r.comments))) same
+    (ap (style_lines styles) (sym n) ∙ sym s) (ap₂ (comment_lines comments) (sym t) (sym r) ∙ sym c) in
+    ap (λ (a : AddedLines). if_read a (missing_names own additions.names) (with_lines styles a.styles)
+    (comments_of (with_lines comments a.comments))) same
     ∙ ap (λ (k : List NameAddition). if_read added k (with_lines styles added.styles)
     (comments_of (with_lines comments added.comments))) (sym n)
     ∙ ap (λ (f : Option (List ℕ)). if_read added names f (comments_of (with_lines comments added.comments))) (sym sa)

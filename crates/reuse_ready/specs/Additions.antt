@@ -1,5 +1,5 @@
 -- What is added to a tree's own files of styles and of comments (this project's own; docs/RULES.md, "Styles").
-use Rattle.std.specs.Prelude.{ℕ, Bool, true, false, ◌==◌, List, [], ◌∷◌, ◌++◌, codes, filter, flat_map, is_none}
+use Rattle.std.specs.Prelude.{ℕ, Bool, true, false, not, ◌==◌, List, [], ◌∷◌, ◌++◌, codes, filter, flat_map, is_none}
 use Rattle.std.specs.Prelude.{Option, Some, None, Result, Ok, Err, if◌then◌else◌}
 use Rattle.std.specs.List.{list_all}
 use Rattle.std.specs.Str.{bytes_eq}
@@ -7,6 +7,8 @@ use Rattle.reuse_text.specs.Text.{is_empty}
 use Rattle.reuse_style.specs.Marks.{GoodStyle}
 use Rattle.reuse_style.specs.Styles.{style_name}
 use Rattle.reuse_style.specs.CommentFile.{comments_of}
+use Rattle.reuse_style.specs.Rules.{CommentRules}
+use Rattle.reuse_style.specs.Search.{holds}
 use Rattle.reuse_style.specs.StyleFile.{styles_of, own_style_named}
 use Rattle.reuse_style.specs.declared.comments_refusal.CommentsRefusal.{CommentsRefusal}
 use Rattle.reuse_style.specs.declared.style.Kind.{Kind}
@@ -14,6 +16,7 @@ use Rattle.reuse_style.specs.declared.style.Kind.TheVariants.{Style, Uncommentab
 use Rattle.reuse_style.specs.declared.style_refusal.StylesRefusal.{StylesRefusal}
 use Rattle.reuse_ready.specs.declared.additions.NameAddition.{NameAddition}
 use Rattle.reuse_ready.specs.declared.additions.TableAddition.{TableAddition}
+use Rattle.reuse_ready.specs.declared.additions.RuleAddition.{RuleAddition}
 use Rattle.reuse_ready.specs.declared.additions.StyleAdditions.{StyleAdditions}
 use Rattle.reuse_ready.specs.declared.own_lines.AddedLines.{AddedLines}
 use Rattle.reuse_ready.specs.declared.own_lines.AdditionRefusal.{AdditionRefusal}
@@ -26,6 +29,18 @@ missing_names own names = filter (λ (n : NameAddition). is_none (own n.name)) n
 abbrev pub missing_tables : List GoodStyle → List TableAddition → List TableAddition
 missing_tables comments tables = filter (λ (t : TableAddition). is_none (own_style_named comments t.name)) tables
 
+-- the pattern of a rule for first lines, as it stands in a file of comments
+abbrev pub rule_line : List ℕ → List ℕ
+rule_line pattern = codes "first-line = \"" ++ pattern ++ codes "\""
+
+-- a file of comments has a rule of this pattern, whatever its style
+abbrev pub has_rule : Option (List ℕ) → RuleAddition → Bool
+has_rule None r = false
+has_rule (Some bytes) r = holds (rule_line r.first_line) bytes
+
+abbrev pub missing_rules : Option (List ℕ) → List RuleAddition → List RuleAddition
+missing_rules file rules = filter (λ (r : RuleAddition). not (has_rule file r)) rules
+
 -- a name and its style, as a line of the file of styles
 abbrev pub name_line : NameAddition → List ℕ
 name_line n = codes "\"" ++ n.name ++ codes "\" = \"" ++ n.style ++ codes "\"\n"
@@ -33,6 +48,10 @@ name_line n = codes "\"" ++ n.name ++ codes "\" = \"" ++ n.style ++ codes "\"\n"
 -- a table behind an empty line
 abbrev pub table_lines : TableAddition → List ℕ
 table_lines t = codes "\n" ++ t.table
+
+-- a rule behind an empty line
+abbrev pub rule_lines : RuleAddition → List ℕ
+rule_lines r = codes "\n[[rules]]\n" ++ rule_line r.first_line ++ codes "\nstyle = \"" ++ r.style ++ codes "\"\n"
 
 -- bytes have a line end behind their last line
 unfoldable pub is_ended : List ℕ → Bool
@@ -53,8 +72,9 @@ lines_behind first_lines file lines = if is_empty lines then [] else before_line
 abbrev pub style_lines : Option (List ℕ) → List NameAddition → List ℕ
 style_lines file names = lines_behind (codes "version = 1\n\n[styles]\n") file (flat_map name_line names)
 
-abbrev pub comment_lines : Option (List ℕ) → List TableAddition → List ℕ
-comment_lines file tables = lines_behind (codes "version = 1\n") file (flat_map table_lines tables)
+abbrev pub comment_lines : Option (List ℕ) → List TableAddition → List RuleAddition → List ℕ
+comment_lines file tables rules =
+    lines_behind (codes "version = 1\n") file (flat_map table_lines tables ++ flat_map rule_lines rules)
 
 -- the file with lines behind it: none where it isn't there and there are no lines
 abbrev pub with_lines : Option (List ℕ) → List ℕ → Option (List ℕ)
@@ -78,10 +98,10 @@ abbrev pub if_named : AddedLines → List NameAddition → Result (List ℕ → 
 if_named added names (Err refusal) = Err refused.Styles
 if_named added names (Ok own) = if are_named own names then Ok added else Err refused.Styles
 
-abbrev pub if_read : AddedLines → List NameAddition → Option (List ℕ) → Result (List GoodStyle) CommentsRefusal
+abbrev pub if_read : AddedLines → List NameAddition → Option (List ℕ) → Result CommentRules CommentsRefusal
     → Result AddedLines AdditionRefusal
 if_read added names styles (Err refusal) = Err refused.Comments
-if_read added names styles (Ok comments) = if_named added names (styles_of comments styles)
+if_read added names styles (Ok comments) = if_named added names (styles_of comments.styles styles)
 
 abbrev pub read_back : AddedLines → List NameAddition → Option (List ℕ) → Option (List ℕ)
     → Result AddedLines AdditionRefusal
@@ -95,5 +115,6 @@ lines_added additions styles comments own own_comments =
     let names = missing_names own additions.names in
     read_back (record {
       styles = style_lines styles names;
-      comments = comment_lines comments (missing_tables own_comments additions.tables);
+      comments = comment_lines comments (missing_tables own_comments additions.tables)
+          (missing_rules comments additions.rules);
     }) names styles comments

@@ -1,13 +1,15 @@
 -- What the ready tables add for counted names.
-use Rattle.std.specs.Prelude.{ℕ, Bool, false, List, map, filter, Option}
+use Rattle.std.specs.Prelude.{ℕ, Bool, false, not, ◌&&◌, ◌==◌, List, [], map, filter, Option, is_none, if◌then◌else◌}
 use Rattle.std.specs.List.{list_any, filter_map}
 use Rattle.std.specs.Option.{option_map, option_map_or}
 use Rattle.std.specs.Str.{bytes_eq}
 use Rattle.reuse_ready.specs.declared.name_count.NameCount.{NameCount}
 use Rattle.reuse_ready.specs.declared.additions.NameAddition.{NameAddition}
 use Rattle.reuse_ready.specs.declared.additions.TableAddition.{TableAddition}
+use Rattle.reuse_ready.specs.declared.additions.RuleAddition.{RuleAddition}
 use Rattle.reuse_ready.specs.declared.additions.StyleAdditions.{StyleAdditions}
-use Rattle.reuse_ready.specs.Ready.{ready_comments}
+use Rattle.reuse_style.specs.Names.{dot}
+use Rattle.reuse_ready.specs.Ready.{ready_comments, ready_rules}
 
 -- a counted name, with its ready style
 abbrev pub name_addition : NameCount → Option NameAddition
@@ -21,9 +23,23 @@ table_addition comment = record { name = comment.0; table = comment.1 }
 abbrev pub is_needed : List NameCount → List ℕ → Bool
 is_needed rows style = list_any (λ row. option_map_or (λ own. bytes_eq own style) row.style false) rows
 
--- the counted names that have a ready style, and the ready comments that are styles of them
+-- a counted name without an ending that has no ready style: it may be a script's
+abbrev pub is_bare : NameCount → Bool
+is_bare row = is_none row.style && not (list_any (λ b. b == dot) row.name)
+
+-- a ready rule, as what is added of it
+abbrev pub rule_addition : List ℕ × List ℕ → RuleAddition
+rule_addition rule = record { first_line = rule.0; style = rule.1 }
+
+-- rules, where a counted name may be a script's
+abbrev pub needed_rules : List NameCount → List (List ℕ × List ℕ) → List RuleAddition
+needed_rules rows rules = if list_any is_bare rows then map rule_addition rules else []
+
+-- the counted names that have a ready style, the ready comments that are styles of them, and the ready rules, where a
+-- name may be a script's
 unfoldable pub additions_of : List NameCount → StyleAdditions
 additions_of rows = record {
   names = filter_map name_addition rows;
   tables = filter (λ addition. is_needed rows addition.name) (map table_addition ready_comments);
+  rules = needed_rules rows ready_rules;
 }

@@ -1,12 +1,13 @@
 //! What the ready tables add for counted names.
 ghost use Rattle.std.specs.Prelude.{◌≡◌, ◌∷◌, ◌++◌, [], IfOk, OnOk, false, map, filter};
-ghost use Rattle.std.specs.List.{filter_map};
+ghost use Rattle.std.specs.List.{filter_map, list_any};
 ghost use Rattle.std.specs.Option.{option_map_or};
 ghost use Rattle.std.specs.Str.{bytes_eq};
 ghost use Rattle.reuse_ready.specs.Needed.{additions_of, name_addition, table_addition, is_needed};
+ghost use Rattle.reuse_ready.specs.Needed.{needed_rules, rule_addition, is_bare};
 
 use crate::name_count::NameCount;
-use crate::tables::{ReadyComment, ready_comments};
+use crate::tables::{ReadyComment, ReadyRule, ready_comments, ready_rules};
 use reuse_change::FixedList;
 use reuse_text::Bytes;
 use std::alloc::{AllocError, Global};
@@ -29,6 +30,15 @@ pub struct TableAddition {
     pub table: Bytes,
 }
 
+/// A rule that is to stand in a file of comments.
+#[derive(Debug, Drop)]
+pub struct RuleAddition {
+    /// The pattern of the first lines that it is for.
+    pub first_line: Bytes,
+    /// The name of its style.
+    pub style: Bytes,
+}
+
 /// What is to be added to a tree's own files, where they lack it.
 #[derive(Debug, Drop)]
 pub struct StyleAdditions {
@@ -36,18 +46,23 @@ pub struct StyleAdditions {
     pub names: FixedList<NameAddition>,
     /// For the file of comments.
     pub tables: FixedList<TableAddition>,
+    /// For the file of comments, behind these.
+    pub rules: FixedList<RuleAddition>,
 }
 
-/// The counted names that have a ready style, and the ready comments that are styles of them.
+/// The counted names that have a ready style, and the ready comments that are styles of them. Where a
+/// name without an ending has none, the ready rules, too, since the file may be a script.
 #[tactic(auto, unfolding(crate::specs::Needed::additions_of))]
 pub fn additions_of(alloc: Global, rows: &[NameCount]) -> Result<StyleAdditions, AllocError>
     ensures { IfOk result (λ additions. additions ≡ additions_of rows.now) }
 {
     let names = names_with_styles(alloc, rows)?;
     let tables = needed_tables(alloc, ready_comments(), rows)?;
+    let rules = needed_rules(alloc, ready_rules(), rows)?;
     Ok(StyleAdditions {
         names: FixedList::new(names),
         tables: FixedList::new(tables),
+        rules: FixedList::new(rules),
     })
 }
 
@@ -112,4 +127,48 @@ fn has_style(row: &NameCount, style: &[u8]) -> bool
         None => false,
         Some(own) => own.as_slice() == style,
     }
+}
+
+// The rules, where a counted name may be a script's.
+fn needed_rules(
+    alloc: Global,
+    rules: &[ReadyRule<'_>],
+    rows: &[NameCount],
+) -> Result<Vec<RuleAddition>, AllocError>
+    ensures { IfOk result (λ needed. needed.items ≡
+        needed_rules rows.now (map (λ rule. (rule.0.now, rule.1.now)) rules.now)) }
+{
+    if is_any_bare(rows) {
+        rule_additions(alloc, rules)
+    } else {
+        Ok(Vec::new(alloc))
+    }
+}
+
+// Whether a counted name may be a script's.
+fn is_any_bare(rows: &[NameCount]) -> bool
+    ensures { result ≡ list_any is_bare rows.now }
+{
+    rows.iter().any(|row| is_bare(row))
+}
+
+// Whether a counted name has no ending and no ready style.
+fn is_bare(row: &NameCount) -> bool
+    ensures { result ≡ is_bare row.now }
+{
+    row.style.is_none() && !row.name.as_slice().contains(&b'.')
+}
+
+// All of some rules.
+fn rule_additions(alloc: Global, rules: &[ReadyRule<'_>]) -> Result<Vec<RuleAddition>, AllocError>
+    ensures { IfOk result (λ additions. additions.items ≡
+        map rule_addition (map (λ rule. (rule.0.now, rule.1.now)) rules.now)) }
+{
+    let mut additions = Vec::new(alloc);
+    for rule in rules {
+        let first_line = Bytes::from_slice(alloc, rule.0.as_bytes())?;
+        let style = Bytes::from_slice(alloc, rule.1.as_bytes())?;
+        additions.push(RuleAddition { first_line, style })?;
+    }
+    Ok(additions)
 }

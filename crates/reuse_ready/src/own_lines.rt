@@ -10,9 +10,10 @@ ghost use Rattle.reuse_style.specs.CommentFile.{comments_of};
 ghost use Rattle.reuse_ready.specs.declared.own_lines.AddedLines.{AddedLines};
 ghost use Rattle.reuse_ready.specs.Refused.{IsAdditionRefused};
 
-use crate::additions::{NameAddition, StyleAdditions, TableAddition};
-use crate::texts::{push_name_line, push_table};
-use reuse_style::{CommentTable, CommentsRefusal, Kind, StyleTable, StylesRefusal};
+use crate::additions::{NameAddition, RuleAddition, StyleAdditions, TableAddition};
+use crate::rule_lines::missing_rules;
+use crate::texts::{push_name_line, push_rule, push_table};
+use reuse_style::{CommentRules, CommentsRefusal, Kind, StyleTable, StylesRefusal};
 use reuse_text::Bytes;
 use std::alloc::{AllocError, Global};
 use thiserror::Error;
@@ -61,11 +62,11 @@ pub struct OwnStyles<'a, 'own> {
     pub comments: Option<&'a [u8]>,
     /// The names of the file of styles.
     pub names: &'a StyleTable<'own>,
-    /// The comment styles of the file of comments.
-    pub own_comments: &'own CommentTable,
+    /// The comment styles and rules of the file of comments.
+    pub own_comments: &'own CommentRules,
 }
 
-/// The lines that come into a tree's own files: the names and the comments that it lacks. With them
+/// The lines that come into a tree's own files: the names, comments and rules that it lacks. With them
 /// the files are read back.
 #[tactic(auto, unfolding(crate::specs::Additions::lines_added))]
 pub fn lines_added(
@@ -74,15 +75,17 @@ pub fn lines_added(
     own: &OwnStyles<'_, '_>,
 ) -> Result<AddedLines, AdditionRefusal>
     ensures added { IfOk result (λ added. lines_added additions.now (option_copied own.now.styles)
-        (option_copied own.now.comments) (lookup own.now.names.now) own.now.own_comments.now ≡ Ok added) }
+        (option_copied own.now.comments) (lookup own.now.names.now.entries) own.now.own_comments.now.styles
+        ≡ Ok added) }
     ensures refusal { IfErr result (IsAdditionRefused (lines_added additions.now (option_copied own.now.styles)
-        (option_copied own.now.comments) (lookup own.now.names.now) own.now.own_comments.now)) }
+        (option_copied own.now.comments) (lookup own.now.names.now.entries) own.now.own_comments.now.styles)) }
 {
     let names = missing_names(alloc, additions.names.as_slice(), own.names)?;
     let tables = missing_tables(alloc, additions.tables.as_slice(), own.own_comments)?;
+    let rules = missing_rules(alloc, additions.rules.as_slice(), own.comments)?;
     let added = AddedLines {
         styles: style_lines(alloc, own.styles, &names)?,
-        comments: comment_lines(alloc, own.comments, &tables)?,
+        comments: comment_lines(alloc, own.comments, &tables, &rules)?,
     };
     let styles = with_lines(alloc, own.styles, added.styles.as_slice())?;
     let comments = with_lines(alloc, own.comments, added.comments.as_slice())?;
@@ -99,7 +102,7 @@ fn missing_names<'a>(
     own: &StyleTable<'_>,
 ) -> Result<Vec<&'a NameAddition>, AllocError>
     ensures { IfOk result
-        (λ missing. map (λ name. name.now) missing.items ≡ missing_names (lookup own.now) names.now) }
+        (λ missing. map (λ name. name.now) missing.items ≡ missing_names (lookup own.now.entries) names.now) }
 {
     let mut missing = Vec::new(alloc);
     for name in names {
@@ -114,14 +117,14 @@ fn missing_names<'a>(
 fn missing_tables<'a>(
     alloc: Global,
     tables: &'a [TableAddition],
-    own_comments: &CommentTable,
+    own_comments: &CommentRules,
 ) -> Result<Vec<&'a TableAddition>, AllocError>
     ensures { IfOk result
-        (λ missing. map (λ table. table.now) missing.items ≡ missing_tables own_comments.now tables.now) }
+        (λ missing. map (λ table. table.now) missing.items ≡ missing_tables own_comments.now.styles tables.now) }
 {
     let mut missing = Vec::new(alloc);
     for table in tables {
-        if !own_comments.has(table.name.as_slice()) {
+        if !own_comments.has_style(table.name.as_slice()) {
             missing.push(table)?;
         }
     }
@@ -147,21 +150,30 @@ fn style_lines(
     Ok(lines)
 }
 
-// The lines of tables that come behind those of a file of comments.
+// The lines of tables and of rules that come behind those of a file of comments.
 fn comment_lines(
     alloc: Global,
     file: Option<&[u8]>,
     tables: &[&TableAddition],
+    rules: &[&RuleAddition],
 ) -> Result<Bytes, AllocError>
     ensures { IfOk result
-        (λ lines. lines ≡ comment_lines (option_copied file.entry) (map (λ table. table.now) tables.now)) }
+        (λ lines. lines ≡ comment_lines (option_copied file.entry) (map (λ table. table.now) tables.now)
+        (map (λ rule. rule.now) rules.now)) }
 {
-    if tables.is_empty() {
+    if tables.is_empty() && rules.is_empty() {
         return Ok(Bytes::new(alloc));
     }
     let mut lines = before_lines(alloc, b"version = 1\n", file)?;
     for table in tables {
         push_table(&mut lines, table.table.as_slice())?;
+    }
+    for rule in rules {
+        push_rule(
+            &mut lines,
+            rule.first_line.as_slice(),
+            rule.style.as_slice(),
+        )?;
     }
     Ok(lines)
 }
@@ -215,7 +227,7 @@ fn read_back(
     ensures refusal { (added : AddedLines) → IfErr result (IsAdditionRefused
         (if_read added (map (λ name. name.now) names.now) styles.now (comments_of comments.now))) }
 {
-    match CommentTable::read(alloc, lent(comments)) {
+    match CommentRules::read(alloc, lent(comments)) {
         Ok(own_comments) => read_names_back(alloc, &own_comments, styles, names),
         Err(CommentsRefusal::Memory(error)) => Err(AdditionRefusal::Memory(error)),
         Err(_) => Err(AdditionRefusal::Comments),
@@ -225,14 +237,14 @@ fn read_back(
 // Whether the file of styles is read beside these comments, and names have their styles by it.
 fn read_names_back(
     alloc: Global,
-    own_comments: &CommentTable,
+    own_comments: &CommentRules,
     styles: &Option<Bytes>,
     names: &[&NameAddition],
 ) -> Result<(), AdditionRefusal>
     ensures read { (added : AddedLines) → IfOk result (λ _. if_named added (map (λ name. name.now) names.now)
-        (styles_of own_comments.now styles.now) ≡ Ok added) }
+        (styles_of own_comments.now.styles styles.now) ≡ Ok added) }
     ensures refusal { (added : AddedLines) → IfErr result (IsAdditionRefused
-        (if_named added (map (λ name. name.now) names.now) (styles_of own_comments.now styles.now))) }
+        (if_named added (map (λ name. name.now) names.now) (styles_of own_comments.now.styles styles.now))) }
 {
     match StyleTable::read(alloc, own_comments, lent(styles)) {
         Ok(own) => if are_named(&own, names) {
@@ -257,14 +269,15 @@ fn lent(text: &Option<Bytes>) -> Option<&[u8]>
 
 // Whether own names give names the styles that are to be added.
 fn are_named(own: &StyleTable<'_>, names: &[&NameAddition]) -> bool
-    ensures { result ≡ list_all (λ name. has_kind (lookup own.now name.now.name) name.now.style) names.now }
+    ensures { result ≡
+        list_all (λ name. has_kind (lookup own.now.entries name.now.name) name.now.style) names.now }
 {
     names.iter().all(|name| is_named(own, name))
 }
 
 // Whether own names give a name the style that is to be added.
 fn is_named(own: &StyleTable<'_>, name: &NameAddition) -> bool
-    ensures { result ≡ has_kind (lookup own.now name.now.name) name.now.style }
+    ensures { result ≡ has_kind (lookup own.now.entries name.now.name) name.now.style }
 {
     match own.own_kind(name.name.as_slice()) {
         Some(Kind::Style(style)) => style.name().as_bytes() == name.style.as_slice(),

@@ -5,10 +5,14 @@ ghost use Rattle.std.specs.Option.{option_copied, option_map};
 ghost use Rattle.std.specs.Str.{bytes_eq, str_eq_ignore_ascii_case};
 ghost use Rattle.reuse_style.specs.Names.{lookup};
 ghost use Rattle.reuse_ready.specs.Ready.{ready_style, ready_comment, ready_comments, named, table_names, other_names};
+ghost use Rattle.reuse_ready.specs.Ready.{uncommentable_names, later_names};
+ghost use Rattle.reuse_ready.specs.Ready.{ready_fronts, ready_rules, listed_style, front_style, begins_with};
 
 use crate::comments::READY_COMMENTS;
 use crate::other_lines::OTHER_LINES;
+use crate::rules::{READY_FRONTS, READY_RULES};
 use crate::table_lines::TABLE_LINES;
+use crate::uncommentable_lines::UNCOMMENTABLE_LINES;
 
 /// A title, or a name with its style, which is the name of a style or `uncommentable`. A name is a
 /// last part of paths, or what stands there from the last dot on.
@@ -17,12 +21,23 @@ pub type ReadyLine<'a> = (&'a str, Option<&'a str>);
 /// The name of a comment style that is none of the table of styles, with its table.
 pub type ReadyComment<'a> = (&'a str, &'a str);
 
+/// The beginning of names, or the pattern of first lines, with the style that it gives.
+pub type ReadyRule<'a> = (&'a str, &'a str);
+
 /// The lines of the ready names whose style is one of the table.
 #[tactic(auto, unfolding(crate::specs::Ready::table_names))]
 pub(crate) fn table_names() -> &'static [ReadyLine<'static>]
     ensures { map (λ line. (line.0.now, option_copied line.1)) result.now ≡ table_names }
 {
     &TABLE_LINES
+}
+
+/// The lines of the ready names without comments.
+#[tactic(auto, unfolding(crate::specs::Ready::uncommentable_names))]
+pub(crate) fn uncommentable_names() -> &'static [ReadyLine<'static>]
+    ensures { map (λ line. (line.0.now, option_copied line.1)) result.now ≡ uncommentable_names }
+{
+    &UNCOMMENTABLE_LINES
 }
 
 /// The lines of the other ready names.
@@ -41,11 +56,48 @@ pub(crate) fn ready_comments() -> &'static [ReadyComment<'static>]
     &READY_COMMENTS
 }
 
-/// The ready style of a name, where letters of either case are the same.
+/// The beginnings of names that have a ready style.
+#[tactic(auto, unfolding(crate::specs::Ready::ready_fronts))]
+pub(crate) fn ready_fronts() -> &'static [ReadyRule<'static>]
+    ensures { map (λ front. (front.0.now, front.1.now)) result.now ≡ ready_fronts }
+{
+    &READY_FRONTS
+}
+
+/// The patterns of first lines that have a ready style.
+#[tactic(auto, unfolding(crate::specs::Ready::ready_rules))]
+pub(crate) fn ready_rules() -> &'static [ReadyRule<'static>]
+    ensures { map (λ rule. (rule.0.now, rule.1.now)) result.now ≡ ready_rules }
+{
+    &READY_RULES
+}
+
+/// The ready style of a name, where letters of either case are the same: by the whole name, or else
+/// by its beginning.
 pub fn ready_style(name: &[u8]) -> Option<&'static str>
     ensures { option_copied result ≡ ready_style name.now }
 {
+    match listed_style(name) {
+        None => front_style(ready_fronts(), name),
+        Some(style) => Some(style),
+    }
+}
+
+// The style of the ready name that is the same.
+fn listed_style(name: &[u8]) -> Option<&'static str>
+    ensures { option_copied result ≡ listed_style name.now }
+{
     match table_style(name) {
+        None => later_style(name),
+        Some(style) => Some(style),
+    }
+}
+
+// The style of a name that is none of these of the table.
+fn later_style(name: &[u8]) -> Option<&'static str>
+    ensures { option_copied result ≡ lookup (filter_map named later_names) name.now }
+{
+    match uncommentable_style(name) {
         None => other_style(name),
         Some(style) => Some(style),
     }
@@ -56,6 +108,13 @@ fn table_style(name: &[u8]) -> Option<&'static str>
     ensures { option_copied result ≡ lookup (filter_map named table_names) name.now }
 {
     style_in(table_names(), name)
+}
+
+// What a name has that has no comment.
+fn uncommentable_style(name: &[u8]) -> Option<&'static str>
+    ensures { option_copied result ≡ lookup (filter_map named uncommentable_names) name.now }
+{
+    style_in(uncommentable_names(), name)
 }
 
 // The style of another name.
@@ -80,6 +139,30 @@ fn style_in<'a>(mut lines: &[ReadyLine<'a>], name: &[u8]) -> Option<&'a str>
         lines = others;
     }
     None
+}
+
+// The style of the first of some beginnings that a name has.
+fn front_style<'a>(mut fronts: &[ReadyRule<'a>], name: &[u8]) -> Option<&'a str>
+    ensures { option_copied result ≡
+        front_style (map (λ front. (front.0.now, front.1.now)) fronts.entry.now) name.now }
+{
+    while let [front, others @ ..] = fronts {
+        if begins_with(front.0, name) {
+            return Some(front.1);
+        }
+        fronts = others;
+    }
+    None
+}
+
+// Whether a name begins so, but for the case of ASCII letters.
+fn begins_with(front: &str, name: &[u8]) -> bool
+    ensures { result ≡ begins_with front.now name.now }
+{
+    if name.len() < front.len() {
+        return false;
+    }
+    same_name(front, &name[..front.len()])
 }
 
 // Whether two names are the same but for the case of ASCII letters.

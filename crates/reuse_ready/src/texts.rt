@@ -3,9 +3,14 @@ ghost use Rattle.std.specs.Prelude.{◌≡◌, ◌++◌, IfOk, OnOk, codes, map}
 ghost use Rattle.std.specs.Option.{option_copied};
 ghost use Rattle.std.specs.List.{flat_map};
 ghost use Rattle.reuse_ready.specs.Ready.{ready_styles_text, ready_comments_text, line_text, title_line, comment_text};
-ghost use Rattle.reuse_ready.specs.Additions.{name_line};
+ghost use Rattle.reuse_ready.specs.Ready.{front_text, rule_text, fronts_text, rules_text};
+ghost use Rattle.reuse_ready.specs.Additions.{name_line, rule_line, rule_lines};
+ghost use Rattle.reuse_ready.specs.declared.additions.RuleAddition.{RuleAddition};
 
-use crate::tables::{ReadyComment, ReadyLine, other_names, ready_comments, table_names};
+use crate::tables::{
+    ReadyComment, ReadyLine, ReadyRule, other_names, ready_comments, ready_fronts, ready_rules,
+    table_names, uncommentable_names,
+};
 use reuse_text::Bytes;
 use std::alloc::{AllocError, Global};
 
@@ -25,9 +30,16 @@ version = 1
 /// What stands above the comments.
 pub const COMMENTS_TOP: &str = "\
 # Ready comments, which ready styles name. Each is of a comment that may stand at the very top of a
-# file, or behind the lines that it names.
+# file, or behind the lines that it names. Behind them are the ready rules.
 version = 1
 ";
+
+/// What stands above the rules for names.
+pub const FRONTS_TITLE: &str = "Files for one purpose each, such as Dockerfile.dev";
+
+/// What stands above the rules for first lines.
+pub const RULES_TITLE: &str =
+    "Scripts without an ending, by the interpreter that their first line names";
 
 /// The file of styles that has all ready names.
 #[tactic(auto, unfolding(crate::specs::Ready::ready_styles_text))]
@@ -36,18 +48,39 @@ pub fn ready_styles_text(alloc: Global) -> Result<Bytes, AllocError>
 {
     let mut text = Bytes::from_slice(alloc, STYLES_TOP.as_bytes())?;
     push_lines(&mut text, table_names())?;
+    push_lines(&mut text, uncommentable_names())?;
     push_lines(&mut text, other_names())?;
     Ok(text)
 }
 
-/// The file of comments that has all ready comments.
+/// The file of comments that has all ready comments and rules.
 #[tactic(auto, unfolding(crate::specs::Ready::ready_comments_text))]
 pub fn ready_comments_text(alloc: Global) -> Result<Bytes, AllocError>
     ensures { IfOk result (λ text. text ≡ ready_comments_text) }
 {
     let mut text = Bytes::from_slice(alloc, COMMENTS_TOP.as_bytes())?;
     push_comments(&mut text, ready_comments())?;
+    push_ready_fronts(&mut text)?;
+    push_ready_rules(&mut text)?;
     Ok(text)
+}
+
+// Adds the ready rules for names.
+#[tactic(auto, unfolding(crate::specs::Ready::fronts_text))]
+fn push_ready_fronts(text: &mut Bytes) -> Result<(), AllocError>
+    ensures { OnOk result (text.new ≡ text.old ++ fronts_text) }
+{
+    push_title(text, FRONTS_TITLE)?;
+    push_fronts(text, ready_fronts())
+}
+
+// Adds the ready rules for first lines.
+#[tactic(auto, unfolding(crate::specs::Ready::rules_text))]
+fn push_ready_rules(text: &mut Bytes) -> Result<(), AllocError>
+    ensures { OnOk result (text.new ≡ text.old ++ rules_text) }
+{
+    push_title(text, RULES_TITLE)?;
+    push_rules(text, ready_rules())
 }
 
 // Adds lines of the list of ready names.
@@ -65,6 +98,7 @@ fn push_lines(text: &mut Bytes, lines: &[ReadyLine<'_>]) -> Result<(), AllocErro
 }
 
 // Adds a title, as a comment behind an empty line.
+#[tactic(auto, unfolding(crate::specs::Ready::title_line))]
 fn push_title(text: &mut Bytes, title: &str) -> Result<(), AllocError>
     ensures { OnOk result (text.new ≡ text.old ++ title_line title.now) }
 {
@@ -93,6 +127,69 @@ fn push_comments(text: &mut Bytes, comments: &[ReadyComment<'_>]) -> Result<(), 
         push_table(text, comment.1.as_bytes())?;
     }
     Ok(())
+}
+
+// Adds rules for names that begin so.
+fn push_fronts(text: &mut Bytes, fronts: &[ReadyRule<'_>]) -> Result<(), AllocError>
+    ensures { OnOk result
+        (text.new ≡ text.old ++ flat_map front_text (map (λ front. (front.0.now, front.1.now)) fronts.now)) }
+{
+    for (front, style) in fronts {
+        push_front(text, front.as_bytes(), style.as_bytes())?;
+    }
+    Ok(())
+}
+
+// Adds a rule for names that begin so, behind an empty line.
+#[tactic(auto, unfolding(crate::specs::Ready::front_text))]
+fn push_front(text: &mut Bytes, front: &[u8], style: &[u8]) -> Result<(), AllocError>
+    ensures { OnOk result (text.new ≡ text.old ++ front_text (front.now, style.now)) }
+{
+    text.push_slice(b"\n[[rules]]\nname = \"")?;
+    text.push_slice(front)?;
+    text.push_slice(b"*\"\nstyle = \"")?;
+    text.push_slice(style)?;
+    text.push_slice(b"\"\n")
+}
+
+// Adds rules for first lines.
+fn push_rules(text: &mut Bytes, rules: &[ReadyRule<'_>]) -> Result<(), AllocError>
+    ensures { OnOk result
+        (text.new ≡ text.old ++ flat_map rule_text (map (λ rule. (rule.0.now, rule.1.now)) rules.now)) }
+{
+    for (pattern, style) in rules {
+        push_ready_rule(text, pattern.as_bytes(), style.as_bytes())?;
+    }
+    Ok(())
+}
+
+// Adds a ready rule for first lines.
+#[tactic(auto, unfolding(crate::specs::Ready::rule_text))]
+fn push_ready_rule(text: &mut Bytes, pattern: &[u8], style: &[u8]) -> Result<(), AllocError>
+    ensures { OnOk result (text.new ≡ text.old ++ rule_text (pattern.now, style.now)) }
+{
+    push_rule(text, pattern, style)
+}
+
+/// Adds a rule for first lines, behind an empty line.
+pub(crate) fn push_rule(text: &mut Bytes, pattern: &[u8], style: &[u8]) -> Result<(), AllocError>
+    ensures { OnOk result (text.new ≡ text.old
+        ++ rule_lines (record { first_line = pattern.now; style = style.now })) }
+{
+    text.push_slice(b"\n[[rules]]\n")?;
+    push_rule_line(text, pattern)?;
+    text.push_slice(b"\nstyle = \"")?;
+    text.push_slice(style)?;
+    text.push_slice(b"\"\n")
+}
+
+/// Adds the pattern of a rule, as it stands in a file of comments.
+pub(crate) fn push_rule_line(text: &mut Bytes, pattern: &[u8]) -> Result<(), AllocError>
+    ensures { OnOk result (text.new ≡ text.old ++ rule_line pattern.now) }
+{
+    text.push_slice(b"first-line = \"")?;
+    text.push_slice(pattern)?;
+    text.push_slice(b"\"")
 }
 
 /// Adds a table of a file of comments, behind an empty line.

@@ -46,7 +46,8 @@ ghost use Rattle.reuse_plan.specs.StylesAdded.{AddsStyles};
 ghost use Rattle.reuse_plan.specs.TablePut.{PutsTable};
 ghost use Rattle.reuse_plan.specs.TextsPut.{PutsTexts};
 ghost use Rattle.reuse_change.specs.Tree.{changed_paths, undo_folder_of};
-ghost use Rattle.reuse_plan.specs.TreeStyles.{OwnNames, styles_in};
+ghost use Rattle.reuse_plan.specs.TreeStyles.{styles_in};
+ghost use Rattle.reuse_style.specs.Kinds.{OwnKinds};
 ghost use Rattle.reuse_plan.specs.Selected.{amended_paths, is_chosen, selected_paths};
 ghost use Rattle.reuse_command.specs.declared.command.Command.{Command};
 ghost use Rattle.reuse_change.specs.Listing.{is_among};
@@ -57,6 +58,7 @@ ghost use Rattle.reuse_command.specs.declared.command.Scope.{Scope};
 ghost use Rattle.reuse_change.specs.declared.direction.Direction.{Direction};
 ghost use Rattle.reuse_change.specs.declared.direction.Direction.TheVariants.{Backward};
 ghost use Rattle.reuse_command.specs.declared.path_outcome.PathOutcome.{PathOutcome};
+ghost use Rattle.reuse_header.specs.declared.harm.Harm.{Harm};
 ghost use Rattle.reuse_command.specs.declared.path_outcome.PathOutcome.TheVariants.{Changes, Skipped, Unchanged};
 ghost use Rattle.reuse_command.specs.declared.licence.LicenceText.{LicenceText};
 ghost use Rattle.reuse_command.specs.declared.reply.Refusal.{Refusal};
@@ -302,7 +304,8 @@ pub fn outcome_follows_path_outcomes()
     ensures accepted { (command : Command) (tree : Files) → (first_refusal (path_outcomes_of command tree) ≡ None)
         ↔ ((after : Files) × (outcome_of command tree ≡ Ok after)) }
     ensures changed { (command : Command) (tree after : Files) (path : List ℕ) → HoldsEntry command
-        → outcome_of command tree ≡ Ok after → Contains (path_outcomes_of command tree) (Changes path)
+        → outcome_of command tree ≡ Ok after
+        → ((harm : Option Harm) × Contains (path_outcomes_of command tree) (Changes path harm))
         ↔ (get tree path ≢ get after path) }
 {}
 
@@ -312,16 +315,16 @@ pub fn outcome_follows_path_outcomes()
 /// unchanged holds what it held then, and so does its neighbour. `own` are the kinds that the tree
 /// gives to its own names.
 pub fn annotations_follow_path_outcomes()
-    ensures skipped { (places : List Place) (additions : Additions) (how : How) (scope : Scope) (own : OwnNames)
+    ensures skipped { (places : List Place) (additions : Additions) (how : How) (scope : Scope) (own : OwnKinds)
         (tree : Files) (path : List ℕ) → styles_in tree ≡ Ok own
         → Contains (path_outcomes_of (Annotate places additions how scope) tree) (Skipped path)
         → Contains (selected_paths scope places tree) path × IsSkippedAt scope own tree path }
-    ensures reported { (places : List Place) (additions : Additions) (how : How) (scope : Scope) (own : OwnNames)
+    ensures reported { (places : List Place) (additions : Additions) (how : How) (scope : Scope) (own : OwnKinds)
         (tree after : Files) (path : List ℕ) → styles_in tree ≡ Ok own
         → outcome_of (Annotate places additions how scope) tree ≡ Ok after
         → Contains (selected_paths scope places tree) path → IsSkippedAt scope own tree path
         → Contains (path_outcomes_of (Annotate places additions how scope) tree) (Skipped path) }
-    ensures stays { (places : List Place) (additions : Additions) (how : How) (scope : Scope) (own : OwnNames)
+    ensures stays { (places : List Place) (additions : Additions) (how : How) (scope : Scope) (own : OwnKinds)
         (tree after : Files) (path : List ℕ) → styles_in tree ≡ Ok own
         → outcome_of (Annotate places additions how scope) tree ≡ Ok after
         → Contains (path_outcomes_of (Annotate places additions how scope) tree) (Unchanged path)

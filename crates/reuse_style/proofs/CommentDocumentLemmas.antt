@@ -1,6 +1,6 @@
 -- A document of comments is just what it says.
 use Rattle.std.proofs.Common.{◌≡◌, ℕ, Bool, true, false, cond, List, [], ◌∷◌, Option, Some, None}
-use Rattle.std.proofs.Common.{refl, sym, ap, ◌∙◌}
+use Rattle.std.proofs.Common.{pos, refl, sym, ap, ◌∙◌}
 use Rattle.std.specs.Prelude.{◌&&◌, ◌↔◌, codes, option_and_then}
 use Rattle.std.specs.Option.{option_map}
 use Rattle.std.specs.Str.{bytes_eq}
@@ -8,72 +8,25 @@ use Rattle.std.proofs.lemmas.Slice.Eq.{bytes_eq-Decides}
 use Rattle.toml.specs.Data.{Data, string, integer, float, boolean, datetime, array, table}
 use Rattle.toml.specs.Data.{Items, no_items, item, Members, no_members, member}
 use Rattle.reuse_style.specs.Documents.{is_version}
-use Rattle.reuse_style.specs.CommentFile.{CommentTexts, NamedComments, with_text, style_members, named_members}
-use Rattle.reuse_style.specs.CommentFile.{comments_document, take_text, is_done, texts_of_style, texts_of_data}
+use Rattle.reuse_style.specs.CommentFile.{CommentTexts, NamedComments, StatedComments, style_members, named_members}
+use Rattle.reuse_style.specs.CommentFile.{comments_data, comments_document, texts_of_style, texts_of_data}
 use Rattle.reuse_style.specs.CommentFile.{comments_in_table, comments_of_data, comments_of_document}
 use Rattle.reuse_style.specs.CommentFile.{text_items, with_texts, texts_of_items, texts_of_array, texts_before}
-use Rattle.reuse_style.specs.CommentFile.{take_texts}
+use Rattle.reuse_style.specs.CommentFile.{take_texts, is_version_alone, states_something}
+use Rattle.reuse_style.specs.RuleTexts.{rules_data, rules_of_data}
+use Rattle.reuse_style.specs.Taken.{with_text, take_text, with_value, take_value, is_done}
+use Rattle.reuse_style.proofs.TextLemmas.{taken, takes, passes, done}
+use Rattle.reuse_style.proofs.TakenLemmas.{begins, taken_value, takes_value, passes_value}
+use Rattle.reuse_style.proofs.RuleDocumentLemmas.{rules_are, rules_of_texts}
 use Rattle.reuse_style.proofs.DocumentLemmas.{if_some, both, version_is}
 
--- ---- the text of a key
-
--- what is taken off stood in front
-taken : (key : List ℕ) (ms : Members) → ms ≡ with_text key (take_text key ms).0 (take_text key ms).1
-unfolding take_text
-taken key no_members = refl
-taken key (member name (string text) others) = by (bytes_eq name key) refl
-  where
-    of : Bool → Option (List ℕ) × Members
-    of b = cond b (Some text, others) (None, member name (string text) others)
-
-    by : (b : Bool) → bytes_eq name key ≡ b → member name (string text) others ≡ with_text key (of b).0 (of b).1
-    by true e = ap (λ (k : List ℕ). member k (string text) others) ((bytes_eq-Decides name key).0 e)
-    by false e = refl
-taken key (member name (integer z) others) = refl
-taken key (member name (float x) others) = refl
-taken key (member name (boolean b) others) = refl
-taken key (member name (datetime d) others) = refl
-taken key (member name (array ds) others) = refl
-taken key (member name (table ms) others) = refl
-
--- whether the first member has a key
-begins : List ℕ → Members → Bool
-begins key no_members = false
-begins key (member name value others) = bytes_eq name key
+-- ---- the list of texts of a key
 
 passes_list : (key other : List ℕ) (texts : Option (List (List ℕ))) (others : Members) → bytes_eq other key ≡ false
     → begins key others ≡ false → begins key (with_texts other texts others) ≡ false
 unfolding begins
 passes_list key other None others differs behind = behind
 passes_list key other (Some texts) others differs behind = differs
-
-passes : (key other : List ℕ) (text : Option (List ℕ)) (others : Members) → bytes_eq other key ≡ false
-    → begins key others ≡ false → begins key (with_text other text others) ≡ false
-unfolding begins
-passes key other None others differs behind = behind
-passes key other (Some text) others differs behind = differs
-
-nothing_taken : (key : List ℕ) (ms : Members) → begins key ms ≡ false → take_text key ms ≡ (None, ms)
-unfolding take_text begins
-nothing_taken key no_members e = refl
-nothing_taken key (member name (string text) others) e =
-    ap (λ (b : Bool). cond b (Some text, others) (None, member name (string text) others)) e
-nothing_taken key (member name (integer z) others) e = refl
-nothing_taken key (member name (float x) others) e = refl
-nothing_taken key (member name (boolean b) others) e = refl
-nothing_taken key (member name (datetime d) others) e = refl
-nothing_taken key (member name (array ds) others) e = refl
-nothing_taken key (member name (table ms) others) e = refl
-
--- what stands in front is taken off
-takes : (key : List ℕ) (text : Option (List ℕ)) (others : Members) → begins key others ≡ false
-    → take_text key (with_text key text others) ≡ (text, others)
-unfolding take_text
-takes key None others e = nothing_taken key others e
-takes key (Some text) others e = ap (λ (b : Bool). cond b (Some text, others) (None, member key (string text) others))
-    ((bytes_eq-Decides key key).1 refl)
-
--- ---- the list of texts of a key
 
 items_are : (items : Items) (texts : List (List ℕ)) → texts_of_items items ≡ Some texts → items ≡ text_items texts
 unfolding texts_of_items
@@ -147,10 +100,6 @@ takes_list key (Some texts) others e =
     ∙ ap (λ (o : Option (List (List ℕ))). texts_before o all others) (items_of_texts texts)
 
 -- ---- the texts of a style
-
-done : (ms : Members) → is_done ms ≡ true → ms ≡ no_members
-done no_members e = refl
-done (member name value others) e = absurd (let no : ⊥ = cc e in no)
 
 style_is : (ms : Members) (texts : CommentTexts) → texts_of_style ms ≡ Some texts → ms ≡ style_members texts
 unfolding texts_of_style
@@ -319,25 +268,48 @@ data_is (boolean b) named e = absurd (let no : ⊥ = cc e in no)
 data_is (datetime d) named e = absurd (let no : ⊥ = cc e in no)
 data_is (array ds) named e = absurd (let no : ⊥ = cc e in no)
 
-stated : (document : Members) (named : List NamedComments) → comments_of_document document ≡ Some named
-    → document ≡ comments_document named
-unfolding comments_of_document
-stated no_members named e = absurd (let no : ⊥ = cc e in no)
-stated (member first comments no_members) named e = absurd (let no : ⊥ = cc e in no)
-stated (member first comments (member second version (member third value others))) named e =
-    absurd (let no : ⊥ = cc e in no)
-stated (member first comments (member second version no_members)) named e =
-    let c = if_some (bytes_eq first (codes "comments") && bytes_eq second (codes "version") && is_version version)
-    (comments_of_data comments) named e in
-    let p = both (bytes_eq first (codes "comments") && bytes_eq second (codes "version")) (is_version version) c.0 in
-    let q = both (bytes_eq first (codes "comments")) (bytes_eq second (codes "version")) p.0 in
-    let f : first ≡ codes "comments" = (bytes_eq-Decides first (codes "comments")).0 q.0 in
-    let s : second ≡ codes "version" = (bytes_eq-Decides second (codes "version")).0 q.1 in
-    let v = version_is version p.1 in
-    let n = data_is comments named c.1 in
-    λ i. member (f i) (n i) (member (s i) (v i) no_members)
+-- members that are the version alone are just that
+version_alone : (ms : Members) → is_version_alone ms ≡ true
+    → ms ≡ member (codes "version") (integer (pos 1)) no_members
+version_alone no_members e = absurd (let no : ⊥ = cc e in no)
+version_alone (member name value (member other next others)) e = absurd (let no : ⊥ = cc e in no)
+version_alone (member name value no_members) e =
+    let p = both (bytes_eq name (codes "version")) (is_version value) e in
+    let n : name ≡ codes "version" = (bytes_eq-Decides name (codes "version")).0 p.0 in
+    let v = version_is value p.1 in
+    λ i. member (n i) (v i) no_members
 
-pub comments_stated : (document : Members) (named : List NamedComments)
-    → (comments_of_document document ≡ Some named) ↔ (document ≡ comments_document named)
+-- the members of what is stated, one key after another
+stated : (document : Members) (about : StatedComments) → comments_of_document document ≡ Some about
+    → (document ≡ comments_document about) × (states_something about ≡ true)
 unfolding comments_of_document
-comments_stated document named = (stated document named, λ e. ap comments_of_document e ∙ table_of_named named)
+stated document about e =
+    let styles = take_value comments_of_data (codes "comments") document in
+    let rules = take_value rules_of_data (codes "rules") styles.1 in
+    let all : StatedComments = record { styles = styles.0; rules = rules.0 } in
+    let c = if_some (is_version_alone rules.1 && states_something all) (Some all) about e in
+    let p = both (is_version_alone rules.1) (states_something all) c.0 in
+    let same : all ≡ about = cc c.1 in (
+      taken_value comments_of_data comments_data data_is (codes "comments") document
+          ∙ ap (with_value comments_data (codes "comments") styles.0)
+          (taken_value rules_of_data rules_data rules_are (codes "rules") styles.1
+          ∙ ap (with_value rules_data (codes "rules") rules.0) (version_alone rules.1 p.0))
+          ∙ ap comments_document same,
+      ap states_something (sym same) ∙ p.1,
+    )
+
+stating : (about : StatedComments) → states_something about ≡ true
+    → comments_of_document (comments_document about) ≡ Some about
+unfolding comments_of_document begins
+stating about e =
+    let version = member (codes "version") (integer (pos 1)) no_members in
+    let rules = with_value rules_data (codes "rules") about.rules version in
+    let r = takes_value rules_of_data rules_data rules_of_texts (codes "rules") about.rules version refl in
+    let b = passes_value rules_data (codes "comments") (codes "rules") about.rules version refl refl in
+    let c = takes_value comments_of_data comments_data table_of_named (codes "comments") about.styles rules b in
+    rw (c, r, e) refl
+
+pub comments_stated : (document : Members) (about : StatedComments) → (comments_of_document document ≡ Some about)
+    ↔ ((document ≡ comments_document about) × (states_something about ≡ true))
+comments_stated document about =
+    (stated document about, λ e. ap comments_of_document e.0 ∙ stating about e.1)

@@ -3,8 +3,9 @@ use Rattle.std.proofs.Common.{◌≡◌, ℕ, Bool, true, false, cond, List, [],
 use Rattle.std.proofs.Common.{append_assoc, append-nil, length, get_or, drop, drop-cons, add-one, ◌+◌, ◌<◌, ◌≤◌}
 use Rattle.std.proofs.Common.{Ok, Err, refl, sym, ap, ◌∙◌, subst}
 use Rattle.std.proofs.lemmas.List.{drop_all, map-append}
-use Rattle.std.specs.Prelude.{◌&&◌, ◌||◌, option_and_then, is_none, is_some, find}
-use Rattle.std.specs.List.{list_all, filter_map, cons_option}
+use Rattle.std.specs.Prelude.{◌&&◌, ◌||◌, option_and_then, is_none, is_some, find, unwrap_or, Vec}
+use Rattle.std.specs.declared.alloc.Global.{Global}
+use Rattle.std.specs.List.{list_all, filter_map, cons_option, position_from}
 use Rattle.std.specs.Option.{option_map, option_or}
 use Rattle.std.specs.Str.{bytes_eq}
 use Rattle.std.proofs.lemmas.Slice.Eq.{bytes_eq-Decides}
@@ -14,12 +15,15 @@ use Rattle.reuse_style.specs.declared.style.Kind.{Kind}
 use Rattle.reuse_style.specs.declared.style.Kind.TheVariants.{Style}
 use Rattle.reuse_style.specs.declared.comments_refusal.CommentsRefusal.{CommentsRefusal}
 use Rattle.reuse_style.specs.declared.comments_refusal.CommentsRefusal.TheVariants.{NotToml, BadShape, BadName}
-use Rattle.reuse_style.specs.declared.comments_refusal.CommentsRefusal.TheVariants.{BadMarks, Memory}
+use Rattle.reuse_style.specs.declared.comments_refusal.CommentsRefusal.TheVariants.{BadMarks, BadRule, Memory}
 use Rattle.reuse_style.specs.Marks.{CommentMarks, GoodStyle, is_good, marks_fault}
 use Rattle.reuse_style.specs.StyleFile.{table_kind_named, own_style_named, kind_named}
 use Rattle.reuse_style.specs.CommentFile.{CommentTexts, NamedComments, marks_of, is_shaped, is_bad_style_name}
 use Rattle.reuse_style.specs.CommentFile.{style_refusal, first_style_refusal, style_if, good_style, checked_styles}
-use Rattle.reuse_style.specs.CommentFile.{own_comments, texts_named, comments_of, comments_in}
+use Rattle.reuse_style.specs.CommentFile.{are_shaped, checked_rules, comments_by, comments_of, comments_in}
+use Rattle.reuse_style.specs.CommentFile.{first_stray, rules_beside, texts_named}
+use Rattle.reuse_style.specs.Rules.{Rule, CommentRules, is_rule, rule_of}
+use Rattle.reuse_style.specs.RuleTexts.{RuleTexts}
 use Rattle.reuse_style.specs.CommentFile.{texts_of_data, comments_in_table}
 use Rattle.reuse_style.specs.CommentFile.{IsFirstRefusal, IsCommentsRefused}
 use Rattle.reuse_style.specs.Documents.{read_document}
@@ -127,6 +131,7 @@ first_refused styles style others all refusal at first = by refusal first
     by BadShape e = expected BadShape e
     by (BadName name) e = expected (BadName name) e
     by (BadMarks name fault) e = expected (BadMarks name fault) e
+    by (BadRule number) e = expected (BadRule number) e
     by (Memory m) e = tt
 
 none_left : (styles : List GoodStyle) (all : List NamedComments) → AtStyles styles [] all
@@ -186,42 +191,85 @@ module _ {X : Type 0} (seen : X → NamedComments) where
 
 -- ---- the answers for texts, and for a file
 
-pub own_good : (named : List NamedComments) (styles : List GoodStyle)
-    → list_all (λ style. is_shaped style.1) named ≡ true → first_style_refusal named ≡ None
-    → styles ≡ filter_map good_style named → own_comments (Some named) ≡ Ok styles
-own_good named styles shaped none are =
-    ap (λ (b : Bool). cond b (checked_styles named (first_style_refusal named)) (Err BadShape)) shaped
-    ∙ ap (checked_styles named) none ∙ ap (λ (ss : List GoodStyle). Ok ss) (sym are)
+-- a list that is there, or none
+pub seen_or_none : {X Y : Type 0} (seen : X → Y) (o : Option (Vec X Global)) (none got : Vec X Global)
+    → none.items ≡ [] → got ≡ unwrap_or o none
+    → map seen got.items ≡ unwrap_or (option_map (λ (v : Vec X Global). map seen v.items) o) []
+seen_or_none {X = X} seen None none got empty is = ap (λ (v : Vec X Global). map seen v.items) is ∙ ap (map seen) empty
+seen_or_none {X = X} seen (Some v) none got empty is = ap (λ (w : Vec X Global). map seen w.items) is
 
-pub own_bad_shape : (named : List NamedComments) → list_all (λ style. is_shaped style.1) named ≡ false
-    → own_comments (Some named) ≡ Err BadShape
-own_bad_shape named e =
-    ap (λ (b : Bool). cond b (checked_styles named (first_style_refusal named)) (Err BadShape)) e
+pub checked_good : (named : List NamedComments) (styles : List GoodStyle) → first_style_refusal named ≡ None
+    → styles ≡ filter_map good_style named → checked_styles named (first_style_refusal named) ≡ Ok styles
+checked_good named styles none are = ap (checked_styles named) none ∙ ap (λ (ss : List GoodStyle). Ok ss) (sym are)
 
-pub own_refused : (named : List NamedComments) (refusal : CommentsRefusal)
-    → list_all (λ style. is_shaped style.1) named ≡ true → IsFirstRefusal (first_style_refusal named) refusal
-    → IsCommentsRefused (own_comments (Some named)) refusal
-own_refused named refusal shaped first = by refusal first
+-- the answer for texts that have the shape of styles and of rules
+shaped_answer : (named : List NamedComments) (rules : List RuleTexts)
+    → list_all (λ style. is_shaped style.1) named ≡ true → list_all is_rule rules ≡ true
+    → comments_by named rules ≡ checked_rules (map rule_of rules) (checked_styles named (first_style_refusal named))
+shaped_answer named rules styled ruled =
+    ap (λ (b : Bool). cond (b && list_all is_rule rules)
+    (checked_rules (map rule_of rules) (checked_styles named (first_style_refusal named))) (Err BadShape)) styled
+    ∙ ap (λ (b : Bool). cond b
+    (checked_rules (map rule_of rules) (checked_styles named (first_style_refusal named))) (Err BadShape)) ruled
+
+pub by_answer : (named : List NamedComments) (rules : List RuleTexts) (styles : List GoodStyle) (are : List Rule)
+    → list_all (λ style. is_shaped style.1) named ≡ true → list_all is_rule rules ≡ true → are ≡ map rule_of rules
+    → checked_styles named (first_style_refusal named) ≡ Ok styles
+    → comments_by named rules ≡ checked_rules are (Ok styles)
+by_answer named rules styles are styled ruled same good =
+    shaped_answer named rules styled ruled ∙ ap (checked_rules (map rule_of rules)) good
+    ∙ ap (λ (rs : List Rule). checked_rules rs (Ok styles)) (sym same)
+
+pub by_bad_styles : (named : List NamedComments) (rules : List RuleTexts)
+    → list_all (λ style. is_shaped style.1) named ≡ false → comments_by named rules ≡ Err BadShape
+by_bad_styles named rules e =
+    ap (λ (b : Bool). cond (b && list_all is_rule rules)
+    (checked_rules (map rule_of rules) (checked_styles named (first_style_refusal named))) (Err BadShape)) e
+
+pub by_bad_rules : (named : List NamedComments) (rules : List RuleTexts)
+    → list_all (λ style. is_shaped style.1) named ≡ true → list_all is_rule rules ≡ false
+    → comments_by named rules ≡ Err BadShape
+by_bad_rules named rules styled e =
+    ap (λ (b : Bool). cond (b && list_all is_rule rules)
+    (checked_rules (map rule_of rules) (checked_styles named (first_style_refusal named))) (Err BadShape)) styled
+    ∙ ap (λ (b : Bool). cond b
+    (checked_rules (map rule_of rules) (checked_styles named (first_style_refusal named))) (Err BadShape)) e
+
+pub by_refused : (named : List NamedComments) (rules : List RuleTexts) (refusal : CommentsRefusal)
+    → list_all (λ style. is_shaped style.1) named ≡ true → list_all is_rule rules ≡ true
+    → IsFirstRefusal (first_style_refusal named) refusal → IsCommentsRefused (comments_by named rules) refusal
+by_refused named rules refusal styled ruled first = by refusal first
   where
     checked : (o : Option CommentsRefusal) → first_style_refusal named ≡ o
-        → own_comments (Some named) ≡ checked_styles named o
-    checked o e = ap (λ (b : Bool). cond b (checked_styles named (first_style_refusal named)) (Err BadShape)) shaped
-        ∙ ap (checked_styles named) e
+        → comments_by named rules ≡ checked_rules (map rule_of rules) (checked_styles named o)
+    checked o e = shaped_answer named rules styled ruled
+        ∙ ap (λ (r : Option CommentsRefusal). checked_rules (map rule_of rules) (checked_styles named r)) e
 
     by : (r : CommentsRefusal) → IsFirstRefusal (first_style_refusal named) r
-        → IsCommentsRefused (own_comments (Some named)) r
+        → IsCommentsRefused (comments_by named rules) r
     by NotToml e = checked (Some NotToml) e
     by BadShape e = checked (Some BadShape) e
     by (BadName name) e = checked (Some (BadName name)) e
     by (BadMarks name fault) e = checked (Some (BadMarks name fault)) e
+    by (BadRule number) e = checked (Some (BadRule number)) e
     by (Memory m) e = tt
+
+-- an answer that is a refusal is refused so
+pub refused_if : (answer : Result CommentRules CommentsRefusal) (refusal : CommentsRefusal) → answer ≡ Err refusal
+    → IsCommentsRefused answer refusal
+refused_if answer NotToml e = e
+refused_if answer BadShape e = e
+refused_if answer (BadName name) e = e
+refused_if answer (BadMarks name fault) e = e
+refused_if answer (BadRule number) e = e
+refused_if answer (Memory m) e = tt
 
 pub comments_some : (bytes : List ℕ) → comments_of (Some bytes) ≡ comments_in (read_document bytes)
 unfolding comments_of
 comments_some bytes = refl
 
 -- an answer is that of what is the same
-pub comments_refused_by : (expected other : Result (List GoodStyle) CommentsRefusal) (refusal : CommentsRefusal)
+pub comments_refused_by : (expected other : Result CommentRules CommentsRefusal) (refusal : CommentsRefusal)
     → other ≡ expected → IsCommentsRefused expected refusal → IsCommentsRefused other refusal
 comments_refused_by expected other refusal same is =
     subst (λ result. IsCommentsRefused result refusal) (sym same) is
@@ -283,26 +331,75 @@ checked_parts : (named : List NamedComments) (o : Option CommentsRefusal) (own :
 checked_parts named None own e = (refl, cc e)
 checked_parts named (Some r) own e = absurd (let no : ⊥ = cc e in no)
 
-shaped : (b : Bool) (r : Result (List GoodStyle) CommentsRefusal) (own : List GoodStyle)
-    → cond b r (Err BadShape) ≡ Ok own → r ≡ Ok own
-shaped true r own e = e
-shaped false r own e = absurd (let no : ⊥ = cc e in no)
+-- what texts give, where they are good
+pub record Given (named : List NamedComments) (rules : List RuleTexts) (own : CommentRules) : Type 0 where
+  pub styles : checked_styles named (first_style_refusal named) ≡ Ok own.styles
+  pub are : own.rules ≡ map rule_of rules
+  pub none : first_stray own.styles own.rules ≡ None
 
-pub own_style_is : (named : List NamedComments) (own : List GoodStyle) (name : List ℕ) (texts : CommentTexts)
-    → own_comments (Some named) ≡ Ok own → texts_named named name ≡ Some texts
-    → (style : GoodStyle) × (kind_named own name ≡ Some (Style style)) × (style.name ≡ name)
+pub given : (named : List NamedComments) (rules : List RuleTexts) (own : CommentRules)
+    → comments_by named rules ≡ Ok own
+    → Given named rules own
+given named rules own e =
+    by (are_shaped named rules) (checked_styles named (first_style_refusal named)) refl e
+  where
+    beside : (styles : List GoodStyle) (o : Option ℕ) → first_stray styles (map rule_of rules) ≡ o
+        → checked_styles named (first_style_refusal named) ≡ Ok styles
+        → rules_beside styles (map rule_of rules) o ≡ Ok own → Given named rules own
+    beside styles (Some number) none is f = absurd (let no : ⊥ = cc f in no)
+    beside styles None none is f =
+        let all : CommentRules = record { styles = styles; rules = map rule_of rules } in
+        let same : all ≡ own = cc f in record {
+          styles = is ∙ ap (λ (o : CommentRules). Ok o.styles) same;
+          are = ap (λ (o : CommentRules). o.rules) (sym same);
+          none = ap (λ (o : CommentRules). first_stray o.styles o.rules) (sym same) ∙ none;
+        }
+
+    by : (b : Bool) (r : Result (List GoodStyle) CommentsRefusal)
+        → checked_styles named (first_style_refusal named) ≡ r
+        → cond b (checked_rules (map rule_of rules) r) (Err BadShape) ≡ Ok own → Given named rules own
+    by false r is f = absurd (let no : ⊥ = cc f in no)
+    by true (Err refusal) is f = absurd (let no : ⊥ = cc f in no)
+    by true (Ok styles) is f = beside styles (first_stray styles (map rule_of rules)) refl is f
+
+pub own_style_is : (named : List NamedComments) (rules : List RuleTexts) (own : CommentRules) (name : List ℕ)
+    (texts : CommentTexts) → comments_by named rules ≡ Ok own → texts_named named name ≡ Some texts
+    → (style : GoodStyle) × (kind_named own.styles name ≡ Some (Style style)) × (style.name ≡ name)
     × (style.marks ≡ marks_of texts)
-own_style_is named own name texts e f =
-    let p = checked_parts named (first_style_refusal named) own
-    (shaped (list_all (λ style. is_shaped style.1) named) (checked_styles named (first_style_refusal named)) own e) in
+own_style_is named rules own name texts e f =
+    let g = given named rules own e in
+    let p = checked_parts named (first_style_refusal named) own.styles g.styles in
     let it = has_style named name texts p.0 f in (
       it.style,
-      ap (λ (o : Option Kind). option_or o (option_map (λ style. Style style) (own_style_named own name)))
+      ap (λ (o : Option Kind). option_or o (option_map (λ style. Style style) (own_style_named own.styles name)))
           (free name it.good_name)
           ∙ ap (option_map (λ style. Style style)) (ap (λ ss. own_style_named ss name) (sym p.1) ∙ it.found),
       it.name_is,
       it.marks_are,
     )
+
+pub own_rules_are : (named : List NamedComments) (rules : List RuleTexts) (own : CommentRules)
+    → comments_by named rules ≡ Ok own → own.rules ≡ map rule_of rules
+own_rules_are named rules own e = let g = given named rules own e in g.are
+
+-- where none passes a test
+none_passes : {A : Type 0} (kind : A → Option Kind) (number : ℕ) (xs : List A)
+    → position_from (λ x. is_none (kind x)) number xs ≡ None → list_all (λ x. is_some (kind x)) xs ≡ true
+none_passes kind number [] e = refl
+none_passes kind number (x ∷ xs) e = by (kind x) (λ f. none_passes kind (number + 1) xs f) e
+  where
+    by : (o : Option Kind) → (position_from (λ y. is_none (kind y)) (number + 1) xs ≡ None
+        → list_all (λ y. is_some (kind y)) xs ≡ true)
+        → cond (is_none o) (Some number) (position_from (λ y. is_none (kind y)) (number + 1) xs) ≡ None
+        → (is_some o && list_all (λ y. is_some (kind y)) xs) ≡ true
+    by None rest f = absurd (let no : ⊥ = cc f in no)
+    by (Some k) rest f = rest f
+
+pub own_rules_name : (named : List NamedComments) (rules : List RuleTexts) (own : CommentRules)
+    → comments_by named rules ≡ Ok own → list_all (λ rule. is_some (kind_named own.styles rule.style)) own.rules ≡ true
+own_rules_name named rules own e =
+    let g = given named rules own e in
+    none_passes (λ (rule : Rule). kind_named own.styles rule.style) 1 own.rules g.none
 
 pub alone : (text : List ℕ) → kind_named [] text ≡ table_kind_named text
 alone text = by (table_kind_named text)
@@ -311,6 +408,6 @@ alone text = by (table_kind_named text)
     by None = refl
     by (Some k) = refl
 
-pub comments_none : comments_of None ≡ Ok []
+pub comments_none : comments_of None ≡ Ok (record { styles = []; rules = [] })
 unfolding comments_of
 comments_none = refl

@@ -5,5 +5,10 @@ pub mod StyleFileLemmas
 pub mod DocumentLemmas
 pub mod SameLemmas
 pub mod GoodLemmas
+pub mod TakenLemmas
+pub mod TextLemmas
+pub mod RuleDocumentLemmas
 pub mod CommentDocumentLemmas
 pub mod CommentLemmas
+pub mod GlobLemmas
+pub mod RuleLemmas

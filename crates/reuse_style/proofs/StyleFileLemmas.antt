@@ -92,7 +92,8 @@ at_next comments names new named texts all at added =
           (sym is) ∙ at.kinds;
     }
 
-pub at_end : (comments : List GoodStyle) (names : BTreeMap (List ℕ) Kind) (all : List NamedText) → AtTexts comments names [] all
+pub at_end : (comments : List GoodStyle) (names : BTreeMap (List ℕ) Kind) (all : List NamedText)
+    → AtTexts comments names [] all
     → (own : List ℕ → Option Kind) × (own_names comments (Some all) ≡ Ok own) × IsKeyed names own
 unfolding first_refusal
 at_end comments names all at = (
@@ -109,11 +110,13 @@ pub at_refusal : (comments : List GoodStyle) (names : BTreeMap (List ℕ) Kind) 
 unfolding first_refusal
 at_refusal comments names named texts all refusal at refused = by refusal (refused at.earlier at.entries at.keyed)
   where
-    expected : (r : StylesRefusal) → refusal_at comments at.earlier named ≡ Some r → own_names comments (Some all) ≡ Err r
+    expected : (r : StylesRefusal) → refusal_at comments at.earlier named ≡ Some r
+        → own_names comments (Some all) ≡ Err r
     expected r e = ap (checked comments all) (sym at.refusal
         ∙ ap (λ (o : Option StylesRefusal). option_or o (first_refusal comments (at.earlier ++ named.0 ∷ []) texts)) e)
 
-    by : (r : StylesRefusal) → IsFirst (refusal_at comments at.earlier named) r → IsRefused (own_names comments (Some all)) r
+    by : (r : StylesRefusal) → IsFirst (refusal_at comments at.earlier named) r
+        → IsRefused (own_names comments (Some all)) r
     by NotToml e = expected NotToml e
     by BadShape e = expected BadShape e
     by (BadName name) e = expected (BadName name) e
@@ -232,7 +235,8 @@ unfolding IsStrictlySortedBy
 no_keys = record { lowered = refl; ordered = tt }
 
 -- the answer of a file is that of the texts of its document
-pub answer_by : (comments : List GoodStyle) (bytes : List ℕ) (document : Members) (texts : Option (List NamedText)) → IsUtf8 bytes
+pub answer_by : (comments : List GoodStyle) (bytes : List ℕ) (document : Members) (texts : Option (List NamedText))
+    → IsUtf8 bytes
     → parse_document bytes ≡ Some document → texts_of_document document ≡ texts
     → styles_in comments (read_document bytes) ≡ own_names comments texts
 answer_by comments bytes document texts utf8 parsed are =

@@ -1,20 +1,23 @@
--- The comment styles that a project says by their marks (TOML 1.0, and this project's own keys).
+-- The comment styles that a project says by their marks, and its rules (TOML 1.0, and this project's own keys).
 use Rattle.std.specs.Prelude.{◌≡◌, ℕ, pos, Bool, true, false, not, ◌&&◌, ◌||◌, ◌==◌, nat_lt, List, [], ◌∷◌, ◌++◌}
-use Rattle.std.specs.Prelude.{length, Option, Some, None, is_none, is_some, unwrap_or, option_and_then, find}
+use Rattle.std.specs.Prelude.{map, length, Option, Some, None, is_none, is_some, unwrap_or, option_and_then, find}
 use Rattle.std.specs.Prelude.{Result, Ok, Err, if◌then◌else◌, codes, refl}
 use Rattle.std.specs.Char.{is_ascii_lowercase, is_ascii_digit}
-use Rattle.std.specs.List.{list_all, filter_map}
+use Rattle.std.specs.List.{list_all, filter_map, position_from}
 use Rattle.std.specs.Option.{option_or, option_map, option_map_or}
 use Rattle.std.specs.Str.{bytes_eq}
 use Rattle.toml.specs.Data.{Data, string, integer, array, table, Items, no_items, item, Members, no_members, member}
 use Rattle.reuse_text.specs.Text.{is_empty}
 use Rattle.reuse_style.specs.declared.comments_refusal.CommentsRefusal.{CommentsRefusal}
 use Rattle.reuse_style.specs.declared.comments_refusal.CommentsRefusal.TheVariants.{NotToml, BadShape, BadName}
-use Rattle.reuse_style.specs.declared.comments_refusal.CommentsRefusal.TheVariants.{BadMarks, Memory}
+use Rattle.reuse_style.specs.declared.comments_refusal.CommentsRefusal.TheVariants.{BadMarks, BadRule, Memory}
 use Rattle.reuse_style.specs.declared.marks.Declaration.TheVariants.{Nothing}
 use Rattle.reuse_style.specs.Documents.{read_document, is_version}
 use Rattle.reuse_style.specs.Marks.{LineForm, BlockForm, FrontMatterForm, CommentMarks, GoodStyle, is_good, marks_fault}
-use Rattle.reuse_style.specs.StyleFile.{table_kind_named}
+use Rattle.reuse_style.specs.RuleTexts.{RuleTexts, rules_data, rules_of_data}
+use Rattle.reuse_style.specs.Rules.{Rule, CommentRules, is_rule, rule_of}
+use Rattle.reuse_style.specs.StyleFile.{table_kind_named, kind_named}
+use Rattle.reuse_style.specs.Taken.{with_text, take_text, with_value, take_value, is_done}
 
 -- the texts of a style's table, and its lists of texts, each where its key is there
 pub record CommentTexts : Type 0 where
@@ -33,11 +36,6 @@ abbrev pub NamedComments : Type 0
 NamedComments = List ℕ × CommentTexts
 
 -- ---- the document that says texts
-
--- members behind a text, where there is one
-abbrev pub with_text : List ℕ → Option (List ℕ) → Members → Members
-with_text key None others = others
-with_text key (Some text) others = member key (string text) others
 
 abbrev pub text_items : List (List ℕ) → Items
 text_items [] = no_items
@@ -65,17 +63,24 @@ abbrev pub named_members : List NamedComments → Members
 named_members [] = no_members
 named_members (named ∷ others) = member named.0 (table (style_members named.1)) (named_members others)
 
-abbrev pub comments_document : List NamedComments → Members
-comments_document named =
-    member (codes "comments") (table (named_members named)) (member (codes "version") (integer (pos 1)) no_members)
+abbrev pub comments_data : List NamedComments → Data
+comments_data named = table (named_members named)
+
+-- what a document states: styles and rules, each if its key is there
+pub record StatedComments : Type 0 where
+  pub styles : Option (List NamedComments)
+  pub rules : Option (List RuleTexts)
+
+abbrev pub comments_document : StatedComments → Members
+comments_document stated =
+    with_value comments_data (codes "comments") stated.styles
+    (with_value rules_data (codes "rules") stated.rules (member (codes "version") (integer (pos 1)) no_members))
+
+-- it states styles or rules, or both
+abbrev pub states_something : StatedComments → Bool
+states_something stated = is_some stated.styles || is_some stated.rules
 
 -- ---- the texts of a document
-
--- the text of a key, where the first member has it, and the members behind it
-unfoldable pub take_text : List ℕ → Members → Option (List ℕ) × Members
-take_text key (member name (string text) others) =
-    if bytes_eq name key then (Some text, others) else (None, member name (string text) others)
-take_text key others = (None, others)
 
 -- the texts of an array, where it has nothing else
 unfoldable pub texts_of_items : Items → Option (List (List ℕ))
@@ -97,10 +102,6 @@ unfoldable pub take_texts : List ℕ → Members → Option (List (List ℕ)) ×
 take_texts key no_members = (None, no_members)
 take_texts key (member name value others) =
     texts_before (if bytes_eq name key then texts_of_array value else None) (member name value others) others
-
-abbrev pub is_done : Members → Bool
-is_done no_members = true
-is_done (member name value others) = false
 
 -- the texts of a style's table, whose keys are in byte order
 unfoldable pub texts_of_style : Members → Option CommentTexts
@@ -141,12 +142,22 @@ abbrev pub comments_of_data : Data → Option (List NamedComments)
 comments_of_data (table members) = comments_in_table members
 comments_of_data value = None
 
--- the names and texts of a document whose only keys are, in byte order, `comments` and `version`
-unfoldable pub comments_of_document : Members → Option (List NamedComments)
-comments_of_document (member first comments (member second version no_members)) =
-    if bytes_eq first (codes "comments") && bytes_eq second (codes "version") && is_version version
-    then comments_of_data comments else None
-comments_of_document document = None
+-- the only member is the version
+abbrev pub is_version_alone : Members → Bool
+is_version_alone (member name value no_members) = bytes_eq name (codes "version") && is_version value
+is_version_alone _ = false
+
+-- what a document states, where the version is all that is left
+abbrev pub stated_before : StatedComments → Members → Option StatedComments
+stated_before stated others =
+    if is_version_alone others && states_something stated then Some stated else None
+
+-- what a document states whose only keys are, in byte order, `comments` and `rules`, or one of these, and `version`
+unfoldable pub comments_of_document : Members → Option StatedComments
+comments_of_document document =
+    let styles = take_value comments_of_data (codes "comments") document in
+    let rules = take_value rules_of_data (codes "rules") styles.1 in
+    stated_before (record { styles = styles.0; rules = rules.0 }) rules.1
 
 -- ---- the marks that texts say
 
@@ -213,7 +224,8 @@ is_name_byte b = is_ascii_lowercase b || is_ascii_digit b || b == 45
 
 -- 1 to 40 such bytes, which name nothing by themselves, are a good name
 abbrev pub is_bad_style_name : List ℕ → Bool
-is_bad_style_name name = is_empty name || nat_lt 40 (length name) || not (list_all is_name_byte name) || is_some (table_kind_named name)
+is_bad_style_name name = is_empty name || nat_lt 40 (length name) || not (list_all is_name_byte name)
+    || is_some (table_kind_named name)
 
 -- why a style is not good
 abbrev pub style_refusal : NamedComments → Option CommentsRefusal
@@ -239,19 +251,39 @@ abbrev pub checked_styles : List NamedComments → Option CommentsRefusal → Re
 checked_styles named (Some refusal) = Err refusal
 checked_styles named None = Ok (filter_map good_style named)
 
-abbrev pub own_comments : Option (List NamedComments) → Result (List GoodStyle) CommentsRefusal
-own_comments None = Err BadShape
-own_comments (Some named) =
-    if list_all (λ style. is_shaped style.1) named then checked_styles named (first_style_refusal named)
-    else Err BadShape
+-- the number of the first rule that names no style, where they are counted from 1
+abbrev pub first_stray : List GoodStyle → List Rule → Option ℕ
+first_stray styles rules = position_from (λ rule. is_none (kind_named styles rule.style)) 1 rules
 
-abbrev pub comments_in : Option Members → Result (List GoodStyle) CommentsRefusal
+-- the rules beside styles, unless one names no style
+abbrev pub rules_beside : List GoodStyle → List Rule → Option ℕ → Result CommentRules CommentsRefusal
+rules_beside styles rules (Some number) = Err (BadRule number)
+rules_beside styles rules None = Ok (record { styles = styles; rules = rules })
+
+abbrev pub checked_rules : List Rule → Result (List GoodStyle) CommentsRefusal → Result CommentRules CommentsRefusal
+checked_rules rules (Err refusal) = Err refusal
+checked_rules rules (Ok styles) = rules_beside styles rules (first_stray styles rules)
+
+-- texts have the shape of styles, and of rules
+abbrev pub are_shaped : List NamedComments → List RuleTexts → Bool
+are_shaped named rules = list_all (λ style. is_shaped style.1) named && list_all is_rule rules
+
+abbrev pub comments_by : List NamedComments → List RuleTexts → Result CommentRules CommentsRefusal
+comments_by named rules =
+    if are_shaped named rules
+    then checked_rules (map rule_of rules) (checked_styles named (first_style_refusal named)) else Err BadShape
+
+abbrev pub own_comments : Option StatedComments → Result CommentRules CommentsRefusal
+own_comments None = Err BadShape
+own_comments (Some stated) = comments_by (unwrap_or stated.styles []) (unwrap_or stated.rules [])
+
+abbrev pub comments_in : Option Members → Result CommentRules CommentsRefusal
 comments_in None = Err NotToml
 comments_in (Some document) = own_comments (comments_of_document document)
 
--- the own styles of a project by its file of comments: none where there is no file
-unfoldable pub comments_of : Option (List ℕ) → Result (List GoodStyle) CommentsRefusal
-comments_of None = Ok []
+-- the own styles and rules of a project by its file of comments: none where there is no file
+unfoldable pub comments_of : Option (List ℕ) → Result CommentRules CommentsRefusal
+comments_of None = Ok (record { styles = []; rules = [] })
 comments_of (Some bytes) = comments_in (read_document bytes)
 
 -- the texts of the first style that has a name, if one has
@@ -259,7 +291,7 @@ abbrev pub texts_named : List NamedComments → List ℕ → Option CommentTexts
 texts_named named name = option_map (λ style. style.1) (find (λ style. bytes_eq style.0 name) named)
 
 -- a refusal is the one that is expected, or an allocation failure, which may take the place of each
-abbrev pub IsCommentsRefused : Result (List GoodStyle) CommentsRefusal → CommentsRefusal → Type 0
+abbrev pub IsCommentsRefused : Result CommentRules CommentsRefusal → CommentsRefusal → Type 0
 IsCommentsRefused expected (Memory e) = Unit {0}
 IsCommentsRefused expected refusal = expected ≡ Err refusal
 

@@ -1,10 +1,12 @@
--- The texts of a style as the code holds them.
+-- The texts of styles as the code holds them.
 use Rattle.std.specs.Prelude.{ℕ, List, Option, Vec, map}
 use Rattle.std.specs.Borrow.{Bor}
 use Rattle.std.specs.Option.{option_copied, option_map}
 use Rattle.std.specs.declared.alloc.Global.{Global}
 use Rattle.reuse_style.specs.declared.comment_texts.CommentTexts.{CommentTexts as LentTexts}
-use Rattle.reuse_style.specs.CommentFile.{CommentTexts}
+use Rattle.reuse_style.specs.declared.comment_texts.StatedComments.{StatedComments as LentComments}
+use Rattle.reuse_style.specs.CommentFile.{CommentTexts, NamedComments, StatedComments}
+use Rattle.reuse_style.specs.RuleViews.{rules_view}
 
 -- a list of texts
 abbrev pub list_view : Option (Vec (Bor (List ℕ)) Global) → Option (List (List ℕ))
@@ -22,3 +24,10 @@ texts_view texts = record {
   first_lines = list_view texts.first_lines;
   front_matter = list_view texts.front_matter;
 }
+
+-- names with texts
+abbrev pub named_view : Option (Vec (Bor (List ℕ) × LentTexts) Global) → Option (List NamedComments)
+named_view = option_map (λ named. map (λ t. (t.0.now, texts_view t.1)) named.items)
+
+abbrev pub stated_view : LentComments → StatedComments
+stated_view stated = record { styles = named_view stated.styles; rules = rules_view stated.rules }

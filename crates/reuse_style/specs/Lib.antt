@@ -5,6 +5,14 @@ pub mod Styles
 pub mod Names
 pub mod Documents
 pub mod StyleFile
+pub mod Taken
+pub mod Globs
+pub mod GlobSteps
+pub mod RuleTexts
+pub mod Rules
 pub mod CommentFile
+pub mod RuleViews
 pub mod CommentViews
+pub mod Kinds
+pub mod Passing
 pub mod Keyed

@@ -1,18 +1,14 @@
 //! The comment styles that a project says itself (`.reuse/comments.toml`).
-ghost use Rattle.std.specs.Prelude.{◌≡◌, [], None, Ok, Some, IfOk, IfErr, IsOk, map, find, is_some};
-ghost use Rattle.std.specs.List.{list_all, filter_map};
-ghost use Rattle.std.specs.Option.{option_copied};
+ghost use Rattle.std.specs.Prelude.{◌≡◌, [], None, Ok, IfOk, IfErr, map, find, is_some};
+ghost use Rattle.std.specs.List.{filter_map};
 ghost use Rattle.std.specs.Str.{bytes_eq};
 ghost use Rattle.reuse_style.specs.Styles.{style_name};
-ghost use Rattle.reuse_style.specs.CommentFile.{comments_of, comments_in, own_comments, is_shaped};
-ghost use Rattle.reuse_style.specs.CommentFile.{first_style_refusal, good_style, IsCommentsRefused, IsFirstRefusal};
+ghost use Rattle.reuse_style.specs.CommentFile.{checked_styles, first_style_refusal, good_style, IsFirstRefusal};
 ghost use Rattle.reuse_style.specs.StyleFile.{own_style_named};
-ghost use Rattle.reuse_style.specs.Documents.{read_document};
 ghost use Rattle.reuse_style.specs.CommentViews.{texts_view};
 
-use crate::comment_texts::{CommentTexts, comments_of_document};
+use crate::comment_texts::CommentTexts;
 use crate::comments_refusal::CommentsRefusal;
-use crate::documents::read_document;
 use crate::own_style::OwnStyle;
 use crate::style::Style;
 use std::alloc::{AllocError, Global};
@@ -20,7 +16,7 @@ use std::marker::Model;
 
 /// The comment styles that a project says itself. Contracts see them as a list.
 #[derive(Debug, Drop)]
-pub struct CommentTable {
+pub(crate) struct CommentTable {
     styles: Vec<OwnStyle>,
 }
 
@@ -35,7 +31,7 @@ impl Model for CommentTable {
 
 impl CommentTable {
     /// No styles.
-    pub fn none(alloc: Global) -> CommentTable
+    pub(crate) fn none(alloc: Global) -> CommentTable
         ensures { result ≡ [] }
     {
         CommentTable {
@@ -43,21 +39,22 @@ impl CommentTable {
         }
     }
 
-    /// The styles by a project's file of comments. Where there is no file, there are none.
-    pub fn read(alloc: Global, file: Option<&[u8]>) -> Result<CommentTable, CommentsRefusal>
-        ensures ok { IfOk result (λ table. comments_of (option_copied file.entry) ≡ Ok table) }
-        ensures refused { IfErr result (λ refusal. IsCommentsRefused (comments_of (option_copied file.entry)) refusal) }
-        ensures absent { file.entry ≡ None → IsOk result }
+    /// The styles that texts say, if all texts have the shape of styles.
+    pub(crate) fn of_texts(
+        alloc: Global,
+        named: &[(&str, CommentTexts<'_>)],
+    ) -> Result<CommentTable, CommentsRefusal>
+        ensures ok { IfOk result (λ table. checked_styles (map (λ t. (t.0.now, texts_view t.1)) named.now)
+            (first_style_refusal (map (λ t. (t.0.now, texts_view t.1)) named.now)) ≡ Ok table) }
+        ensures refused { IfErr result
+            (IsFirstRefusal (first_style_refusal (map (λ t. (t.0.now, texts_view t.1)) named.now))) }
     {
-        let Some(bytes) = file else {
-            return Ok(CommentTable::none(alloc));
-        };
-        let styles = read_comments(alloc, bytes)?;
+        let styles = good_styles(alloc, named)?;
         Ok(CommentTable { styles })
     }
 
     /// Whether a style has a name.
-    pub fn has(&self, name: &[u8]) -> bool
+    pub(crate) fn has(&self, name: &[u8]) -> bool
         ensures { result ≡ is_some (own_style_named self.now name.now) }
     {
         find_named(self.styles.as_slice(), name).is_some()
@@ -83,43 +80,6 @@ fn find_named<'a>(mut styles: &'a [OwnStyle], name: &[u8]) -> Option<Style<'a>>
         styles = others;
     }
     None
-}
-
-// The styles that a file says.
-fn read_comments(alloc: Global, file: &[u8]) -> Result<Vec<OwnStyle>, CommentsRefusal>
-    ensures ok { IfOk result (λ styles. comments_in (read_document file.now) ≡ Ok styles.items) }
-    ensures refused { IfErr result (IsCommentsRefused (comments_in (read_document file.now))) }
-{
-    let Some(document) = read_document(alloc, file)? else {
-        return Err(CommentsRefusal::NotToml);
-    };
-    let Some(named) = comments_of_document(alloc, &document)? else {
-        return Err(CommentsRefusal::BadShape);
-    };
-    styles_of(alloc, named.as_slice())
-}
-
-// The styles that texts say.
-fn styles_of(
-    alloc: Global,
-    named: &[(&str, CommentTexts<'_>)],
-) -> Result<Vec<OwnStyle>, CommentsRefusal>
-    ensures ok { IfOk result
-        (λ styles. own_comments (Some (map (λ t. (t.0.now, texts_view t.1)) named.now)) ≡ Ok styles.items) }
-    ensures refused { IfErr result
-        (IsCommentsRefused (own_comments (Some (map (λ t. (t.0.now, texts_view t.1)) named.now)))) }
-{
-    if !are_shaped(named) {
-        return Err(CommentsRefusal::BadShape);
-    }
-    good_styles(alloc, named)
-}
-
-// Whether all texts say forms, and nothing else.
-fn are_shaped(named: &[(&str, CommentTexts<'_>)]) -> bool
-    ensures { result ≡ list_all (λ t. is_shaped (texts_view t.1)) named.now }
-{
-    named.iter().all(|style| style.1.is_shaped())
 }
 
 // The styles that texts say, if all are good.

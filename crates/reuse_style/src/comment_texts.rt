@@ -1,14 +1,17 @@
 //! The texts of a project's file of comments, by their keys.
-ghost use Rattle.std.specs.Prelude.{◌≡◌, ◌&&◌, codes, IfOk, map, is_some};
+ghost use Rattle.std.specs.Prelude.{◌≡◌, codes, IfOk, is_some};
 ghost use Rattle.std.specs.Option.{option_copied, option_map};
-ghost use Rattle.std.specs.Str.{bytes_eq};
 ghost use Rattle.toml.specs.View.{view, items_view, table_view, members_view};
-ghost use Rattle.reuse_style.specs.CommentFile.{take_text, texts_of_data, texts_of_style, comments_in_table};
-ghost use Rattle.reuse_style.specs.CommentFile.{comments_of_document, is_shaped, says_block, block_of};
-ghost use Rattle.reuse_style.specs.CommentFile.{take_texts, texts_of_array, texts_of_items, has_two_lines};
-ghost use Rattle.reuse_style.specs.CommentViews.{list_view, texts_view};
+ghost use Rattle.reuse_style.specs.Taken.{take_text, take_value};
+ghost use Rattle.reuse_style.specs.CommentFile.{texts_of_data, texts_of_style, comments_in_table, comments_of_data};
+ghost use Rattle.reuse_style.specs.CommentFile.{comments_of_document, is_version_alone, is_shaped, says_block};
+ghost use Rattle.reuse_style.specs.CommentFile.{block_of, take_texts, texts_of_array, texts_of_items, has_two_lines};
+ghost use Rattle.reuse_style.specs.CommentViews.{list_view, texts_view, named_view, stated_view};
+ghost use Rattle.reuse_style.specs.RuleTexts.{rules_of_data};
+ghost use Rattle.reuse_style.specs.RuleViews.{rules_view};
 
 use crate::documents::is_version;
+use crate::rule_texts::{RuleTexts, rules_of_data};
 use std::alloc::{AllocError, Global};
 use std::collections::btree_map::Iter;
 use toml::{Table, Value};
@@ -39,36 +42,100 @@ pub(crate) struct CommentTexts<'t> {
 /// Names of styles, each with its texts.
 pub(crate) type NamedComments<'t> = Vec<(&'t str, CommentTexts<'t>)>;
 
-/// The names and texts of a document, if its keys and values are as they have to be.
+/// What a document states: styles and rules, each if its key is there.
+#[derive(Drop)]
+pub(crate) struct StatedComments<'t> {
+    /// `comments`.
+    pub(crate) styles: Option<NamedComments<'t>>,
+    /// `rules`.
+    pub(crate) rules: Option<Vec<RuleTexts<'t>>>,
+}
+
+/// What a document states, if its keys and values are as they have to be.
 #[tactic(auto, unfolding(crate::specs::CommentFile::comments_of_document))]
 pub(crate) fn comments_of_document<'t>(
     alloc: Global,
     document: &'t Table,
-) -> Result<Option<NamedComments<'t>>, AllocError>
-    ensures { IfOk result (λ named. comments_of_document (table_view document.now) ≡ option_map
-        (λ v. map (λ t. (t.0.now, texts_view t.1)) v.items) named) }
+) -> Result<Option<StatedComments<'t>>, AllocError>
+    ensures { IfOk result
+        (λ stated. option_map stated_view stated ≡ comments_of_document (table_view document.now)) }
 {
     let mut entries = document.iter();
-    let Some((first, comments)) = entries.next() else {
-        return Ok(None);
-    };
-    let Some((second, version)) = entries.next() else {
-        return Ok(None);
-    };
-    if entries.next().is_some() || !are_keys(first, second) || !is_version(version) {
+    let styles = take_comments(alloc, &mut entries)?;
+    let rules = take_rules(alloc, &mut entries)?;
+    if !is_version_alone(&mut entries) || (styles.is_none() && rules.is_none()) {
         return Ok(None);
     }
-    match comments.as_table() {
+    Ok(Some(StatedComments { styles, rules }))
+}
+
+// Whether the only entry is the version.
+fn is_version_alone(entries: &mut Iter<'_, String, Value>) -> bool
+    ensures { result ≡ is_version_alone (members_view entries.old) }
+{
+    let Some((name, value)) = entries.next() else {
+        return false;
+    };
+    entries.next().is_none() && name.as_str() == "version" && is_version(value)
+}
+
+// Takes the table of styles off, if the next entry has it.
+#[tactic(auto, unfolding(crate::specs::Taken::take_value))]
+fn take_comments<'t>(
+    alloc: Global,
+    entries: &mut Iter<'t, String, Value>,
+) -> Result<Option<NamedComments<'t>>, AllocError>
+    ensures { IfOk result (λ named. (named_view named, members_view entries.new)
+        ≡ take_value comments_of_data (codes "comments") (members_view entries.old)) }
+{
+    let mut others = entries.clone()?;
+    let Some((name, value)) = others.next() else {
+        return Ok(None);
+    };
+    if name.as_str() != "comments" {
+        return Ok(None);
+    }
+    let Some(named) = comments_of_data(alloc, value)? else {
+        return Ok(None);
+    };
+    *entries = others;
+    Ok(Some(named))
+}
+
+// Takes the array of rules off, if the next entry has it.
+#[tactic(auto, unfolding(crate::specs::Taken::take_value))]
+fn take_rules<'t>(
+    alloc: Global,
+    entries: &mut Iter<'t, String, Value>,
+) -> Result<Option<Vec<RuleTexts<'t>>>, AllocError>
+    ensures { IfOk result (λ rules. (rules_view rules, members_view entries.new)
+        ≡ take_value rules_of_data (codes "rules") (members_view entries.old)) }
+{
+    let mut others = entries.clone()?;
+    let Some((name, value)) = others.next() else {
+        return Ok(None);
+    };
+    if name.as_str() != "rules" {
+        return Ok(None);
+    }
+    let Some(rules) = rules_of_data(alloc, value)? else {
+        return Ok(None);
+    };
+    *entries = others;
+    Ok(Some(rules))
+}
+
+// The names and texts of a value that is a table of styles' tables.
+fn comments_of_data<'t>(
+    alloc: Global,
+    value: &'t Value,
+) -> Result<Option<NamedComments<'t>>, AllocError>
+    ensures { IfOk result (λ named. named_view named ≡ comments_of_data (view value.now)) }
+{
+    match value.as_table() {
         None => Ok(None),
         Some(comments) => comments_in_table(alloc, comments),
     }
-}
-
-// Whether these are the keys of a document, in byte order.
-fn are_keys(first: &str, second: &str) -> bool
-    ensures { result ≡ (bytes_eq first.now (codes "comments") && bytes_eq second.now (codes "version")) }
-{
-    first == "comments" && second == "version"
 }
 
 // The names and texts of a table, if each value is a style's table.
@@ -77,8 +144,7 @@ fn comments_in_table<'t>(
     alloc: Global,
     comments: &'t Table,
 ) -> Result<Option<NamedComments<'t>>, AllocError>
-    ensures { IfOk result (λ named. comments_in_table (table_view comments.now) ≡ option_map
-        (λ v. map (λ t. (t.0.now, texts_view t.1)) v.items) named) }
+    ensures { IfOk result (λ named. comments_in_table (table_view comments.now) ≡ named_view named) }
 {
     let mut named = Vec::new(alloc);
     let mut entries = comments.iter();
@@ -138,9 +204,9 @@ fn texts_of_style<'t>(
     }))
 }
 
-// Takes the text of a key off, if the next entry has it.
-#[tactic(auto, unfolding(crate::specs::CommentFile::take_text))]
-fn take_text<'t>(
+/// Takes the text of a key off, if the next entry has it.
+#[tactic(auto, unfolding(crate::specs::Taken::take_text))]
+pub(crate) fn take_text<'t>(
     entries: &mut Iter<'t, String, Value>,
     key: &str,
 ) -> Result<Option<&'t str>, AllocError>

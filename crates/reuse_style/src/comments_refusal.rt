@@ -12,7 +12,7 @@ pub enum CommentsRefusal {
     #[error("not TOML")]
     NotToml,
     /// The keys are not just `version`, the number 1, and `comments`, a table of tables of texts that
-    /// say a style each.
+    /// say a style each, or `rules`, an array of tables that say a rule each, or both of these.
     #[error("bad shape")]
     BadShape,
     /// The name is not 1 to 40 lower-case letters, digits and `-`, or has a meaning already.
@@ -21,6 +21,9 @@ pub enum CommentsRefusal {
     /// The marks of the style of this name are not good.
     #[error("bad marks of {0}: {1}")]
     BadMarks(Bytes, MarksFault),
+    /// The style of the rule of this number is none. They are counted from 1, in order.
+    #[error("bad style of rule {0}")]
+    BadRule(usize),
     /// A growth was refused.
     #[error("out of memory")]
     Memory(AllocError),

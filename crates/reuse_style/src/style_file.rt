@@ -28,7 +28,8 @@ pub(crate) fn read_names<'a>(
     file: &[u8],
 ) -> Result<BTreeMap<Bytes, Kind<'a>>, StylesRefusal>
     ensures ok { IfOk result
-        (λ names. (own : List ℕ → Option Kind) × (styles_in comments.now (read_document file.now) ≡ Ok own) × IsKeyed names own) }
+        (λ names. (own : List ℕ → Option Kind) × (styles_in comments.now (read_document file.now) ≡ Ok own)
+        × IsKeyed names own) }
     ensures refused { IfErr result (IsRefused (styles_in comments.now (read_document file.now))) }
 {
     let document = match toml::table_from_slice(alloc, file) {
@@ -122,7 +123,8 @@ fn add_name<'a>(
 ) -> Result<(), StylesRefusal>
     ensures ok { (earlier : List (List ℕ)) (entries : List (List ℕ × Kind)) → Keyed names.old earlier entries
         → IfOk result
-        (λ _. (kind : Kind) × (kind_named comments.now text.now ≡ Some kind) × (refusal_at comments.now earlier (name.now, text.now) ≡ None)
+        (λ _. (kind : Kind) × (kind_named comments.now text.now ≡ Some kind)
+        × (refusal_at comments.now earlier (name.now, text.now) ≡ None)
         × Keyed names.new (earlier ++ name.now ∷ []) (entries ++ (name.now, kind) ∷ [])) }
     ensures refused { (earlier : List (List ℕ)) (entries : List (List ℕ × Kind)) → Keyed names.old earlier entries
         → IfErr result (IsFirst (refusal_at comments.now earlier (name.now, text.now))) }

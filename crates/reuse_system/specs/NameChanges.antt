@@ -50,8 +50,8 @@ IsExpected (Some seen) reported =
     (status : FileStatus) × (reported ≡ Some (found.File status)) × (status.version ≡ seen.version)
 IsExpected None reported = reported ≡ Some found.Nothing
 
--- a change of a place for new files, or of the target, which stood as it was seen directly before; a file that was given
--- its name is as it is to be
+-- a change of a place for new files, or of the target, which stood as it was seen directly before; a file that was
+-- given its name is as it is to be
 abbrev pub IsChangeOf : (IsTempFile : Place → Type 0) (target : Place) (due : Due) → NameChange → Type 0
 IsChangeOf IsTempFile target due change =
     IsTempFile change.place

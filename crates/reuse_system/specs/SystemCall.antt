@@ -1,4 +1,5 @@
--- A call of the system that changes regular files or folders, opens or syncs a folder, or reports what stands at a name.
+-- A call of the system that changes regular files or folders, opens or syncs a folder, or reports what stands at a
+-- name.
 use Rattle.std.specs.Prelude.{ℕ, ◌+◌, Bool, List, [], ◌∷◌, Result}
 use Rattle.reuse_store.specs.declared.store.Reading.{Reading}
 use Rattle.reuse_system.specs.FileStates.{Place}

@@ -4,14 +4,13 @@ use Rattle.std.specs.Prelude.{Err, if◌then◌else◌}
 use Rattle.reuse_change.specs.Files.{Files, AreFiles}
 use Rattle.reuse_change.specs.Entry.{IsEntry, LeadsAll}
 use Rattle.reuse_command.specs.Command.{name_of}
-use Rattle.reuse_plan.specs.PathOutcomes.{path_outcomes_of}
+use Rattle.reuse_plan.specs.PathOutcomes.{changes_plainly, path_outcomes_of}
 use Rattle.reuse_change.specs.Tree.{changed_paths}
 use Rattle.reuse_change.specs.declared.change.Change.{Change}
 use Rattle.reuse_plan.specs.Outcome.{outcome_of}
 use Rattle.reuse_command.specs.declared.command.Command.{Command}
 use Rattle.reuse_change.specs.declared.command_name.CommandName.{CommandName}
 use Rattle.reuse_command.specs.declared.path_outcome.PathOutcome.{PathOutcome}
-use Rattle.reuse_command.specs.declared.path_outcome.PathOutcome.TheVariants.{Changes}
 use Rattle.reuse_command.specs.declared.reply.Row.{Row}
 use Rattle.reuse_command.specs.declared.reply.Response.{Response}
 use Rattle.reuse_command.specs.declared.reply.Response.TheVariants.{Changed, NothingChanged, Undone, Redone}
@@ -127,9 +126,9 @@ run_path_outcomes s command =
 -- what such an undo would do: each path at which the tree before differs would change
 abbrev pub undo_path_outcomes : Files → List Kept → Result (List PathOutcome) Refusal
 undo_path_outcomes tree [] = Err NothingToUndo
-undo_path_outcomes tree (kept ∷ past) = Ok (map Changes (changed_paths kept.before tree))
+undo_path_outcomes tree (kept ∷ past) = Ok (map changes_plainly (changed_paths kept.before tree))
 
 -- what such a redo would do
 abbrev pub redo_path_outcomes : Files → List Kept → Result (List PathOutcome) Refusal
 redo_path_outcomes tree [] = Err NothingToRedo
-redo_path_outcomes tree (kept ∷ future) = Ok (map Changes (changed_paths tree kept.after))
+redo_path_outcomes tree (kept ∷ future) = Ok (map changes_plainly (changed_paths tree kept.after))

@@ -51,7 +51,7 @@ fn change_path_outcome<S: Store>(
 {
     let path = change.path().try_clone(alloc)?;
     if can_be_made(alloc, store, change, direction)? {
-        Ok(PathOutcome::Changes(path))
+        Ok(PathOutcome::Changes { path, harm: None })
     } else {
         Ok(PathOutcome::Refused(Refusal::Moved(path)))
     }

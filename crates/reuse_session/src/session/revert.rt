@@ -89,7 +89,9 @@ impl<S: Store + Drop> Session<S> {
             touched,
             skip_moved,
         };
-        reverted_by(alloc, self.run(alloc, &command, when), paths)
+        let answer = self.run(alloc, &command, when);
+        drop(command);
+        reverted_by(alloc, answer, paths)
     }
 
     /// The command that a revert of this step runs: it takes the step's changes back, but where a

@@ -1,14 +1,15 @@
-use Rattle.std.proofs.Common.{◌≡◌, ◌∙◌, List, ℕ, Some, None, IsSome, sym, ap, subst, Err}
+use Rattle.std.proofs.Common.{◌≡◌, ◌∙◌, List, ℕ, Some, IsSome, sym, ap, subst, Err}
 use Rattle.reuse_command.specs.Reading.{get, tree_of}
 use Rattle.reuse_change.specs.Listing.{is_among}
-use Rattle.reuse_plan.specs.AmendmentPlan.{amended_by, names_of}
+use Rattle.reuse_plan.specs.AmendmentPlan.{amended_by, own_of}
 use Rattle.reuse_plan.specs.Annotate.{neighbour_of}
 use Rattle.reuse_command.specs.Covered.{is_covered}
 use Rattle.reuse_plan.specs.Plan.{AnswersEdit}
 use Rattle.reuse_plan.specs.Shown.{ShowsPair}
 use Rattle.reuse_plan.specs.Tables.{is_table}
 use Rattle.reuse_command.specs.declared.reply.Refusal.TheVariants as refusals
-use Rattle.reuse_plan.proofs.AmendmentEdits.{uncovered_is, goes_to_neighbour, goes_inside, goes_to_table}
+use Rattle.reuse_plan.proofs.AmendmentEdits.{uncovered_is, goes_to_neighbour, goes_inside, goes_nowhere}
+use Rattle.reuse_plan.proofs.AmendmentEdits.{goes_to_table}
 use Rattle.reuse_plan.proofs.Annotating.{is_absent, some_file}
 use Rattle.reuse_plan.proofs.EditLemmas.{some_bytes}
 use Rattle.reuse_plan.proofs.PathPlanning.{is_refusal_of}
@@ -21,7 +22,7 @@ returns-then-not-is_among-clause-edit g c honest are =
     let tree = tree_of (g.S.Store.files c.args.store.now) in
     let asked = c.args.asked.now in
     is_refusal_of (amended_by asked tree c.args.path.now) c.in_ok-absent_refusal.field-0
-    (c.in_ok-absent_refusal.ensures.amended asked.amendments.now asked.scope.now (names_of asked) tree are
+    (c.in_ok-absent_refusal.ensures.amended asked.amendments.now asked.scope.now (own_of asked) tree are
     (sym (c.is_among.ensures are.ordered ∙ ap (is_among c.args.paths.now) c.as_bytes.ensures.bytes)
     ∙ c.if-not-is_among.true))
 
@@ -75,19 +76,17 @@ returns-then-is_among-clause-edit g c honest are =
     beside.0 file.1 (covered g at are ∙ c.if-not-is_covered.false) beside.1))
     (c.plan_in_neighbour.ensures.edit honest beside.0 beside.1)
 
-pub returns-in-Some-clause-edit : goal.returns-in-Some-clause-edit
-returns-in-Some-clause-edit g c honest are =
-    let at = (goal.at.returns-in-Some-clause-edit g c).After-is_covered in
+pub returns-then-has_no_style_unread-clause-edit : goal.returns-then-has_no_style_unread-clause-edit
+returns-then-has_no_style_unread-clause-edit g c honest are =
+    let at = (goal.at.returns-then-has_no_style_unread-clause-edit g c).After-is_covered in
     let tree = tree_of (g.S.Store.files c.args.store.now) in
     let path = c.args.path.now in
     let file = found g at are in
     let among = sym (c.is_among-2.ensures are.ordered
     ∙ ap (is_among c.args.paths.now) (c.as_slice.ensures ∙ c.in_ok-neighbour.ensures)) ∙ c.if-is_among.false in
     let alone = is_absent tree (neighbour_of path) c.args.paths.now are.beside among in
-    subst (λ r. AnswersEdit tree r c.plan_inside.result)
-    (sym (goes_inside c.args.asked.now tree path file.0 (Some c.in-Some.style) file.1
-    (covered g at are ∙ c.if-not-is_covered.false) alone (sym c.style_of.ensures ∙ c.in-Some.is)))
-    (c.plan_inside.ensures.edit honest file.0 file.1)
+    goes_nowhere c.args.asked.now tree path file.0 file.1 (covered g at are ∙ c.if-not-is_covered.false) alone
+    (sym c.has_no_style_unread.ensures ∙ c.if-has_no_style_unread.true)
 
 pub returns-clause-edit : goal.returns-clause-edit
 returns-clause-edit g c honest are =
@@ -98,5 +97,7 @@ returns-clause-edit g c honest are =
     let among = sym (c.is_among-2.ensures are.ordered
     ∙ ap (is_among c.args.paths.now) (c.as_slice.ensures ∙ c.in_ok-neighbour.ensures)) ∙ c.if-is_among.false in
     let alone = is_absent tree (neighbour_of path) c.args.paths.now are.beside among in
-    goes_inside c.args.asked.now tree path file.0 None file.1 (covered g at are ∙ c.if-not-is_covered.false) alone
-    (sym c.style_of.ensures ∙ c.in-None.is)
+    subst (λ r. AnswersEdit tree r c.plan_inside.result)
+    (sym (goes_inside c.args.asked.now tree path file.0 file.1 (covered g at are ∙ c.if-not-is_covered.false) alone))
+    (c.plan_inside.ensures.edit honest file.0 file.1
+    (sym c.has_no_style_unread.ensures ∙ c.if-has_no_style_unread.false))

@@ -4,7 +4,7 @@ use Rattle.reuse_store.proofs.TreeLemmas.{read_there}
 use Rattle.reuse_plan.proofs.amend.plan_inside.Goals as goal
 
 pub returns-clause-edit : goal.returns-clause-edit
-returns-clause-edit g c honest bytes here =
+returns-clause-edit g c honest bytes here styled =
     let files = g.S.Store.files c.args.store.now in
-    c.plan_block.ensures.edit (tree_of files) bytes here (read_there files c.args.path.now bytes LONGEST_FILE
+    c.plan_reading.ensures.edit (tree_of files) bytes here styled (read_there files c.args.path.now bytes LONGEST_FILE
     c.in_ok-reading.reading here (c.in_ok-reading.ensures.reading honest))

@@ -5,7 +5,7 @@ use Rattle.reuse_header.specs.Header.{header_of, span_in}
 use Rattle.reuse_plan.specs.Annotate.{edit_by}
 use Rattle.reuse_plan.specs.AnnotationPlan.{path_inside_by}
 use Rattle.reuse_plan.specs.Annotations.{Fits}
-use Rattle.reuse_plan.specs.Harmed.{new_harm}
+use Rattle.reuse_plan.specs.Harmed.{harm_inside}
 use Rattle.reuse_plan.specs.PathEdits.{PathEdit}
 use Rattle.reuse_plan.specs.PathPlans.{IsPlanOf}
 use Rattle.reuse_plan.specs.Plan.{IsRefusalOf, MakesEdit}
@@ -19,7 +19,7 @@ use Rattle.reuse_plan.proofs.place.plan_inside.Goals.{else-asked-via-else-asked}
 -- what is planned is the edit inside the file, which fits it
 module _ (c : After-annotate_file-made) where
   planned : path_inside_by c.args.asked.now c.args.path.now c.args.bytes.now c.args.style.now
-      ≡ unskipped c.args.path.now (new_harm c.args.style.now c.args.bytes.now)
+      ≡ unskipped c.args.path.now (harm_inside c.args.style.now c.args.bytes.now)
       (edit_by c.args.path.now c.args.path.now c.args.bytes.now
       (annotation_of c.args.style.now c.args.asked.now.how.now c.args.asked.now.additions.now c.args.bytes.now))
   planned =
@@ -49,8 +49,8 @@ returns-in-Ok-Some-clause-step c tree here =
     let makes = subst (MakesEdit tree (edit_by c.args.path.now c.args.path.now c.args.bytes.now expected))
     c.in-Ok-Some.field-0-is
     (c.in-Ok-Some.ensures.edit tree expected here c.requires (fits at) c.annotate_file-made.ensures) in
-    subst (λ (e : PathEdit). IsPlanOf Stop tree e (plan.Change c.in-Ok-Some.change c.new_harm-harm.result))
-    (sym (planned at)) (makes.0, makes.1, makes.2, c.new_harm-harm.ensures)
+    subst (λ (e : PathEdit). IsPlanOf Stop tree e (plan.Change c.in-Ok-Some.change c.harm_inside-harm.result))
+    (sym (planned at)) (makes.0, makes.1, makes.2, c.harm_inside-harm.ensures)
 
 pub returns-in_ok-try_clone-in-Ok-None-clause-step : goal.returns-in_ok-try_clone-in-Ok-None-clause-step
 returns-in_ok-try_clone-in-Ok-None-clause-step c tree here =

@@ -7,7 +7,7 @@ use Rattle.reuse_header.proofs.NeighbourLemmas.{text-test}
 use Rattle.reuse_plan.specs.Annotate.{target_by_style, target_by_bytes}
 use Rattle.reuse_plan.specs.AnnotationPlan.{own_of}
 use Rattle.reuse_plan.specs.Plan.{AnswersOf}
-use Rattle.reuse_plan.specs.TreeStyles.{OwnNames}
+use Rattle.reuse_style.specs.Kinds.{OwnKinds}
 use Rattle.reuse_command.specs.declared.command.Scope.{Scope}
 use Rattle.reuse_plan.specs.declared.target.Target.{Target}
 use Rattle.reuse_plan.specs.declared.target.Target.TheVariants.{InNeighbour}
@@ -18,14 +18,14 @@ use Rattle.reuse_plan.proofs.target_choice.target_by_bytes.Goals as goal
 abbrev target : Target → Result Target Refusal
 target t = Ok t
 
-by_bytes : (scope : Scope) (own : OwnNames) (path bytes : List ℕ) (b : Bool) → length bytes ≤ LONGEST_FILE
+by_bytes : (scope : Scope) (own : OwnKinds) (path bytes : List ℕ) (b : Bool) → length bytes ≤ LONGEST_FILE
     → is_text bytes ≡ b
     → target_by_bytes scope own path bytes ≡ cond (not b) (target InNeighbour)
-    (target_by_style scope own path scope.style)
+    (target_by_style scope own path bytes scope.style)
 by_bytes scope own path bytes b h e =
     ap (λ t. cond t (Err (TooLong path)) (cond (not (is_text bytes)) (target InNeighbour)
-    (target_by_style scope own path scope.style))) (le-ltb LONGEST_FILE (length bytes) h)
-    ∙ ap (λ t. cond (not t) (target InNeighbour) (target_by_style scope own path scope.style)) e
+    (target_by_style scope own path bytes scope.style))) (le-ltb LONGEST_FILE (length bytes) h)
+    ∙ ap (λ t. cond (not t) (target InNeighbour) (target_by_style scope own path bytes scope.style)) e
 
 pub returns-then-not-is_text-clause-target : goal.returns-then-not-is_text-clause-target
 returns-then-not-is_text-clause-target c =

@@ -6,10 +6,10 @@ use Rattle.reuse_ready.proofs.own_lines.read_names_back.Goals as goal
 
 pub returns-then-are_named-clause-read : goal.returns-then-are_named-clause-read
 returns-then-are_named-clause-read c = λ added.
-    named_back added c.args.names.now _ (lookup c.in-Ok.own) _
-    (ap (styles_of c.args.own_comments.now) (sym c.lent.ensures) ∙ c.in-Ok.ensures.ok) c.if-are_named.ensures
+    named_back added c.args.names.now _ (lookup c.in-Ok.own.entries) _
+    (ap (styles_of c.args.own_comments.now.styles) (sym c.lent.ensures) ∙ c.in-Ok.ensures.names) c.if-are_named.ensures
 
 pub returns-in-Ok-clause-refusal : goal.returns-in-Ok-clause-refusal
 returns-in-Ok-clause-refusal c = λ added.
-    named_back added c.args.names.now _ (lookup c.in-Ok.own) _
-    (ap (styles_of c.args.own_comments.now) (sym c.lent.ensures) ∙ c.in-Ok.ensures.ok) c.if-are_named.ensures
+    named_back added c.args.names.now _ (lookup c.in-Ok.own.entries) _
+    (ap (styles_of c.args.own_comments.now.styles) (sym c.lent.ensures) ∙ c.in-Ok.ensures.names) c.if-are_named.ensures

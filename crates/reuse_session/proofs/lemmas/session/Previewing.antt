@@ -1,6 +1,6 @@
 -- Previews: what they report is what the model reports, and they leave all as it was.
 use Rattle.std.proofs.Common.{◌≡◌, ◌↔◌, ℕ, Bool, true, false, cond, List, [], ◌∷◌, ◌++◌, length, map, Result, Ok, Err}
-use Rattle.std.proofs.Common.{IfOk, IfErr, refl, sym, ap, subst, ◌∙◌}
+use Rattle.std.proofs.Common.{IfOk, IfErr, None, refl, sym, ap, subst, ◌∙◌}
 use Rattle.std.specs.List.{All}
 use Rattle.std.proofs.lemmas.List.Elements.{All-head, All-tail}
 use Rattle.reuse_change.specs.Files.{Files}
@@ -9,7 +9,7 @@ use Rattle.reuse_change.specs.declared.change.Change.{Change}
 use Rattle.reuse_store.specs.declared.store.Store.{Ghosts}
 use Rattle.reuse_command.specs.Answer.{IsEarly, RefusedAsRead, DidNotFail, IsEarlyFailure}
 use Rattle.reuse_change.specs.Entry.{paths_of, CanBeMade}
-use Rattle.reuse_plan.specs.PathOutcomes.{path_outcomes_of, IsPathOutcomeOf, ArePathOutcomesOf}
+use Rattle.reuse_plan.specs.PathOutcomes.{changes_plainly, path_outcomes_of, IsPathOutcomeOf, ArePathOutcomesOf}
 use Rattle.reuse_journal.specs.Journal.{Recorded, State, ahead}
 use Rattle.reuse_session.specs.session.Machine.{Kept, Snapshots, run_path_outcomes}
 use Rattle.reuse_session.specs.session.Model.{PreviewsReplayTo, kept_ahead}
@@ -42,18 +42,18 @@ path_outcome_push direction tree (c ∷ cs) [] change reported are is = absurd a
 -- a change that can be made changes its path
 changes_path : (direction : Direction) (tree : Files) (change : Change) (reported : PathOutcome)
     → CanBeMade direction tree change → IsPathOutcomeOf direction tree change reported → (path : List ℕ)
-    × (reported ≡ path_outcome.Changes path) × IsPathOutcomeOf direction tree change (path_outcome.Changes path)
-changes_path direction tree change (path_outcome.Changes path) can is = (path, refl, is)
+    × (reported ≡ changes_plainly path) × IsPathOutcomeOf direction tree change (changes_plainly path)
+changes_path direction tree change (path_outcome.Changes path None) can is = (path, refl, is)
 changes_path direction tree change (path_outcome.Refused (refusals.Moved path)) can is = absurd (is.1 can)
 changes_path direction tree change reported can is = absurd is
 
 pub all_change : (direction : Direction) (tree : Files) (changes : List Change) (path_outcomes : List PathOutcome)
     → All (CanBeMade direction tree) changes → ArePathOutcomesOf direction tree changes path_outcomes
-    → path_outcomes ≡ map path_outcome.Changes (paths_of changes)
+    → path_outcomes ≡ map changes_plainly (paths_of changes)
 all_change direction tree [] [] can are = refl
 all_change direction tree (c ∷ cs) (f ∷ fs) can are =
     let one = changes_path direction tree c f (All-head (CanBeMade direction tree) c cs can) are.0 in
-    ap (λ x. x ∷ fs) (one.1 ∙ ap path_outcome.Changes one.2.0) ∙ ap (λ xs. path_outcome.Changes (path_of c) ∷ xs)
+    ap (λ x. x ∷ fs) (one.1 ∙ ap changes_plainly one.2.0) ∙ ap (λ xs. changes_plainly (path_of c) ∷ xs)
     (all_change direction tree cs fs (All-tail (CanBeMade direction tree) c cs can) are.1)
 all_change direction tree [] (f ∷ fs) can are = absurd are
 all_change direction tree (c ∷ cs) [] can are = absurd are

@@ -8,7 +8,7 @@ use Rattle.reuse_change.specs.Files.{Files}
 use Rattle.reuse_change.specs.Change.{path_of}
 use Rattle.reuse_change.specs.declared.change.Change.{Change}
 use Rattle.reuse_change.specs.Entry.{paths_of, CanBeMade, IsFirstWithout, IsFirstStuck}
-use Rattle.reuse_plan.specs.PathOutcomes.{first_refusal, IsPathOutcomeOf, ArePathOutcomesOf}
+use Rattle.reuse_plan.specs.PathOutcomes.{changes_plainly, first_refusal, IsPathOutcomeOf, ArePathOutcomesOf}
 use Rattle.reuse_journal.specs.Journal.{Recorded, State, Replays}
 use Rattle.reuse_session.specs.session.Previews.{PreviewsReplay}
 use Rattle.reuse_change.specs.declared.direction.Direction.{Direction}
@@ -48,9 +48,9 @@ same_error one other result e f = cc
 
 reported_of : (direction : Direction) (tree : Files) (change : Change) (reported : PathOutcome)
     → IsPathOutcomeOf direction tree change reported
-    → ((reported ≡ path_outcome.Changes (path_of change)) × CanBeMade direction tree change)
+    → ((reported ≡ changes_plainly (path_of change)) × CanBeMade direction tree change)
     ⊎ ((reported ≡ path_outcome.Refused (refusals.Moved (path_of change))) × (CanBeMade direction tree change → ⊥))
-reported_of direction tree change (path_outcome.Changes path) is = inl (ap path_outcome.Changes is.0, is.1)
+reported_of direction tree change (path_outcome.Changes path None) is = inl (ap changes_plainly is.0, is.1)
 reported_of direction tree change (path_outcome.Refused (refusals.Moved path)) is =
     inr (ap (λ p. path_outcome.Refused (refusals.Moved p)) is.0, is.1)
 reported_of direction tree change reported is = absurd is
@@ -63,7 +63,7 @@ module _ (direction : Direction) (tree : Files) where
   stuck_first (c ∷ cs) (f ∷ fs) refusal are h =
       of_one (reported_of direction tree c f are.0) (stuck_first cs fs refusal are.1)
     where
-      of_one : ((f ≡ path_outcome.Changes (path_of c)) × CanBeMade direction tree c)
+      of_one : ((f ≡ changes_plainly (path_of c)) × CanBeMade direction tree c)
           ⊎ ((f ≡ path_outcome.Refused (refusals.Moved (path_of c))) × (CanBeMade direction tree c → ⊥))
           → (first_refusal fs ≡ Some refusal → IsStuckBy direction tree cs refusal)
           → IsStuckBy direction tree (c ∷ cs) refusal
@@ -92,7 +92,7 @@ module _ (direction : Direction) (tree : Files) where
   all_made [] [] are h = All-nil (CanBeMade direction tree)
   all_made (c ∷ cs) (f ∷ fs) are h = of_one (reported_of direction tree c f are.0) (all_made cs fs are.1)
     where
-      of_one : ((f ≡ path_outcome.Changes (path_of c)) × CanBeMade direction tree c)
+      of_one : ((f ≡ changes_plainly (path_of c)) × CanBeMade direction tree c)
           ⊎ ((f ≡ path_outcome.Refused (refusals.Moved (path_of c))) × (CanBeMade direction tree c → ⊥))
           → (first_refusal fs ≡ None → All (CanBeMade direction tree) cs) → All (CanBeMade direction tree) (c ∷ cs)
       of_one (inl a) rest =
@@ -102,7 +102,7 @@ module _ (direction : Direction) (tree : Files) where
   all_made [] (f ∷ fs) are h = absurd are
   all_made (c ∷ cs) [] are h = absurd are
 
-  none_of_changes : (paths : List (List ℕ)) → first_refusal (map path_outcome.Changes paths) ≡ None
+  none_of_changes : (paths : List (List ℕ)) → first_refusal (map changes_plainly paths) ≡ None
   none_of_changes [] = refl
   none_of_changes (p ∷ paths) = none_of_changes paths
 

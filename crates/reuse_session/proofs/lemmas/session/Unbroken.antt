@@ -11,7 +11,7 @@ use Rattle.reuse_change.specs.declared.direction.Direction.TheVariants.{Forward,
 use Rattle.reuse_command.specs.Command.{name_of}
 use Rattle.reuse_command.specs.declared.command.Command.{Command}
 use Rattle.reuse_command.specs.declared.path_outcome.PathOutcome.{PathOutcome}
-use Rattle.reuse_command.specs.declared.path_outcome.PathOutcome.TheVariants.{Changes}
+use Rattle.reuse_plan.specs.PathOutcomes.{changes_plainly}
 use Rattle.reuse_command.specs.declared.reply.Refusal.{Refusal}
 use Rattle.reuse_command.specs.declared.reply.Refusal.TheVariants.{JournalFull, NoSuchStep}
 use Rattle.reuse_command.specs.declared.reply.Response.{Response}
@@ -110,7 +110,7 @@ module _ (state : Snapshots) (unbroken : IsUnbroken state) where
       at (Ok path_outcomes) (kept ∷ past) led (changes, connects, are) =
           ap (λ fs. Ok fs)
           (all_change Backward state.tree changes path_outcomes (can_go_back state kept past changes connects led.0) are
-          ∙ ap (map Changes) (sym (changed_by_entry changes kept.before kept.after connects.good connects.leads)
+          ∙ ap (map changes_plainly) (sym (changed_by_entry changes kept.before kept.after connects.good connects.leads)
           ∙ ap (changed_paths kept.before) led.0))
       at (Err refusal) (kept ∷ past) led previews = absurd previews
 
@@ -124,7 +124,7 @@ module _ (state : Snapshots) (unbroken : IsUnbroken state) where
       at (Ok path_outcomes) (kept ∷ future) led (changes, connects, are) =
           ap (λ fs. Ok fs)
           (all_change Forward state.tree changes path_outcomes (can_go_on state kept future changes connects led.0) are
-          ∙ ap (map Changes) (sym (changed_by_entry changes kept.before kept.after connects.good connects.leads)
+          ∙ ap (map changes_plainly) (sym (changed_by_entry changes kept.before kept.after connects.good connects.leads)
           ∙ ap (λ t. changed_paths t kept.after) led.0))
       at (Err refusal) (kept ∷ future) led previews = absurd previews
 

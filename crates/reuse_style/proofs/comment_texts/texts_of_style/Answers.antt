@@ -1,7 +1,7 @@
 use Rattle.std.proofs.Common.{ap, ◌∙◌}
 use Rattle.std.specs.Prelude.{codes}
 use Rattle.toml.specs.View.{members_view}
-use Rattle.reuse_style.specs.CommentFile.{take_text, is_done}
+use Rattle.reuse_style.specs.Taken.{take_text, is_done}
 use Rattle.reuse_style.proofs.CommentDocumentLemmas.{style_texts}
 use Rattle.reuse_style.proofs.comment_texts.texts_of_style.Goals as goal
 

@@ -60,17 +60,17 @@ returns-clause-exact g c honest held stands reported =
     let files = g.S.Store.files in
     let session = c.args.self.now in
     let same = c.reverted_by.ensures.same in
-    let was = c.run.ensures.call.later.was_honest honest in
+    let was = c.run-answer.ensures.call.later.was_honest honest in
     let still = still_stands files session c.read_back.new.store held (c.read_back.ensures.reads.files was) stands in
     let ran =
-    c.run.ensures.exact honest held still (subst DidNotFail same (reported_run c.reverted_by.result reported)) in (
+    c.run-answer.ensures.exact honest held still (subst DidNotFail same (reported_run c.reverted_by.result reported)) in (
       ran.0,
       ran.1,
       reverts_step held ran.0 c.args.number c.args.skip_moved c.args.when c.in_ok-changes.changes
           c.in_ok-changes.touched
           (c.in_ok-changes.ensures.back was held.journal stands.remembers stands.committed.journal)
-          c.in_ok-paths.paths (c.in_ok-paths.ensures ∙ ap paths_of c.as_slice.ensures.changes) c.run.result
-          c.run.ensures.kinds c.reverted_by.result same c.reverted_by.ensures.skipped ran.2,
+          c.in_ok-paths.paths (c.in_ok-paths.ensures ∙ ap paths_of c.as_slice.ensures.changes) c.run-answer.result
+          c.run-answer.ensures.kinds c.reverted_by.result same c.reverted_by.ensures.skipped ran.2,
     )
 
 pub returns-clause-machine : goal.returns-clause-machine
@@ -80,32 +80,32 @@ returns-clause-machine g c honest state stands_at reported =
     let held = stands_at.held in
     let stands = stands_at.stands in
     let same = c.reverted_by.ensures.same in
-    let was = c.run.ensures.call.later.was_honest honest in
+    let was = c.run-answer.ensures.call.later.was_honest honest in
     let still = still_stands files session c.read_back.new.store held (c.read_back.ensures.reads.files was) stands in
     let ran =
-    c.run.ensures.exact honest held still (subst DidNotFail same (reported_run c.reverted_by.result reported)) in
+    c.run-answer.ensures.exact honest held still (subst DidNotFail same (reported_run c.reverted_by.result reported)) in
     revert_follows held ran.0 c.args.number c.args.skip_moved c.args.when c.in_ok-changes.changes
     c.in_ok-changes.touched
     (c.in_ok-changes.ensures.back was held.journal stands.remembers stands.committed.journal)
-    c.in_ok-paths.paths (c.in_ok-paths.ensures ∙ ap paths_of c.as_slice.ensures.changes) c.run.result
-    c.run.ensures.kinds c.reverted_by.result same c.reverted_by.ensures.skipped ran.2
-    files session c.run.new.self state stands_at refl ran.1
+    c.in_ok-paths.paths (c.in_ok-paths.ensures ∙ ap paths_of c.as_slice.ensures.changes) c.run-answer.result
+    c.run-answer.ensures.kinds c.reverted_by.result same c.reverted_by.ensures.skipped ran.2
+    files session c.run-answer.new.self state stands_at refl ran.1
 
 pub returns-clause-leaves : goal.returns-clause-leaves
 returns-clause-leaves g c =
     let store = g.S.Store in
     let session = c.args.self.now in
-    let was = c.run.ensures.call.later.was_honest in
+    let was = c.run-answer.ensures.call.later.was_honest in
     let says = c.in_ok-changes.ensures.says in
-    run_leaves store c.args.number c.args.skip_moved c.args.when c.reverted_by.result c.run.result session
-    c.run.new.self says.0 c.in_ok-changes.changes c.in_ok-changes.touched
+    run_leaves store c.args.number c.args.skip_moved c.args.when c.reverted_by.result c.run-answer.result session
+    c.run-answer.new.self says.0 c.in_ok-changes.changes c.in_ok-changes.touched
     (λ honest. says.1 (was honest)) says.2
     (λ honest held stands. c.in_ok-changes.ensures.back
     (was honest) held.journal stands.remembers stands.committed.journal) (c.reverted_by.ensures.same)
-    (after_reading store session c.run.new.self c.read_back.new.store c.read_back.ensures.reads
-    c.run.ensures.call.later.was_honest
-    (Revert c.in_ok-changes.changes c.in_ok-changes.touched c.args.skip_moved) c.args.when c.run.result
-    c.run.ensures.leaves)
+    (after_reading store session c.run-answer.new.self c.read_back.new.store c.read_back.ensures.reads
+    c.run-answer.ensures.call.later.was_honest
+    (Revert c.in_ok-changes.changes c.in_ok-changes.touched c.args.skip_moved) c.args.when c.run-answer.result
+    c.run-answer.ensures.leaves)
 
 -- ---- after a loss of power
 
@@ -113,13 +113,13 @@ pub returns-clause-survives : goal.returns-clause-survives
 returns-clause-survives g c honest earlier held stands safe =
     let files = g.S.Store.files in
     let session = c.args.self.now in
-    let was = c.run.ensures.call.later.was_honest honest in
+    let was = c.run-answer.ensures.call.later.was_honest honest in
     let still = still_stands files session c.read_back.new.store held (c.read_back.ensures.reads.files was) stands in
     let back = c.in_ok-changes.ensures.back was held.journal stands.remembers stands.committed.journal in
     let IsNext = IsAfterRevert c.args.number c.args.skip_moved c.args.when held in
-    subst (λ r. Survives g.S.Store IsNext earlier held r (store_of c.run.new.self)) (sym (c.reverted_by.ensures.same))
+    subst (λ r. Survives g.S.Store IsNext earlier held r (store_of c.run-answer.new.self)) (sym (c.reverted_by.ensures.same))
     (survives_weaker g.S.Store (IsRun (Revert c.in_ok-changes.changes c.in_ok-changes.touched c.args.skip_moved)
-    c.args.when held) IsNext earlier held (store_of c.run.new.self) c.run.result
+    c.args.when held) IsNext earlier held (store_of c.run-answer.new.self) c.run-answer.result
     (λ next is. (
       back.step,
       back.is_done,
@@ -127,7 +127,7 @@ returns-clause-survives g c honest earlier held stands safe =
       subst (λ (command : Command). IsRun command c.args.when held next)
           (ap₂ (λ cs ts. Revert cs ts c.args.skip_moved) back.changes back.touched) is,
     ))
-    (c.run.ensures.survives honest earlier held still
+    (c.run-answer.ensures.survives honest earlier held still
     (reads_are_safe g.S.Store earlier held (store_of session) c.read_back.new.store c.read_back.ensures.reads safe)))
 
 -- ---- a full journal
@@ -135,7 +135,7 @@ returns-clause-survives g c honest earlier held stands safe =
 pub returns-clause-full : goal.returns-clause-full
 returns-clause-full g c honest full =
     let is : as_run c.reverted_by.result ≡ Err JournalFull =
-    c.reverted_by.ensures.same ∙ c.run.ensures.full.1 (c.if-self.false, full) in
+    c.reverted_by.ensures.same ∙ c.run-answer.ensures.full.1 (c.if-self.false, full) in
     full_revert c.reverted_by.result is
 
 pub returns-in_err-changes-clause-full : goal.returns-in_err-changes-clause-full

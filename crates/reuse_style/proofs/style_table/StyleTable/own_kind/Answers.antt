@@ -7,6 +7,7 @@ use Rattle.std.specs.Cmp.Lexicographic.{slice_cmp}
 use Rattle.std.specs.Str.{str_to_ascii_lowercase}
 use Rattle.std.proofs.lemmas.Fn.{always_returns_same}
 use Rattle.reuse_style.specs.declared.style.Kind.{Kind}
+use Rattle.reuse_style.specs.Kinds.{OwnEntries}
 use Rattle.reuse_style.specs.Names.{lookup}
 use Rattle.reuse_style.proofs.KeyedLemmas.{own_found, own_missing}
 use Rattle.reuse_style.proofs.style_table.StyleTable.own_kind.Goals as goal
@@ -21,7 +22,7 @@ returns-in-Ok c =
     let found = own_found c.self.inside.entries.items c.args.name.now c.in-Ok.place e c.self.invariant
     (subst (λ (xs : List (List ℕ × Kind)). c.in-Ok.place < length xs) c.deref.ensures.value low) (at e) in
     ap (λ (kind : Kind). Some kind) c.lent.ensures ∙ ap (λ (f : List ℕ × Kind). Some f.1) c.index.ensures ∙ sym found
-    ∙ ap (λ (xs : List (List ℕ × Kind)). lookup xs c.args.name.now) c.self.view_is
+    ∙ ap (λ (own : OwnEntries). lookup own.entries c.args.name.now) c.self.view_is
 
 pub returns-in-Err : goal.returns-in-Err
 returns-in-Err c =
@@ -29,5 +30,5 @@ returns-in-Err c =
     let found =
     subst (λ (xs : List (List ℕ × Kind)). IsBinarySearchResult ord xs (Err c.in-Err.field-0)) c.deref.ensures.value
     (c.in-Err.ensures.position ord (always_returns_same _ (λ a r. r ≡ ord a.0.now) _ (λ a r f' k. search rules))) in
-    sym (ap (λ (xs : List (List ℕ × Kind)). lookup xs c.args.name.now) (sym c.self.view_is)
+    sym (ap (λ (own : OwnEntries). lookup own.entries c.args.name.now) (sym c.self.view_is)
     ∙ own_missing c.self.inside.entries.items c.args.name.now c.in-Err.field-0 c.self.invariant found)
