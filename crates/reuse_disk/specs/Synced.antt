@@ -23,7 +23,8 @@ abbrev pub AreSynced : Unsynced → Folders → FileState → (before after : Li
 AreSynced unsynced folders held before after =
     (path : List ℕ) → IsNoted unsynced path → IsSyncedAt folders held before after path
 
--- what the path leads to is what a path leads to that is there, if that is a folder, and no bare repository is on its way
+-- what the path leads to is what a path leads to that is there, if that is a folder, and no bare repository is on its
+-- way
 abbrev pub IsFoundAmong : Folders → FileState → (IsThere : List ℕ → Type 0) → List ℕ → Type 0
 IsFoundAmong folders held IsThere path =
     (folder : Identity) → folder_at folders path ≡ Some folder → ¬ (IsBarred folders held path)

@@ -2,11 +2,11 @@
 ghost use Rattle.std.specs.Prelude.{◌≡◌, IfOk, string_bytes};
 ghost use Rattle.reuse_disk.specs.OpenFolders.{AreOpenedIf, path_below};
 
+use crate::disk_system::DiskSystem;
 use crate::listing::{MOST_NAMES, push_text};
 use crate::open_folders::OpenFolders;
 use reuse_system::fault::{FolderFault, IoReason};
 use reuse_system::place::folder_and_name;
-use reuse_system::system::{HostSystem, System};
 use std::alloc::{AllocError, Global};
 use std::fs::{self, DirEntry, File};
 use std::rt::Files;
@@ -39,21 +39,19 @@ fn push_folder<R: Files>(
 }
 
 /// Adds the folders that lie in this one. Where anything else lies in it, that is in the way.
-fn push_folders<R: Files<File = File> + AllocGlobal + Clone + Drop>(
-    system: &mut HostSystem<R>,
+fn push_folders<S: DiskSystem>(
+    system: &mut S,
     alloc: Global,
     open_folders: &mut OpenFolders,
     folder: &str,
     folders: &mut Vec<String>,
 ) -> Result<(), FolderFault>
-    ensures kept { ⟦<HostSystem<R> as System>⟧.holds system.new ≡ ⟦<HostSystem<R> as System>⟧.holds system.old }
-    ensures changes { ⟦<HostSystem<R> as System>⟧.changes system.new ≡ ⟦<HostSystem<R> as System>⟧.changes system.old }
-    ensures still { ⟦<HostSystem<R> as System>⟧.folders system.new ≡ ⟦<HostSystem<R> as System>⟧.folders system.old }
-    ensures earlier { ⟦<HostSystem<R> as System>⟧.honest system.new → ⟦<HostSystem<R> as System>⟧.honest system.old }
-    ensures opened { AreOpenedIf (⟦<HostSystem<R> as System>⟧.honest system.old)
-        (⟦<HostSystem<R> as System>⟧.folders system.old) open_folders.old
-        → AreOpenedIf (⟦<HostSystem<R> as System>⟧.honest system.new)
-        (⟦<HostSystem<R> as System>⟧.folders system.new) open_folders.new }
+    ensures kept { S.holds system.new ≡ S.holds system.old }
+    ensures changes { S.changes system.new ≡ S.changes system.old }
+    ensures still { S.folders system.new ≡ S.folders system.old }
+    ensures earlier { S.honest system.new → S.honest system.old }
+    ensures opened { AreOpenedIf (S.honest system.old) (S.folders system.old) open_folders.old
+        → AreOpenedIf (S.honest system.new) (S.folders system.new) open_folders.new }
 {
     open_folders.enter_seen(system, alloc, folder)?;
     for entry in fs::read_dir(system.rt(), open_folders.current()?.path())? {
@@ -63,20 +61,18 @@ fn push_folders<R: Files<File = File> + AllocGlobal + Clone + Drop>(
 }
 
 /// The folder and all below it, each above those that lie in it, where there is nothing else.
-fn folders_below<R: Files<File = File> + AllocGlobal + Clone + Drop>(
-    system: &mut HostSystem<R>,
+fn folders_below<S: DiskSystem>(
+    system: &mut S,
     alloc: Global,
     open_folders: &mut OpenFolders,
     folder: &str,
 ) -> Result<Vec<String>, FolderFault>
-    ensures kept { ⟦<HostSystem<R> as System>⟧.holds system.new ≡ ⟦<HostSystem<R> as System>⟧.holds system.old }
-    ensures changes { ⟦<HostSystem<R> as System>⟧.changes system.new ≡ ⟦<HostSystem<R> as System>⟧.changes system.old }
-    ensures still { ⟦<HostSystem<R> as System>⟧.folders system.new ≡ ⟦<HostSystem<R> as System>⟧.folders system.old }
-    ensures earlier { ⟦<HostSystem<R> as System>⟧.honest system.new → ⟦<HostSystem<R> as System>⟧.honest system.old }
-    ensures opened { AreOpenedIf (⟦<HostSystem<R> as System>⟧.honest system.old)
-        (⟦<HostSystem<R> as System>⟧.folders system.old) open_folders.old
-        → AreOpenedIf (⟦<HostSystem<R> as System>⟧.honest system.new)
-        (⟦<HostSystem<R> as System>⟧.folders system.new) open_folders.new }
+    ensures kept { S.holds system.new ≡ S.holds system.old }
+    ensures changes { S.changes system.new ≡ S.changes system.old }
+    ensures still { S.folders system.new ≡ S.folders system.old }
+    ensures earlier { S.honest system.new → S.honest system.old }
+    ensures opened { AreOpenedIf (S.honest system.old) (S.folders system.old) open_folders.old
+        → AreOpenedIf (S.honest system.new) (S.folders system.new) open_folders.new }
 {
     let mut folders = Vec::new(alloc);
     push_text(alloc, &mut folders, folder)?;
@@ -92,19 +88,17 @@ fn folders_below<R: Files<File = File> + AllocGlobal + Clone + Drop>(
 
 /// Removes the folder and those below it. Where anything but folders lies in one, nothing is
 /// removed.
-pub fn remove_folders<R: Files<File = File> + AllocGlobal + Clone + Drop>(
-    system: &mut HostSystem<R>,
+pub fn remove_folders<S: DiskSystem>(
+    system: &mut S,
     alloc: Global,
     open_folders: &mut OpenFolders,
     folder: &str,
 ) -> Result<(), FolderFault>
-    ensures kept { ⟦<HostSystem<R> as System>⟧.holds system.new ≡ ⟦<HostSystem<R> as System>⟧.holds system.old }
-    ensures changes { ⟦<HostSystem<R> as System>⟧.changes system.new ≡ ⟦<HostSystem<R> as System>⟧.changes system.old }
-    ensures earlier { ⟦<HostSystem<R> as System>⟧.honest system.new → ⟦<HostSystem<R> as System>⟧.honest system.old }
-    ensures opened { AreOpenedIf (⟦<HostSystem<R> as System>⟧.honest system.old)
-        (⟦<HostSystem<R> as System>⟧.folders system.old) open_folders.old
-        → AreOpenedIf (⟦<HostSystem<R> as System>⟧.honest system.new)
-        (⟦<HostSystem<R> as System>⟧.folders system.new) open_folders.new }
+    ensures kept { S.holds system.new ≡ S.holds system.old }
+    ensures changes { S.changes system.new ≡ S.changes system.old }
+    ensures earlier { S.honest system.new → S.honest system.old }
+    ensures opened { AreOpenedIf (S.honest system.old) (S.folders system.old) open_folders.old
+        → AreOpenedIf (S.honest system.new) (S.folders system.new) open_folders.new }
 {
     let folders = folders_below(system, alloc, open_folders, folder)?;
     for folder in folders.iter().rev() {

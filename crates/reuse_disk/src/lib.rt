@@ -7,9 +7,9 @@
 //! `fail_system_calls.sh` in `tests/`.
 #![tactic(auto)]
 
+mod disk_system;
 mod empty_folders;
 mod listing;
-mod made_folder;
 mod mounted_folders;
 mod naming;
 mod new_file;
@@ -17,6 +17,7 @@ mod open_folders;
 mod start_folder;
 mod syncs;
 
+pub use disk_system::DiskSystem;
 pub use empty_folders::remove_folders;
 pub use listing::{Listing, list_below};
 pub use mounted_folders::MountedFolders;

@@ -6,12 +6,12 @@ ghost use Rattle.std.specs.Cmp.Lexicographic.{slice_cmp};
 ghost use Rattle.reuse_system.specs.Ignored.{is_ignored};
 ghost use Rattle.reuse_disk.specs.OpenFolders.{AreOpenedIf};
 
+use crate::disk_system::DiskSystem;
 use crate::empty_folders::path_in;
 use crate::open_folders::OpenFolders;
 use reuse_change::{NoPruning, PathText, Pruning};
 use reuse_system::fault::{FolderFault, IoReason};
 use reuse_system::ignored::{is_folder_ignored, is_ignored};
-use reuse_system::system::{HostSystem, System};
 use std::alloc::{AllocError, Global};
 use std::fs::{self, DirEntry, File};
 use std::rt::Files;
@@ -105,24 +105,19 @@ impl<'a, P: Pruning> Listing<'a, P> {
     }
 
     /// Takes in the names of one folder, which is the root where it is empty.
-    fn look_into<R: Files<File = File> + AllocGlobal + Clone + Drop>(
+    fn look_into<S: DiskSystem>(
         &mut self,
-        system: &mut HostSystem<R>,
+        system: &mut S,
         alloc: Global,
         open_folders: &mut OpenFolders,
         folder: &str,
     ) -> Result<(), FolderFault>
-        ensures kept { ⟦<HostSystem<R> as System>⟧.holds system.new ≡ ⟦<HostSystem<R> as System>⟧.holds system.old }
-        ensures changes { ⟦<HostSystem<R> as System>⟧.changes system.new
-            ≡ ⟦<HostSystem<R> as System>⟧.changes system.old }
-        ensures still { ⟦<HostSystem<R> as System>⟧.folders system.new
-            ≡ ⟦<HostSystem<R> as System>⟧.folders system.old }
-        ensures earlier { ⟦<HostSystem<R> as System>⟧.honest system.new
-            → ⟦<HostSystem<R> as System>⟧.honest system.old }
-        ensures opened { AreOpenedIf (⟦<HostSystem<R> as System>⟧.honest system.old)
-            (⟦<HostSystem<R> as System>⟧.folders system.old) open_folders.old
-            → AreOpenedIf (⟦<HostSystem<R> as System>⟧.honest system.new)
-            (⟦<HostSystem<R> as System>⟧.folders system.new) open_folders.new }
+        ensures kept { S.holds system.new ≡ S.holds system.old }
+        ensures changes { S.changes system.new ≡ S.changes system.old }
+        ensures still { S.folders system.new ≡ S.folders system.old }
+        ensures earlier { S.honest system.new → S.honest system.old }
+        ensures opened { AreOpenedIf (S.honest system.old) (S.folders system.old) open_folders.old
+            → AreOpenedIf (S.honest system.new) (S.folders system.new) open_folders.new }
     {
         if !open_folders.enter_listed(system, alloc, folder)? {
             return Ok(());
@@ -135,24 +130,19 @@ impl<'a, P: Pruning> Listing<'a, P> {
 
     /// Looks into each folder that was taken in, and into those below it. `last` becomes the folder
     /// that was looked at last, where a listing that fails has failed.
-    pub fn walk<R: Files<File = File> + AllocGlobal + Clone + Drop>(
+    pub fn walk<S: DiskSystem>(
         &mut self,
-        system: &mut HostSystem<R>,
+        system: &mut S,
         alloc: Global,
         open_folders: &mut OpenFolders,
         last: &mut String,
     ) -> Result<(), FolderFault>
-        ensures kept { ⟦<HostSystem<R> as System>⟧.holds system.new ≡ ⟦<HostSystem<R> as System>⟧.holds system.old }
-        ensures changes { ⟦<HostSystem<R> as System>⟧.changes system.new
-            ≡ ⟦<HostSystem<R> as System>⟧.changes system.old }
-        ensures still { ⟦<HostSystem<R> as System>⟧.folders system.new
-            ≡ ⟦<HostSystem<R> as System>⟧.folders system.old }
-        ensures earlier { ⟦<HostSystem<R> as System>⟧.honest system.new
-            → ⟦<HostSystem<R> as System>⟧.honest system.old }
-        ensures opened { AreOpenedIf (⟦<HostSystem<R> as System>⟧.honest system.old)
-            (⟦<HostSystem<R> as System>⟧.folders system.old) open_folders.old
-            → AreOpenedIf (⟦<HostSystem<R> as System>⟧.honest system.new)
-            (⟦<HostSystem<R> as System>⟧.folders system.new) open_folders.new }
+        ensures kept { S.holds system.new ≡ S.holds system.old }
+        ensures changes { S.changes system.new ≡ S.changes system.old }
+        ensures still { S.folders system.new ≡ S.folders system.old }
+        ensures earlier { S.honest system.new → S.honest system.old }
+        ensures opened { AreOpenedIf (S.honest system.old) (S.folders system.old) open_folders.old
+            → AreOpenedIf (S.honest system.new) (S.folders system.new) open_folders.new }
     {
         for _ in 0..=MOST_NAMES {
             match self.next_folder() {
@@ -179,21 +169,19 @@ impl<'a, P: Pruning> Listing<'a, P> {
 
 /// The paths of the regular files below this folder, in byte order. `last` becomes the folder that
 /// was looked at last, where a listing that fails has failed.
-pub fn list_below<R: Files<File = File> + AllocGlobal + Clone + Drop>(
-    system: &mut HostSystem<R>,
+pub fn list_below<S: DiskSystem>(
+    system: &mut S,
     alloc: Global,
     open_folders: &mut OpenFolders,
     folder: &str,
     last: &mut String,
 ) -> Result<Vec<PathText>, FolderFault>
-    ensures kept { ⟦<HostSystem<R> as System>⟧.holds system.new ≡ ⟦<HostSystem<R> as System>⟧.holds system.old }
-    ensures changes { ⟦<HostSystem<R> as System>⟧.changes system.new ≡ ⟦<HostSystem<R> as System>⟧.changes system.old }
-    ensures still { ⟦<HostSystem<R> as System>⟧.folders system.new ≡ ⟦<HostSystem<R> as System>⟧.folders system.old }
-    ensures earlier { ⟦<HostSystem<R> as System>⟧.honest system.new → ⟦<HostSystem<R> as System>⟧.honest system.old }
-    ensures opened { AreOpenedIf (⟦<HostSystem<R> as System>⟧.honest system.old)
-        (⟦<HostSystem<R> as System>⟧.folders system.old) open_folders.old
-        → AreOpenedIf (⟦<HostSystem<R> as System>⟧.honest system.new)
-        (⟦<HostSystem<R> as System>⟧.folders system.new) open_folders.new }
+    ensures kept { S.holds system.new ≡ S.holds system.old }
+    ensures changes { S.changes system.new ≡ S.changes system.old }
+    ensures still { S.folders system.new ≡ S.folders system.old }
+    ensures earlier { S.honest system.new → S.honest system.old }
+    ensures opened { AreOpenedIf (S.honest system.old) (S.folders system.old) open_folders.old
+        → AreOpenedIf (S.honest system.new) (S.folders system.new) open_folders.new }
 {
     let mut listing = Listing::new(alloc, &NoPruning);
     listing.take_folder(alloc, folder)?;

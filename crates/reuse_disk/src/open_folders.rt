@@ -1,23 +1,22 @@
 //! The folders that are open: the root, and those along the path that was worked in last. Calls
 //! come in the order of their paths, so most find their folder open. A folder is opened through the
 //! handle of the one above it.
-ghost use Rattle.std.specs.Prelude.{◌≡◌, ◌≢◌, ◌⊎◌, ◌∷◌, [], IfOk, IfSome, MatchOption, None, Some, string_bytes};
+ghost use Rattle.std.specs.Prelude.{◌≡◌, ◌≢◌, ◌∷◌, [], IfOk, IfSome, MatchOption, None, Some, string_bytes};
 ghost use Rattle.reuse_system.specs.FolderPlaces.{IsNoFile};
-ghost use Rattle.reuse_system.specs.Folders.{Folders, folder_along, folder_at, IsGrown};
-ghost use Rattle.reuse_system.specs.declared.syncs.Syncs.TheVariants.{Kept};
+ghost use Rattle.reuse_system.specs.Folders.{Folders, folder_along, folder_at};
 ghost use Rattle.reuse_disk.specs.OpenFolders.{IsNext, IsRest};
 
+mod making;
+
+use crate::disk_system::DiskSystem;
 use crate::empty_folders::path_in;
-use crate::made_folder::open_made_by_root;
 use crate::start_folder::StartFolder;
-use crate::syncs::Unsynced;
 use reuse_system::fault::{FolderFault, IoReason};
 use reuse_system::handle::{Below, OpenFolder, Start};
 use reuse_system::place::{Found, Place, folder_and_name};
 use reuse_system::process::ProcessIds;
-use reuse_system::system::{HostSystem, System};
+use reuse_system::system::System;
 use std::alloc::{AllocError, Global};
-use std::fs::File;
 use std::rt::{Env, Files};
 
 /// How many folders below the root are open at most. Where a path has more, those next to the root
@@ -47,9 +46,8 @@ pub struct OpenFolders {
 }
 
 impl OpenFolders {
-    ghost use Rattle.reuse_disk.specs.Noted.{IsNoted, StayNoted};
     ghost use Rattle.reuse_disk.specs.OpenFolders.{current_of, AreOpened, AreOpenedIf, HasNoSlash, IsEntered, IsOnWay};
-    ghost use Rattle.reuse_disk.specs.OpenFolders.{IsOpenedFrom, IsRootOpened, path_of};
+    ghost use Rattle.reuse_disk.specs.OpenFolders.{IsRootOpened, path_of};
 
     /// The open folders of this process, from the root at this path on. Nothing is asked of the
     /// system yet.
@@ -68,23 +66,13 @@ impl OpenFolders {
     /// Goes to where the system shows the handles of the process, so that paths through open
     /// folders are short, until `come_back`. If the root can't be opened, or handles aren't shown,
     /// the process stays where it is.
-    pub fn go_to_handles<R: Files<File = File> + AllocGlobal + Drop>(
-        &mut self,
-        system: &mut HostSystem<R>,
-        env: &impl Env,
-        alloc: Global,
-    )
-        ensures kept { ⟦<HostSystem<R> as System>⟧.holds system.new ≡ ⟦<HostSystem<R> as System>⟧.holds system.old }
-        ensures changes { ⟦<HostSystem<R> as System>⟧.changes system.new
-            ≡ ⟦<HostSystem<R> as System>⟧.changes system.old }
-        ensures still { ⟦<HostSystem<R> as System>⟧.folders system.new
-            ≡ ⟦<HostSystem<R> as System>⟧.folders system.old }
-        ensures earlier { ⟦<HostSystem<R> as System>⟧.honest system.new
-            → ⟦<HostSystem<R> as System>⟧.honest system.old }
-        ensures opened { AreOpenedIf (⟦<HostSystem<R> as System>⟧.honest system.old)
-            (⟦<HostSystem<R> as System>⟧.folders system.old) self.old
-            → AreOpenedIf (⟦<HostSystem<R> as System>⟧.honest system.new)
-            (⟦<HostSystem<R> as System>⟧.folders system.new) self.new }
+    pub fn go_to_handles<S: DiskSystem>(&mut self, system: &mut S, env: &impl Env, alloc: Global)
+        ensures kept { S.holds system.new ≡ S.holds system.old }
+        ensures changes { S.changes system.new ≡ S.changes system.old }
+        ensures still { S.folders system.new ≡ S.folders system.old }
+        ensures earlier { S.honest system.new → S.honest system.old }
+        ensures opened { AreOpenedIf (S.honest system.old) (S.folders system.old) self.old
+            → AreOpenedIf (S.honest system.new) (S.folders system.new) self.new }
     {
         if self.go_back(system, alloc, "").is_err() || self.is_by_path() {
             return;
@@ -288,23 +276,18 @@ impl OpenFolders {
     ///
     /// # Errors
     /// As `enter_seen`.
-    pub fn enter_listed<R: Files<File = File> + AllocGlobal + Drop>(
+    pub fn enter_listed<S: DiskSystem>(
         &mut self,
-        system: &mut HostSystem<R>,
+        system: &mut S,
         alloc: Global,
         folder: &str,
     ) -> Result<bool, FolderFault>
-        ensures kept { ⟦<HostSystem<R> as System>⟧.holds system.new ≡ ⟦<HostSystem<R> as System>⟧.holds system.old }
-        ensures changes { ⟦<HostSystem<R> as System>⟧.changes system.new
-            ≡ ⟦<HostSystem<R> as System>⟧.changes system.old }
-        ensures still { ⟦<HostSystem<R> as System>⟧.folders system.new
-            ≡ ⟦<HostSystem<R> as System>⟧.folders system.old }
-        ensures earlier { ⟦<HostSystem<R> as System>⟧.honest system.new
-            → ⟦<HostSystem<R> as System>⟧.honest system.old }
-        ensures opened { AreOpenedIf (⟦<HostSystem<R> as System>⟧.honest system.old)
-            (⟦<HostSystem<R> as System>⟧.folders system.old) self.old
-            → AreOpenedIf (⟦<HostSystem<R> as System>⟧.honest system.new)
-            (⟦<HostSystem<R> as System>⟧.folders system.new) self.new }
+        ensures kept { S.holds system.new ≡ S.holds system.old }
+        ensures changes { S.changes system.new ≡ S.changes system.old }
+        ensures still { S.folders system.new ≡ S.folders system.old }
+        ensures earlier { S.honest system.new → S.honest system.old }
+        ensures opened { AreOpenedIf (S.honest system.old) (S.folders system.old) self.old
+            → AreOpenedIf (S.honest system.new) (S.folders system.new) self.new }
     {
         match self.enter(system, alloc, folder)? {
             None => Ok(true),
@@ -317,82 +300,6 @@ impl OpenFolders {
                 }
             }
             Some(_) => Err(FolderFault::Device(IoReason::Changing)),
-        }
-    }
-
-    /// Enters the folder at this path, and makes those on the way that are missing. Each gives a
-    /// name to the one above it.
-    ///
-    /// # Errors
-    /// `Foreign` if a part of the path is no folder; else what the system says.
-    pub fn make<R: Files<File = File> + AllocGlobal + Clone + Drop>(
-        &mut self,
-        system: &mut HostSystem<R>,
-        alloc: Global,
-        folder: &str,
-        unsynced: &mut Unsynced,
-    ) -> Result<(), FolderFault>
-        ensures kept { ⟦<HostSystem<R> as System>⟧.holds system.new ≡ ⟦<HostSystem<R> as System>⟧.holds system.old }
-        ensures changes { ⟦<HostSystem<R> as System>⟧.changes system.new
-            ≡ ⟦<HostSystem<R> as System>⟧.changes system.old }
-        ensures grown { IsGrown (⟦<HostSystem<R> as System>⟧.folders system.old)
-            (⟦<HostSystem<R> as System>⟧.folders system.new) }
-        ensures earlier { ⟦<HostSystem<R> as System>⟧.honest system.new
-            → ⟦<HostSystem<R> as System>⟧.honest system.old }
-        ensures opened { AreOpenedIf (⟦<HostSystem<R> as System>⟧.honest system.old)
-            (⟦<HostSystem<R> as System>⟧.folders system.old) self.old
-            → AreOpenedIf (⟦<HostSystem<R> as System>⟧.honest system.new)
-            (⟦<HostSystem<R> as System>⟧.folders system.new) self.new }
-        ensures syncs { unsynced.new.syncs ≡ unsynced.old.syncs }
-        ensures noted { StayNoted unsynced.old unsynced.new }
-    {
-        let mut rest = self.go_back(system, alloc, folder)?;
-        while let Some((name, below)) = next_name(rest) {
-            match self.open_or_make(system, alloc, name, unsynced)? {
-                Below::Folder(opened) => self.step_into(alloc, name, opened)?,
-                Below::Other(_) => return Err(FolderFault::Device(IoReason::Foreign)),
-            }
-            rest = below;
-        }
-        Ok(())
-    }
-
-    /// The folder of this name in the one that was entered last, which is made if nothing has the
-    /// name.
-    fn open_or_make<R: Files<File = File> + AllocGlobal + Clone + Drop>(
-        &self,
-        system: &mut HostSystem<R>,
-        alloc: Global,
-        name: &str,
-        unsynced: &mut Unsynced,
-    ) -> Result<Below, FolderFault>
-        ensures kept { ⟦<HostSystem<R> as System>⟧.holds system.new ≡ ⟦<HostSystem<R> as System>⟧.holds system.old }
-        ensures changes { ⟦<HostSystem<R> as System>⟧.changes system.new
-            ≡ ⟦<HostSystem<R> as System>⟧.changes system.old }
-        ensures grown { IsGrown (⟦<HostSystem<R> as System>⟧.folders system.old)
-            (⟦<HostSystem<R> as System>⟧.folders system.new) }
-        ensures earlier { ⟦<HostSystem<R> as System>⟧.honest system.new
-            → ⟦<HostSystem<R> as System>⟧.honest system.old }
-        ensures opened { ⟦<HostSystem<R> as System>⟧.honest system.new
-            → IsOpenedFrom (⟦<HostSystem<R> as System>⟧.folders system.new) (current_of self.now) name.now result }
-        // A folder that gets a name is noted.
-        ensures made { unsynced.old.syncs ≡ Kept
-            → (⟦<HostSystem<R> as System>⟧.folders system.new ≡ ⟦<HostSystem<R> as System>⟧.folders system.old)
-            ⊎ IsNoted unsynced.new (path_of self.now) }
-        ensures syncs { unsynced.new.syncs ≡ unsynced.old.syncs }
-        ensures noted { StayNoted unsynced.old unsynced.new }
-    {
-        let above = self.current()?;
-        match system.open_below(alloc, above, name)? {
-            Below::Other(Found::Nothing) => {
-                unsynced.note(alloc, self.path())?;
-                system.make_folder(above, name)?;
-                if self.process.is_of_root() {
-                    return open_made_by_root(system, alloc, above, name);
-                }
-                system.open_below(alloc, above, name)
-            }
-            below => Ok(below),
         }
     }
 

@@ -1,11 +1,11 @@
 pub mod BarrierLemmas
 pub mod BatchLemmas
+pub mod Disks
 pub mod EditLemmas
 pub mod FolderLemmas
 pub mod HonestFiles
 pub mod LeftBySyncs
 pub mod NamedLemmas
-pub mod Noted
 pub mod NotedWrites
 pub mod PrunedFolders
 pub mod PutKept

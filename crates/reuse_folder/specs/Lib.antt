@@ -6,6 +6,5 @@ pub mod Honesty
 pub mod JournalOwners
 pub mod OwnerChanges
 pub mod RolledBack
-pub mod RootFolders
 pub mod Rounds
 pub mod Seen

@@ -5,10 +5,10 @@ ghost use Rattle.std.specs.Ordering.{nat_cmp};
 ghost use Rattle.std.specs.Cmp.Lexicographic.{slice_cmp};
 ghost use Rattle.std.proofs.Props.{props};
 ghost use Rattle.reuse_system.specs.Ignored.{is_ignored};
-ghost use Rattle.reuse_system.specs.SystemCalls.{SystemStart};
-ghost use Rattle.reuse_folder.specs.RootFolders.{AreOpenedNow};
+ghost use Rattle.reuse_disk.specs.OpenFolders.{AreOpenedIf};
 
 mod batch;
+mod naming;
 mod reading;
 mod seen;
 mod writing;
@@ -19,24 +19,22 @@ use crate::remembered::Remembered;
 use crate::rolled_back::RolledBack;
 pub use batch::Stop;
 use reuse_change::{Change, PathText, Pruning};
-use reuse_disk::{Listing, MountedFolders, NewFile, OpenFolders, Unsynced};
+use reuse_disk::{DiskSystem, Listing, MountedFolders, NewFile, OpenFolders, Unsynced};
 use reuse_system::fault::FolderFault;
 use reuse_system::ignored::is_ignored;
 use reuse_system::place::{FileStatus, Found, Place, folder_and_name};
 use reuse_system::syncs::Syncs;
-use reuse_system::system::{HostSystem, System};
 use seen::ReadPath;
 use std::alloc::Global;
-use std::fs::File;
-use std::rt::{Env, Files};
+use std::rt::Env;
 use std::time::Duration;
 
 /// The folder that a tree of files lies in. Nothing outside of it is read or written: no link below
 /// it is followed, and each call goes through the open handle of the folder that its path lies in.
 #[derive(Drop)]
-pub struct RootFolder<R: Files<File = File> + AllocGlobal + Clone + Drop> {
+pub struct RootFolder<S: DiskSystem + Drop> {
     /// All calls that change regular files go through it.
-    system: HostSystem<R>,
+    system: S,
     /// The folders that are open.
     open_folders: OpenFolders,
     /// The paths that were read since the last write, in order and up to a bound: a write expects
@@ -54,10 +52,10 @@ pub struct RootFolder<R: Files<File = File> + AllocGlobal + Clone + Drop> {
     passed_over: Vec<String>,
     unsynced: Unsynced,
     ownership: OwnershipPolicy,
-    ghost opened: { AreOpenedNow system.noted open_folders } by { Prim.hlevel props },
+    ghost opened: { AreOpenedIf (S.honest system) (S.folders system) open_folders } by { Prim.hlevel props },
 }
 
-impl<R: Files<File = File> + AllocGlobal + Clone + Drop> RootFolder<R> {
+impl<S: DiskSystem + Drop> RootFolder<S> {
     ghost use Rattle.reuse_folder.specs.FolderReads.{IsPlaceAt, LiesIn};
     ghost use Rattle.reuse_disk.specs.LeftFiles.{ClearsLeft};
     ghost use Rattle.reuse_disk.specs.Noted.{StayNoted};
@@ -66,19 +64,19 @@ impl<R: Files<File = File> + AllocGlobal + Clone + Drop> RootFolder<R> {
     ghost use Rattle.reuse_disk.specs.OpenFolders.{current_of};
     ghost use Rattle.reuse_system.specs.FolderPlaces.{IsNoFile};
     /// The folder at this path, in which what is written is made durable or not.
-    pub fn new(rt: R, root: String, syncs: Syncs, ownership: OwnershipPolicy) -> RootFolder<R>
-        ghost start: { SystemStart }
+    pub fn new(system: S, root: String, syncs: Syncs, ownership: OwnershipPolicy) -> RootFolder<S>
         ensures { result.unsynced.syncs ≡ syncs }
     {
-        let open_folders = OpenFolders::new(rt.alloc(), root, ownership.process());
-        let listed = String::new(rt.alloc());
-        let unsynced = Unsynced::new(rt.alloc(), syncs);
-        let reads = Vec::new(rt.alloc());
-        let remembered = Remembered::nothing(rt.alloc());
-        let mounted = MountedFolders::none(rt.alloc());
-        let passed_over = Vec::new(rt.alloc());
+        let alloc = system.rt().alloc();
+        let open_folders = OpenFolders::new(alloc, root, ownership.process());
+        let listed = String::new(alloc);
+        let unsynced = Unsynced::new(alloc, syncs);
+        let reads = Vec::new(alloc);
+        let remembered = Remembered::nothing(alloc);
+        let mounted = MountedFolders::none(alloc);
+        let passed_over = Vec::new(alloc);
         RootFolder {
-            system: HostSystem::new(rt),
+            system,
             open_folders,
             reads,
             remembered,
@@ -148,21 +146,16 @@ impl<R: Files<File = File> + AllocGlobal + Clone + Drop> RootFolder<R> {
 
     /// What stands at the path. The folder that it lies in is entered, if it is there.
     fn look(&mut self, alloc: Global, path: &PathText) -> Result<Place, FolderFault>
-        ensures kept { ⟦<HostSystem<R> as System>⟧.holds self.new.system
-            ≡ ⟦<HostSystem<R> as System>⟧.holds self.old.system }
-        ensures changes { ⟦<HostSystem<R> as System>⟧.changes self.new.system
-            ≡ ⟦<HostSystem<R> as System>⟧.changes self.old.system }
-        ensures still { ⟦<HostSystem<R> as System>⟧.folders self.new.system
-            ≡ ⟦<HostSystem<R> as System>⟧.folders self.old.system }
-        ensures earlier { ⟦<HostSystem<R> as System>⟧.honest self.new.system
-            → ⟦<HostSystem<R> as System>⟧.honest self.old.system }
+        ensures kept { S.holds self.new.system ≡ S.holds self.old.system }
+        ensures changes { S.changes self.new.system ≡ S.changes self.old.system }
+        ensures still { S.folders self.new.system ≡ S.folders self.old.system }
+        ensures earlier { S.honest self.new.system → S.honest self.old.system }
         ensures remembered { self.new.remembered ≡ self.old.remembered }
-        ensures lies { ⟦<HostSystem<R> as System>⟧.honest self.new.system
-            → IfOk result
-            (LiesIn (⟦<HostSystem<R> as System>⟧.folders self.new.system) path.now (current_of self.new.open_folders)) }
-        ensures seen { ⟦<HostSystem<R> as System>⟧.honest self.new.system
-            → IfOk result (IsPlaceAt (⟦<HostSystem<R> as System>⟧.folders self.new.system)
-            (⟦<HostSystem<R> as System>⟧.holds self.new.system) path.now (current_of self.new.open_folders)) }
+        ensures lies { S.honest self.new.system
+            → IfOk result (LiesIn (S.folders self.new.system) path.now (current_of self.new.open_folders)) }
+        ensures seen { S.honest self.new.system
+            → IfOk result (IsPlaceAt (S.folders self.new.system) (S.holds self.new.system) path.now
+            (current_of self.new.open_folders)) }
         ensures ignored { IsTrue (is_ignored path.now) → result ≡ Ok Place.Other }
     {
         self.look_unless_seen(alloc, path, None)
@@ -175,27 +168,22 @@ impl<R: Files<File = File> + AllocGlobal + Clone + Drop> RootFolder<R> {
         path: &PathText,
         seen: Option<FileStatus>,
     ) -> Result<Place, FolderFault>
-        ensures kept { ⟦<HostSystem<R> as System>⟧.holds self.new.system
-            ≡ ⟦<HostSystem<R> as System>⟧.holds self.old.system }
-        ensures changes { ⟦<HostSystem<R> as System>⟧.changes self.new.system
-            ≡ ⟦<HostSystem<R> as System>⟧.changes self.old.system }
-        ensures still { ⟦<HostSystem<R> as System>⟧.folders self.new.system
-            ≡ ⟦<HostSystem<R> as System>⟧.folders self.old.system }
-        ensures earlier { ⟦<HostSystem<R> as System>⟧.honest self.new.system
-            → ⟦<HostSystem<R> as System>⟧.honest self.old.system }
+        ensures kept { S.holds self.new.system ≡ S.holds self.old.system }
+        ensures changes { S.changes self.new.system ≡ S.changes self.old.system }
+        ensures still { S.folders self.new.system ≡ S.folders self.old.system }
+        ensures earlier { S.honest self.new.system → S.honest self.old.system }
         ensures unsynced { self.new.unsynced ≡ self.old.unsynced }
         ensures new_file { self.new.new_file ≡ self.old.new_file }
         ensures remembered { self.new.remembered ≡ self.old.remembered }
-        ensures lies { ⟦<HostSystem<R> as System>⟧.honest self.new.system
-            → IfOk result
-            (LiesIn (⟦<HostSystem<R> as System>⟧.folders self.new.system) path.now (current_of self.new.open_folders)) }
+        ensures lies { S.honest self.new.system
+            → IfOk result (LiesIn (S.folders self.new.system) path.now (current_of self.new.open_folders)) }
         // What was seen may be another file by now; what is no file is reported as it is.
-        ensures apart { ⟦<HostSystem<R> as System>⟧.honest self.new.system
-            → IfOk result (λ place. IsNoFile place → IsPlaceAt (⟦<HostSystem<R> as System>⟧.folders self.new.system)
-            (⟦<HostSystem<R> as System>⟧.holds self.new.system) path.now (current_of self.new.open_folders) place) }
-        ensures seen { ⟦<HostSystem<R> as System>⟧.honest self.new.system → seen ≡ None
-            → IfOk result (IsPlaceAt (⟦<HostSystem<R> as System>⟧.folders self.new.system)
-            (⟦<HostSystem<R> as System>⟧.holds self.new.system) path.now (current_of self.new.open_folders)) }
+        ensures apart { S.honest self.new.system
+            → IfOk result (λ place. IsNoFile place → IsPlaceAt (S.folders self.new.system)
+            (S.holds self.new.system) path.now (current_of self.new.open_folders) place) }
+        ensures seen { S.honest self.new.system → seen ≡ None
+            → IfOk result (IsPlaceAt (S.folders self.new.system) (S.holds self.new.system) path.now
+            (current_of self.new.open_folders)) }
         ensures ignored { IsTrue (is_ignored path.now) → result ≡ Ok Place.Other }
     {
         if is_ignored(path.text()) {
@@ -290,16 +278,12 @@ impl<R: Files<File = File> + AllocGlobal + Clone + Drop> RootFolder<R> {
     /// Removes the new files that a stopped run has left below mounts, in the folders in which
     /// paths that were read lie, unless the journal was written.
     fn clear_left(&mut self, alloc: Global, rolled_back: RolledBack)
-        ensures clears { ClearsLeft (⟦<HostSystem<R> as System>⟧.honest self.new.system)
-            (⟦<HostSystem<R> as System>⟧.folders self.new.system)
-            (⟦<HostSystem<R> as System>⟧.changes self.old.system) (⟦<HostSystem<R> as System>⟧.changes self.new.system)
-            (⟦<HostSystem<R> as System>⟧.holds self.old.system) (⟦<HostSystem<R> as System>⟧.holds self.new.system) }
-        ensures over { rolled_back.is_over ≡ true
-            → ⟦<HostSystem<R> as System>⟧.changes self.new.system
-            ≡ ⟦<HostSystem<R> as System>⟧.changes self.old.system }
+        ensures clears { ClearsLeft (S.honest self.new.system) (S.folders self.new.system) (S.changes self.old.system)
+            (S.changes self.new.system) (S.holds self.old.system) (S.holds self.new.system) }
+        ensures over { rolled_back.is_over ≡ true → S.changes self.new.system ≡ S.changes self.old.system }
         ensures syncs { self.new.unsynced.syncs ≡ self.old.unsynced.syncs }
         ensures noted { StayNoted self.old.unsynced self.new.unsynced }
-        ensures no_sync { ⟦<HostSystem<R> as System>⟧.synced self.new.system ≡ ⟦<HostSystem<R> as System>⟧.synced self.old.system }
+        ensures no_sync { S.synced self.new.system ≡ S.synced self.old.system }
     {
         if rolled_back.is_over() {
             return;
@@ -321,17 +305,13 @@ impl<R: Files<File = File> + AllocGlobal + Clone + Drop> RootFolder<R> {
         changes: &[Change],
         rolled_back: RolledBack,
     ) -> Result<(), FolderFault>
-        ensures clears { ClearsLeft (⟦<HostSystem<R> as System>⟧.honest self.new.system)
-            (⟦<HostSystem<R> as System>⟧.folders self.new.system)
-            (⟦<HostSystem<R> as System>⟧.changes self.old.system) (⟦<HostSystem<R> as System>⟧.changes self.new.system)
-            (⟦<HostSystem<R> as System>⟧.holds self.old.system) (⟦<HostSystem<R> as System>⟧.holds self.new.system) }
-        ensures over { rolled_back.is_over ≡ true
-            → ⟦<HostSystem<R> as System>⟧.changes self.new.system
-            ≡ ⟦<HostSystem<R> as System>⟧.changes self.old.system }
+        ensures clears { ClearsLeft (S.honest self.new.system) (S.folders self.new.system) (S.changes self.old.system)
+            (S.changes self.new.system) (S.holds self.old.system) (S.holds self.new.system) }
+        ensures over { rolled_back.is_over ≡ true → S.changes self.new.system ≡ S.changes self.old.system }
         // Each folder that is noted, and there, was synced since.
-        ensures synced { self.old.unsynced.syncs ≡ Kept → ⟦<HostSystem<R> as System>⟧.honest self.new.system
-            → IfOk result (λ _. AreSynced self.old.unsynced (⟦<HostSystem<R> as System>⟧.folders self.new.system) (⟦<HostSystem<R> as System>⟧.holds self.new.system)
-            (⟦<HostSystem<R> as System>⟧.synced self.old.system) (⟦<HostSystem<R> as System>⟧.synced self.new.system)) }
+        ensures synced { self.old.unsynced.syncs ≡ Kept → S.honest self.new.system
+            → IfOk result (λ _. AreSynced self.old.unsynced (S.folders self.new.system) (S.holds self.new.system)
+            (S.synced self.old.system) (S.synced self.new.system)) }
     {
         self.clear_left(alloc, rolled_back);
         self.unsynced

@@ -5,13 +5,11 @@ ghost use Rattle.reuse_folder.specs.JournalOwners.{is_of_other, is_journal_of_ot
 ghost use Rattle.reuse_disk.specs.OpenFolders.{AreOpenedIf};
 
 use reuse_change::layout::{ABOVE_JOURNAL, HEAD_NAME, JOURNAL};
-use reuse_disk::OpenFolders;
+use reuse_disk::{DiskSystem, OpenFolders};
 use reuse_system::fault::FolderFault;
 use reuse_system::place::Found;
-use reuse_system::system::{HostSystem, System};
+use reuse_system::system::System;
 use std::alloc::Global;
-use std::fs::File;
-use std::rt::Files;
 
 /// The users to whom the folders of the journal and its head belong, as far as they are there.
 #[derive(Clone, Copy)]
@@ -47,19 +45,17 @@ impl JournalOwners {
 
 /// Whose the journal below the root of these open folders is. Nothing of it is read. What is opened
 /// is what is looked at, and stays open.
-pub fn journal_owners<R: Files<File = File> + AllocGlobal + Drop>(
-    system: &mut HostSystem<R>,
+pub fn journal_owners<S: DiskSystem>(
+    system: &mut S,
     alloc: Global,
     open_folders: &mut OpenFolders,
 ) -> Result<JournalOwners, FolderFault>
-    ensures kept { ⟦<HostSystem<R> as System>⟧.holds system.new ≡ ⟦<HostSystem<R> as System>⟧.holds system.old }
-    ensures changes { ⟦<HostSystem<R> as System>⟧.changes system.new ≡ ⟦<HostSystem<R> as System>⟧.changes system.old }
-    ensures still { ⟦<HostSystem<R> as System>⟧.folders system.new ≡ ⟦<HostSystem<R> as System>⟧.folders system.old }
-    ensures earlier { ⟦<HostSystem<R> as System>⟧.honest system.new → ⟦<HostSystem<R> as System>⟧.honest system.old }
-    ensures opened { AreOpenedIf (⟦<HostSystem<R> as System>⟧.honest system.old)
-        (⟦<HostSystem<R> as System>⟧.folders system.old) open_folders.old
-        → AreOpenedIf (⟦<HostSystem<R> as System>⟧.honest system.new)
-        (⟦<HostSystem<R> as System>⟧.folders system.new) open_folders.new }
+    ensures kept { S.holds system.new ≡ S.holds system.old }
+    ensures changes { S.changes system.new ≡ S.changes system.old }
+    ensures still { S.folders system.new ≡ S.folders system.old }
+    ensures earlier { S.honest system.new → S.honest system.old }
+    ensures opened { AreOpenedIf (S.honest system.old) (S.folders system.old) open_folders.old
+        → AreOpenedIf (S.honest system.new) (S.folders system.new) open_folders.new }
 {
     let above = folder_owner(system, alloc, open_folders, ABOVE_JOURNAL)?;
     let folder = folder_owner(system, alloc, open_folders, JOURNAL)?;

@@ -7,12 +7,12 @@
 //! `folder.sh`, `races.sh`, `syncs.sh`, `owners.sh` and `fail_system_calls.sh` in `tests/`.
 #![tactic(auto)]
 
-ghost use Rattle.std.specs.Prelude.{◌≡◌, ◌≢◌, ◌<◌, ◌+◌, [], IfErr, IfOk, MatchResult, is_ok, length, min, true};
+ghost use Rattle.std.specs.Prelude.{◌≡◌, ◌≢◌, ◌+◌, [], IfOk, MatchResult, is_ok, length, min, true};
 ghost use Rattle.std.specs.FinMap as map;
 ghost use Rattle.reuse_store.specs.Store.{reading_of};
 ghost use Rattle.reuse_folder.specs.FolderReads.{IsReadWith};
 ghost use Rattle.reuse_folder.specs.Barriers.{HasNoted, HaveNoted};
-ghost use Rattle.reuse_folder.specs.Batches.{disk_of, made_of, IsBatch};
+ghost use Rattle.reuse_folder.specs.Batches.{disk_of, IsBatch};
 ghost use Rattle.reuse_folder.specs.FolderWrites.{IsGone, IsPutIn, IsRemovedIn, IsStoredAt, IsTidy};
 ghost use Rattle.reuse_system.specs.declared.place.Identity.{Identity};
 ghost use Rattle.reuse_folder.specs.RolledBack.{foreign_of};
@@ -20,36 +20,35 @@ ghost use Rattle.reuse_folder.specs.Seen.{LoseNoEdits, LosesNoEditAfter};
 ghost use Rattle.reuse_disk.specs.LeftFiles.{ClearsLeft};
 ghost use Rattle.reuse_disk.specs.Synced.{AreSynced};
 ghost use Rattle.reuse_disk.specs.Written.{is_kept};
-ghost use Rattle.reuse_store.specs.Asked.{FailsAsRead, OnlyReads, IsLater, IsPut, IsRemoval, IsWrite, AreWrites};
+ghost use Rattle.reuse_store.specs.Asked.{FailsAsRead, OnlyReads, IsLater, IsPut, IsRemoval, AreWrites};
 ghost use Rattle.reuse_store.specs.Asked.{IsBarrier};
 ghost use Rattle.reuse_change.specs.Parts.{joined};
 ghost use Rattle.reuse_store.specs.Calls.{Start};
 ghost use Rattle.reuse_change.specs.Files.{AreFiles};
-ghost use Rattle.reuse_system.specs.FolderFault.{fault_of_store};
 ghost use Rattle.reuse_folder.specs.Honesty.{files_of, IsHonest};
 
 mod failure;
 mod folder;
 mod journal_owner;
 mod noted_listing;
+mod notes;
 mod ownership;
 mod remembered;
 mod rolled_back;
 
 pub use failure::Failure;
 use failure::LastFailure;
-use folder::{RootFolder, Stop};
+use folder::RootFolder;
 use noted_listing::note_listing;
 pub use ownership::OwnerReport;
 use ownership::OwnershipPolicy;
 use reuse_change::{Change, PathText, Pieces, Pruning};
+use reuse_disk::DiskSystem;
 use reuse_lock::{LockedFolders, RootLock};
-use reuse_store::laws::files_stay_good;
 use reuse_store::{CallRecord, FileWrite, Reading, Store, StoreFault, StoreRequest};
-use reuse_system::fault::FolderFault;
 use reuse_system::owner::{OwnerChange, Process};
 use reuse_system::syncs::Syncs;
-use reuse_system::system::{HostSystem, System};
+use reuse_system::system::HostSystem;
 use rolled_back::RolledBack;
 use std::alloc::Global;
 use std::fs::File;
@@ -63,8 +62,8 @@ use std::time::Duration;
 /// answer is noted as it was given. Of a read, of one put and of a removal it is proved, too, what
 /// stands at the path then. That listings, batches and syncs are made as they are noted is tested.
 #[derive(Drop)]
-pub struct DiskStore<R: Files<File = File> + AllocGlobal + Clone + Drop> {
-    folder: RootFolder<R>,
+pub struct DiskStore<S: DiskSystem + Drop> {
+    folder: RootFolder<S>,
     failure: LastFailure,
     calls: CallRecord,
     rolled_back: RolledBack,
@@ -73,30 +72,40 @@ pub struct DiskStore<R: Files<File = File> + AllocGlobal + Clone + Drop> {
     ghost are_files: { IsHonest calls.start calls.calls → AreFiles (files_of calls.start calls.calls) },
 }
 
-impl<R: Files<File = File> + AllocGlobal + Clone + Drop> DiskStore<R> {
+/// The store of a folder of the system that the program runs on.
+pub type HostStore<R> = DiskStore<HostSystem<R>>;
+
+impl<R: Files<File = File> + AllocGlobal + Clone + Drop> DiskStore<HostSystem<R>> {
     /// The folder that is locked, in which what is written is made durable or not, and files may
     /// lose their owners or not. The system isn't asked for the folder yet, so what it holds is
     /// unknown: for any files the contract gives a store that holds these, and the answers then fit
     /// or don't.
-    pub fn at(rt: R, lock: RootLock, syncs: Syncs, owner_change: OwnerChange) -> DiskStore<R>
+    pub fn at(rt: R, lock: RootLock, syncs: Syncs, owner_change: OwnerChange) -> HostStore<R>
         ghost start: { Start }
-        ensures files { ⟦<DiskStore<R> as Store>⟧.files result ≡ start.files }
-        ensures honest { AreFiles start.files → ⟦<DiskStore<R> as Store>⟧.honest result }
-        ensures failures { ⟦<DiskStore<R> as Store>⟧.failures result ≡ 0 }
-        ensures written { ⟦<DiskStore<R> as Store>⟧.written result ≡ 0 }
-        ensures mutations { ⟦<DiskStore<R> as Store>⟧.mutations result ≡ 0 }
+        ensures files { ⟦<HostStore<R> as Store>⟧.files result ≡ start.files }
+        ensures honest { AreFiles start.files → ⟦<HostStore<R> as Store>⟧.honest result }
+        ensures failures { ⟦<HostStore<R> as Store>⟧.failures result ≡ 0 }
+        ensures written { ⟦<HostStore<R> as Store>⟧.written result ≡ 0 }
+        ensures mutations { ⟦<HostStore<R> as Store>⟧.mutations result ≡ 0 }
     {
         let (root, lock) = lock.into_parts();
         let ownership = OwnershipPolicy::new(Process::current(&rt, rt.alloc()), owner_change);
         DiskStore {
-            folder: RootFolder::new(rt, root, syncs, ownership),
+            folder: RootFolder::new(host_system(rt), root, syncs, ownership),
             failure: LastFailure::none(),
             calls: CallRecord::new(),
             rolled_back: RolledBack::nothing(),
             lock,
         }
     }
+}
 
+/// The system that the program runs on. Of what its names lead to nothing is claimed.
+fn host_system<R: Files<File = File> + AllocGlobal + Clone + Drop>(rt: R) -> HostSystem<R> {
+    HostSystem::new(rt)
+}
+
+impl<S: DiskSystem + Drop> DiskStore<S> {
     /// Whether the journal belongs to another user than the process. If that can't be seen, it
     /// isn't reported here: opening the journal fails.
     pub fn is_journal_of_other(&mut self, alloc: Global) -> bool {
@@ -174,119 +183,13 @@ impl<R: Files<File = File> + AllocGlobal + Clone + Drop> DiskStore<R> {
         self.folder.passed_over()
     }
 
-    // Notes that the path was to be made these parts joined, and the answer.
-    fn note_put(
-        &mut self,
-        alloc: Global,
-        path: &PathText,
-        parts: Pieces,
-        answer: Result<(), FolderFault>,
-    ) -> Result<(), StoreFault>
-        ensures puts { IsPut ⟦<DiskStore<R> as Store>⟧ path.now (joined parts.entry) self.old self.new result }
-        ensures later { IsLater ⟦<DiskStore<R> as Store>⟧ self.old self.new }
-        ensures folder { self.new.folder ≡ self.old.folder }
-        ensures done { is_ok result ≡ is_ok answer }
-        ensures ok { answer ≡ Ok tt → result ≡ Ok tt }
-        ensures fails { IfErr answer (λ fault. result ≡ Err (fault_of_store fault)) }
-    {
-        files_stay_good();
-        self.rolled_back.note(path.text(), answer.is_ok());
-        self.failure
-            .note(alloc, StoreRequest::Write, path.text(), &answer);
-        let answer = answer.map_err(StoreFault::from);
-        self.calls.note_put_parts(path, parts, &answer);
-        answer
-    }
-
-    // Notes that the path's file was to be removed, and the answer.
-    fn note_removal(
-        &mut self,
-        alloc: Global,
-        path: &PathText,
-        answer: Result<(), FolderFault>,
-    ) -> Result<(), StoreFault>
-        ensures removes { IsRemoval ⟦<DiskStore<R> as Store>⟧ path.now self.old self.new result }
-        ensures later { IsLater ⟦<DiskStore<R> as Store>⟧ self.old self.new }
-        ensures folder { self.new.folder ≡ self.old.folder }
-        ensures done { is_ok result ≡ is_ok answer }
-        ensures ok { answer ≡ Ok tt → result ≡ Ok tt }
-        ensures fails { IfErr answer (λ fault. result ≡ Err (fault_of_store fault)) }
-    {
-        files_stay_good();
-        self.rolled_back.note(path.text(), answer.is_ok());
-        self.failure
-            .note(alloc, StoreRequest::Remove, path.text(), &answer);
-        let answer = answer.map_err(StoreFault::from);
-        self.calls.note_remove(path, &answer);
-        answer
-    }
-
-    // Notes one write and the answer.
-    fn note_write(
-        &mut self,
-        alloc: Global,
-        write: &FileWrite,
-        answer: Result<(), FolderFault>,
-    ) -> Result<(), StoreFault>
-        ensures write { IsWrite ⟦<DiskStore<R> as Store>⟧ write.now.path.now write.now.file self.old self.new result }
-        ensures mutations { ⟦<DiskStore<R> as Store>⟧.mutations self.new
-            ≡ ⟦<DiskStore<R> as Store>⟧.mutations self.old + 1 }
-        ensures folder { self.new.folder ≡ self.old.folder }
-        ensures ok { answer ≡ Ok tt → result ≡ Ok tt }
-        ensures fails { IfErr answer (λ fault. result ≡ Err (fault_of_store fault)) }
-    {
-        match write.file {
-            Some(parts) => self.note_put(alloc, write.path, parts, answer),
-            None => self.note_removal(alloc, write.path, answer),
-        }
-    }
-
-    // Notes writes that were made.
-    fn note_made(&mut self, alloc: Global, writes: &[FileWrite])
-        ensures writes { AreWrites ⟦<DiskStore<R> as Store>⟧ writes.now self.old self.new (Ok tt) }
-        ensures mutations { ⟦<DiskStore<R> as Store>⟧.mutations self.new
-            ≡ ⟦<DiskStore<R> as Store>⟧.mutations self.old + length writes.now }
-        ensures folder { self.new.folder ≡ self.old.folder }
-    {
-        for write in writes {
-            let _ = self.note_write(alloc, write, Ok(()));
-        }
-    }
-
-    // Notes writes that were asked for together, and the answer: each that was made, and the one
-    // that has failed.
-    fn note_writes(
-        &mut self,
-        alloc: Global,
-        writes: &[FileWrite],
-        answer: Result<(), Stop>,
-    ) -> Result<(), StoreFault>
-        requires { IfErr answer (λ stop. stop.made < length writes.now) }
-        ensures writes { AreWrites ⟦<DiskStore<R> as Store>⟧ writes.now self.old self.new result }
-        ensures mutations { ⟦<DiskStore<R> as Store>⟧.mutations self.new ≡ ⟦<DiskStore<R> as Store>⟧.mutations
-            self.old + min (made_of (length writes.now) answer + 1) (length writes.now) }
-        ensures folder { self.new.folder ≡ self.old.folder }
-        ensures done { is_ok result ≡ is_ok answer }
-    {
-        match answer {
-            Ok(()) => {
-                self.note_made(alloc, writes);
-                Ok(())
-            }
-            Err(stop) => {
-                self.note_made(alloc, &writes[..stop.made]);
-                self.note_write(alloc, &writes[stop.made], Err(stop.fault))
-            }
-        }
-    }
-
     /// The last call that failed, where one did since the last asking.
     pub fn take_failure(&mut self) -> Option<Failure> {
         self.failure.take()
     }
 }
 
-impl<R: Files<File = File> + AllocGlobal + Clone + Drop> Store for DiskStore<R> {
+impl<S: DiskSystem + Drop> Store for DiskStore<S> {
     ghost use Rattle.reuse_store.specs.Calls.{failures_of, written_of, mutations_of};
     ghost use Rattle.reuse_folder.specs.Honesty.{files_of, files_are_a_crash_state, IsHonest, IsCrashState};
 
@@ -317,21 +220,21 @@ impl<R: Files<File = File> + AllocGlobal + Clone + Drop> Store for DiskStore<R> 
     }
 
     fn read(&mut self, alloc: Global, path: &PathText, limit: usize) -> Result<Reading, StoreFault>
-        ensures kept { ⟦<DiskStore<R> as Store>⟧.honest self.old
+        ensures kept { ⟦<DiskStore<S> as Store>⟧.honest self.old
             → MatchResult result
-            (λ reading. reading ≡ reading_of (map.get (⟦<DiskStore<R> as Store>⟧.files self.old) path.now) limit
-            → ⟦<DiskStore<R> as Store>⟧.honest self.new)
-            (λ fault. fault ≢ StoreFault.Clash → ⟦<DiskStore<R> as Store>⟧.honest self.new) }
-        ensures reading { ⟦<DiskStore<R> as Store>⟧.honest self.new → IfOk result
-            (λ reading. reading ≡ reading_of (map.get (⟦<DiskStore<R> as Store>⟧.files self.old) path.now) limit) }
-        ensures fails { FailsAsRead ⟦<DiskStore<R> as Store>⟧ self.old self.new result }
-        ensures reads { OnlyReads ⟦<DiskStore<R> as Store>⟧ self.old self.new }
-        // What is read is what the file at the path holds on the disk, if none is remembered.
-        ensures read { ⟦<HostSystem<R> as System>⟧.honest self.new.folder.system
-            → self.old.folder.remembered.files.items ≡ []
+            (λ reading. reading ≡ reading_of (map.get (⟦<DiskStore<S> as Store>⟧.files self.old) path.now) limit
+            → ⟦<DiskStore<S> as Store>⟧.honest self.new) (λ fault. fault ≢ StoreFault.Clash
+            → ⟦<DiskStore<S> as Store>⟧.honest self.new) }
+        ensures reading { ⟦<DiskStore<S> as Store>⟧.honest self.new
             → IfOk result
-            (IsReadWith (foreign_of self.old.rolled_back) (⟦<HostSystem<R> as System>⟧.folders self.new.folder.system)
-            (⟦<HostSystem<R> as System>⟧.holds self.new.folder.system) path.now limit) }
+            (λ reading. reading ≡ reading_of (map.get (⟦<DiskStore<S> as Store>⟧.files self.old) path.now)
+            limit) }
+        ensures fails { FailsAsRead ⟦<DiskStore<S> as Store>⟧ self.old self.new result }
+        ensures reads { OnlyReads ⟦<DiskStore<S> as Store>⟧ self.old self.new }
+        // What is read is what the file at the path holds on the disk, if none is remembered.
+        ensures read { S.honest self.new.folder.system → self.old.folder.remembered.files.items ≡ []
+            → IfOk result (IsReadWith (foreign_of self.old.rolled_back) (S.folders self.new.folder.system)
+            (S.holds self.new.folder.system) path.now limit) }
     {
         let foreign = self.rolled_back.foreign();
         let answer = self.folder.read_with(alloc, path, limit, foreign);
@@ -343,77 +246,66 @@ impl<R: Files<File = File> + AllocGlobal + Clone + Drop> Store for DiskStore<R> 
     }
 
     fn put_parts(&mut self, alloc: Global, path: &PathText, parts: Pieces) -> Result<(), StoreFault>
-        ensures puts { IsPut ⟦<DiskStore<R> as Store>⟧ path.now (joined parts.entry) self.old self.new result }
-        ensures later { IsLater ⟦<DiskStore<R> as Store>⟧ self.old self.new }
+        ensures puts { IsPut ⟦<DiskStore<S> as Store>⟧ path.now (joined parts.entry) self.old self.new result }
+        ensures later { IsLater ⟦<DiskStore<S> as Store>⟧ self.old self.new }
         // On the disk the file at the path has these bytes, and nothing else differs.
-        ensures stands { ⟦<HostSystem<R> as System>⟧.honest self.new.folder.system
-            → IfOk result (λ _. IsStoredAt (⟦<HostSystem<R> as System>⟧.folders self.new.folder.system)
-            (⟦<HostSystem<R> as System>⟧.holds self.new.folder.system) path.now (joined parts.entry)
-            (is_kept self.old.folder.unsynced.syncs)) }
-        ensures place { ⟦<HostSystem<R> as System>⟧.honest self.new.folder.system
-            → (new_files : Identity) × IsPutIn new_files (⟦<HostSystem<R> as System>⟧.folders self.new.folder.system)
-            path.now (joined parts.entry) (is_kept self.old.folder.unsynced.syncs)
-            (⟦<HostSystem<R> as System>⟧.holds self.old.folder.system)
-            (⟦<HostSystem<R> as System>⟧.holds self.new.folder.system) (is_ok result)
-            × IsTidy new_files (⟦<HostSystem<R> as System>⟧.holds self.old.folder.system)
-            (⟦<HostSystem<R> as System>⟧.holds self.new.folder.system) (is_ok result) }
+        ensures stands { S.honest self.new.folder.system
+            → IfOk result (λ _. IsStoredAt (S.folders self.new.folder.system) (S.holds self.new.folder.system)
+            path.now (joined parts.entry) (is_kept self.old.folder.unsynced.syncs)) }
+        ensures place { S.honest self.new.folder.system
+            → (new_files : Identity) × IsPutIn new_files (S.folders self.new.folder.system) path.now
+            (joined parts.entry) (is_kept self.old.folder.unsynced.syncs) (S.holds self.old.folder.system)
+            (S.holds self.new.folder.system) (is_ok result)
+            × IsTidy new_files (S.holds self.old.folder.system) (S.holds self.new.folder.system) (is_ok result) }
         // The folder above the path is noted for the next barrier, if that got or lost a file.
         ensures noted { self.old.folder.unsynced.syncs ≡ Syncs.Kept
-            → HasNoted self.new.folder.unsynced path.now (⟦<HostSystem<R> as System>⟧.changes self.old.folder.system)
-            (⟦<HostSystem<R> as System>⟧.changes self.new.folder.system) }
+            → HasNoted self.new.folder.unsynced path.now (S.changes self.old.folder.system)
+            (S.changes self.new.folder.system) }
         // The file at the path stays if it isn't what was read there.
-        ensures keeps_edits { LosesNoEditAfter self.old.folder.reads.items path.now
-            (⟦<HostSystem<R> as System>⟧.changes self.old.folder.system)
-            (⟦<HostSystem<R> as System>⟧.changes self.new.folder.system)
-            (⟦<HostSystem<R> as System>⟧.holds self.old.folder.system)
-            (⟦<HostSystem<R> as System>⟧.holds self.new.folder.system) }
+        ensures keeps_edits { LosesNoEditAfter self.old.folder.reads.items path.now (S.changes self.old.folder.system)
+            (S.changes self.new.folder.system) (S.holds self.old.folder.system) (S.holds self.new.folder.system) }
     {
         let answer = self.folder.put(alloc, path, parts);
         self.note_put(alloc, path, parts, answer)
     }
 
     fn remove(&mut self, alloc: Global, path: &PathText) -> Result<(), StoreFault>
-        ensures removes { IsRemoval ⟦<DiskStore<R> as Store>⟧ path.now self.old self.new result }
-        ensures later { IsLater ⟦<DiskStore<R> as Store>⟧ self.old self.new }
+        ensures removes { IsRemoval ⟦<DiskStore<S> as Store>⟧ path.now self.old self.new result }
+        ensures later { IsLater ⟦<DiskStore<S> as Store>⟧ self.old self.new }
         // On the disk no file is at the path, and nothing else differs.
-        ensures gone { ⟦<HostSystem<R> as System>⟧.honest self.new.folder.system
-            → IfOk result (λ _. IsGone (⟦<HostSystem<R> as System>⟧.folders self.new.folder.system)
-            (⟦<HostSystem<R> as System>⟧.holds self.new.folder.system) path.now) }
-        ensures place { ⟦<HostSystem<R> as System>⟧.honest self.new.folder.system
-            → IsRemovedIn (⟦<HostSystem<R> as System>⟧.folders self.new.folder.system) path.now
-            (⟦<HostSystem<R> as System>⟧.holds self.old.folder.system)
-            (⟦<HostSystem<R> as System>⟧.holds self.new.folder.system) }
+        ensures gone { S.honest self.new.folder.system
+            → IfOk result (λ _. IsGone (S.folders self.new.folder.system) (S.holds self.new.folder.system)
+            path.now) }
+        ensures place { S.honest self.new.folder.system
+            → IsRemovedIn (S.folders self.new.folder.system) path.now (S.holds self.old.folder.system)
+            (S.holds self.new.folder.system) }
         // The folder above the path is noted for the next barrier, if that got or lost a file.
         ensures noted { self.old.folder.unsynced.syncs ≡ Syncs.Kept
-            → HasNoted self.new.folder.unsynced path.now (⟦<HostSystem<R> as System>⟧.changes self.old.folder.system)
-            (⟦<HostSystem<R> as System>⟧.changes self.new.folder.system) }
+            → HasNoted self.new.folder.unsynced path.now (S.changes self.old.folder.system)
+            (S.changes self.new.folder.system) }
         // The file at the path stays if it isn't what was read there.
-        ensures keeps_edits { LosesNoEditAfter self.old.folder.reads.items path.now
-            (⟦<HostSystem<R> as System>⟧.changes self.old.folder.system)
-            (⟦<HostSystem<R> as System>⟧.changes self.new.folder.system)
-            (⟦<HostSystem<R> as System>⟧.holds self.old.folder.system)
-            (⟦<HostSystem<R> as System>⟧.holds self.new.folder.system) }
+        ensures keeps_edits { LosesNoEditAfter self.old.folder.reads.items path.now (S.changes self.old.folder.system)
+            (S.changes self.new.folder.system) (S.holds self.old.folder.system) (S.holds self.new.folder.system) }
     {
         let answer = self.folder.remove(alloc, path);
         self.note_removal(alloc, path, answer)
     }
 
     fn write_all(&mut self, alloc: Global, writes: &[FileWrite]) -> Result<(), StoreFault>
-        ensures writes { AreWrites ⟦<DiskStore<R> as Store>⟧ writes.now self.old self.new result }
+        ensures writes { AreWrites ⟦<DiskStore<S> as Store>⟧ writes.now self.old self.new result }
         // On the disk as many of the writes are made as are noted, each as a single one is.
-        ensures made { ⟦<HostSystem<R> as System>⟧.honest self.new.folder.system
-            → (batch : IsBatch (is_kept self.old.folder.unsynced.syncs) writes.now (disk_of ⟦<HostSystem<R> as System>⟧
-            self.old.folder.system) (disk_of ⟦<HostSystem<R> as System>⟧ self.new.folder.system) (is_ok result))
-            × (⟦<DiskStore<R> as Store>⟧.mutations self.new ≡ ⟦<DiskStore<R> as Store>⟧.mutations self.old + min
-            (batch.made + 1) (length writes.now)) }
+        ensures made { S.honest self.new.folder.system
+            → (batch : IsBatch (is_kept self.old.folder.unsynced.syncs) writes.now
+            (disk_of S.System self.old.folder.system) (disk_of S.System self.new.folder.system) (is_ok result))
+            × (⟦<DiskStore<S> as Store>⟧.mutations self.new ≡ ⟦<DiskStore<S> as Store>⟧.mutations self.old
+            + min (batch.made + 1) (length writes.now)) }
         // The folder above each path that got or lost a file is noted for the next barrier.
         ensures noted { self.old.folder.unsynced.syncs ≡ Syncs.Kept
-            → HaveNoted self.new.folder.unsynced writes.now (⟦<HostSystem<R> as System>⟧.changes self.old.folder.system)
-            (⟦<HostSystem<R> as System>⟧.changes self.new.folder.system) }
+            → HaveNoted self.new.folder.unsynced writes.now (S.changes self.old.folder.system)
+            (S.changes self.new.folder.system) }
         // No path changes at which something else stands than was read there.
-        ensures keeps_edits { LoseNoEdits self.old.folder.reads.items writes.now
-            (⟦<HostSystem<R> as System>⟧.changes self.old.folder.system)
-            (⟦<HostSystem<R> as System>⟧.changes self.new.folder.system) }
+        ensures keeps_edits { LoseNoEdits self.old.folder.reads.items writes.now (S.changes self.old.folder.system)
+            (S.changes self.new.folder.system) }
     {
         if writes.is_empty() {
             return Ok(());
@@ -423,25 +315,20 @@ impl<R: Files<File = File> + AllocGlobal + Clone + Drop> Store for DiskStore<R> 
     }
 
     fn sync(&mut self, alloc: Global, changes: &[Change]) -> Result<(), StoreFault>
-        ensures barrier { IsBarrier ⟦<DiskStore<R> as Store>⟧ changes.now self.old self.new result }
-        ensures fails { FailsAsRead ⟦<DiskStore<R> as Store>⟧ self.old self.new result }
-        ensures reads { OnlyReads ⟦<DiskStore<R> as Store>⟧ self.old self.new }
+        ensures barrier { IsBarrier ⟦<DiskStore<S> as Store>⟧ changes.now self.old self.new result }
+        ensures fails { FailsAsRead ⟦<DiskStore<S> as Store>⟧ self.old self.new result }
+        ensures reads { OnlyReads ⟦<DiskStore<S> as Store>⟧ self.old self.new }
         // On the disk nothing differs but new files that a stopped run of this journal has left
         // below mounts, and no name changes but theirs. Once the journal was written, none does.
-        ensures clears { ClearsLeft (⟦<HostSystem<R> as System>⟧.honest self.new.folder.system)
-            (⟦<HostSystem<R> as System>⟧.folders self.new.folder.system)
-            (⟦<HostSystem<R> as System>⟧.changes self.old.folder.system)
-            (⟦<HostSystem<R> as System>⟧.changes self.new.folder.system)
-            (⟦<HostSystem<R> as System>⟧.holds self.old.folder.system)
-            (⟦<HostSystem<R> as System>⟧.holds self.new.folder.system) }
+        ensures clears { ClearsLeft (S.honest self.new.folder.system) (S.folders self.new.folder.system)
+            (S.changes self.old.folder.system) (S.changes self.new.folder.system) (S.holds self.old.folder.system)
+            (S.holds self.new.folder.system) }
         ensures over { self.old.rolled_back.is_over ≡ true
-            → ⟦<HostSystem<R> as System>⟧.changes self.new.folder.system
-            ≡ ⟦<HostSystem<R> as System>⟧.changes self.old.folder.system }
+            → S.changes self.new.folder.system ≡ S.changes self.old.folder.system }
         // Each folder that is noted, and there, was synced since the barrier began, if it succeeds.
-        ensures synced { self.old.folder.unsynced.syncs ≡ Syncs.Kept → ⟦<HostSystem<R> as System>⟧.honest self.new.folder.system
-            → IfOk result (λ _. AreSynced self.old.folder.unsynced (⟦<HostSystem<R> as System>⟧.folders self.new.folder.system)
-            (⟦<HostSystem<R> as System>⟧.holds self.new.folder.system) (⟦<HostSystem<R> as System>⟧.synced self.old.folder.system)
-            (⟦<HostSystem<R> as System>⟧.synced self.new.folder.system)) }
+        ensures synced { self.old.folder.unsynced.syncs ≡ Syncs.Kept → S.honest self.new.folder.system
+            → IfOk result (λ _. AreSynced self.old.folder.unsynced (S.folders self.new.folder.system)
+            (S.holds self.new.folder.system) (S.synced self.old.folder.system) (S.synced self.new.folder.system)) }
     {
         let answer = self.folder.sync(alloc, changes, self.rolled_back);
         self.failure

@@ -1,35 +1,33 @@
 //! Writing several files at once. All are written to temporary files before the data of the first
 //! is synced, so that the system syncs them together; then each is given its name, in order.
-ghost use Rattle.std.specs.Prelude.{◌≡◌, ◌<◌, ◌≤◌, ℕ, List, [], ◌∷◌, ◌++◌, false, is_ok, IfErr, IfOk, IsTrue};
-ghost use Rattle.std.specs.Prelude.{MatchResult, length};
+ghost use Rattle.std.specs.Prelude.{◌≡◌, ◌<◌, ◌≤◌, [], ◌∷◌, ◌++◌, is_ok, IfErr, IfOk, IsTrue};
+ghost use Rattle.std.specs.Prelude.{length};
 ghost use Rattle.std.specs.List.{All};
-ghost use Rattle.reuse_system.specs.TempFiles.{place_of, key_of, IsNewIn};
+ghost use Rattle.reuse_system.specs.TempFiles.{place_of, IsNewIn};
 ghost use Rattle.reuse_system.specs.NameChanges.{OnlyChanges};
-ghost use Rattle.reuse_system.specs.SystemLaws.{IsAlikeBut, IsAlikeButFile, IsAlikeUnless};
+ghost use Rattle.reuse_system.specs.SystemLaws.{IsAlikeBut, IsAlikeUnless};
 ghost use Rattle.reuse_system.specs.declared.place.Identity.{Identity};
 ghost use Rattle.reuse_system.specs.declared.syncs.Syncs.TheVariants.{Kept};
 ghost use Rattle.reuse_change.specs.Parts.{joined};
 ghost use Rattle.reuse_disk.specs.Noted.{StayNoted};
-ghost use Rattle.reuse_disk.specs.Written.{is_kept, IsSyncedIf};
-ghost use Rattle.reuse_folder.specs.Barriers.{AreNotedAbove, HasNoted, HaveNoted, IsNotedAbove};
+ghost use Rattle.reuse_disk.specs.Written.{is_kept};
+ghost use Rattle.reuse_folder.specs.Barriers.{AreNotedAbove, HaveNoted, IsNotedAbove};
 ghost use Rattle.reuse_folder.specs.Batches.{disk_of, made_of, BeginsWithFile, IsBatch};
-ghost use Rattle.reuse_folder.specs.Rounds.{new_place, AreApart, AreTempFile, AreBegun, AreNamed, HavePlaces, IsAdded};
-ghost use Rattle.reuse_folder.specs.Rounds.{IsNamed, IsNumbered, IsRound, IsRoundOf, StandsTempFile};
+ghost use Rattle.reuse_folder.specs.Rounds.{new_place, AreBegun, IsAdded};
+ghost use Rattle.reuse_folder.specs.Rounds.{IsRound, IsRoundOf};
 ghost use Rattle.reuse_folder.specs.Seen.{AreKnown, IsKnownTempFile, IsNewFile, IsSeenBefore, LoseNoEdits};
 ghost use Rattle.reuse_folder.specs.declared.folder.seen.ReadPath.{ReadPath};
 
 use super::RootFolder;
 use super::seen::{Expected, ReadPath, expected_at};
 use reuse_change::{PathText, Pieces};
-use reuse_disk::{Content, NewFile, Target, name_temp_file};
+use reuse_disk::{Content, DiskSystem, NewFile};
 use reuse_store::FileWrite;
 use reuse_system::fault::FolderFault;
 use reuse_system::place::{FileStatus, folder_and_name};
-use reuse_system::system::{HostSystem, System, TempFile};
+use reuse_system::system::{System, TempFile};
 use std::alloc::Global;
-use std::fs::File;
 use std::mem;
-use std::rt::Files;
 
 /// Why writes stopped, and how many were made before.
 #[derive(Clone, Copy)]
@@ -39,7 +37,7 @@ pub struct Stop {
 }
 
 impl Stop {
-    fn at_first(fault: FolderFault) -> Stop
+    pub(super) fn at_first(fault: FolderFault) -> Stop
         ensures { result.made ≡ 0 }
     {
         Stop { made: 0, fault }
@@ -87,9 +85,9 @@ impl Seen {
 /// A temporary file that is written, and what is to stand at its path directly before it gets its
 /// name.
 #[derive(Drop)]
-struct NewContent {
-    temp_file: TempFile,
-    seen: Option<FileStatus>,
+pub(super) struct NewContent {
+    pub(super) temp_file: TempFile,
+    pub(super) seen: Option<FileStatus>,
 }
 
 /// New temporary files that are written, in the order of their writes, and the folder of new files.
@@ -100,7 +98,7 @@ struct Round {
 }
 
 /// Removes new files that get no name.
-fn remove_all<S: System>(system: &mut S, temp_files: &[NewContent])
+pub(super) fn remove_all<S: System>(system: &mut S, temp_files: &[NewContent])
     ensures others { (new_files : Identity) → All (λ one. IsNewIn new_files (place_of one.temp_file)) temp_files.now
         → IsAlikeUnless (IsNewIn new_files) (S.holds system.old) (S.holds system.new) }
     ensures still { S.folders system.new ≡ S.folders system.old }
@@ -114,7 +112,7 @@ fn remove_all<S: System>(system: &mut S, temp_files: &[NewContent])
     }
 }
 
-impl<R: Files<File = File> + AllocGlobal + Clone + Drop> RootFolder<R> {
+impl<S: DiskSystem + Drop> RootFolder<S> {
     /// Makes each path hold what it is given, one after the other, up to the first that fails. New
     /// files that follow on each other are all written to temporary files before the data of the
     /// first is synced: so the system syncs them together.
@@ -122,18 +120,15 @@ impl<R: Files<File = File> + AllocGlobal + Clone + Drop> RootFolder<R> {
         ensures stop { IfErr result (λ stop. stop.made < length writes.now) }
         // The disk is as single writes make it, one after the other. If all were made, no new file
         // is left.
-        ensures made { ⟦<HostSystem<R> as System>⟧.honest self.new.system
-            → (batch : IsBatch (is_kept self.old.unsynced.syncs) writes.now (disk_of ⟦<HostSystem<R> as System>⟧
-            self.old.system) (disk_of ⟦<HostSystem<R> as System>⟧ self.new.system) (is_ok result))
-            × (batch.made ≡ made_of (length writes.now) result) }
+        ensures made { S.honest self.new.system
+            → (batch : IsBatch (is_kept self.old.unsynced.syncs) writes.now (disk_of S.System self.old.system)
+            (disk_of S.System self.new.system) (is_ok result)) × (batch.made ≡ made_of (length writes.now) result) }
         // The folder above each path that got or lost a file is noted for the next barrier.
         ensures noted { self.old.unsynced.syncs ≡ Kept
-            → HaveNoted self.new.unsynced writes.now (⟦<HostSystem<R> as System>⟧.changes self.old.system)
-            (⟦<HostSystem<R> as System>⟧.changes self.new.system) }
+            → HaveNoted self.new.unsynced writes.now (S.changes self.old.system) (S.changes self.new.system) }
         // No path changes at which something else stands than was read there.
-        ensures keeps_edits { LoseNoEdits self.old.reads.items writes.now
-            (⟦<HostSystem<R> as System>⟧.changes self.old.system)
-            (⟦<HostSystem<R> as System>⟧.changes self.new.system) }
+        ensures keeps_edits { LoseNoEdits self.old.reads.items writes.now (S.changes self.old.system)
+            (S.changes self.new.system) }
     {
         let reads = mem::replace(&mut self.reads, Vec::new(alloc));
         let mut seen = Seen::before(reads, writes.first());
@@ -160,20 +155,16 @@ impl<R: Files<File = File> + AllocGlobal + Clone + Drop> RootFolder<R> {
         requires { 0 < length writes.now }
         ensures some { IfOk result (λ count. (0 < count) × (count ≤ length writes.now)) }
         ensures stop { IfErr result (λ stop. stop.made < length writes.now) }
-        ensures made { ⟦<HostSystem<R> as System>⟧.honest self.new.system
+        ensures made { S.honest self.new.system
             → IsRound (is_kept self.old.unsynced.syncs) writes.now self.old.new_file self.new.new_file
-            (disk_of ⟦<HostSystem<R> as System>⟧ self.old.system)
-            (disk_of ⟦<HostSystem<R> as System>⟧ self.new.system) result }
+            (disk_of S.System self.old.system) (disk_of S.System self.new.system) result }
         ensures syncs { self.new.unsynced.syncs ≡ self.old.unsynced.syncs }
         ensures stay_noted { StayNoted self.old.unsynced self.new.unsynced }
         ensures noted { self.old.unsynced.syncs ≡ Kept
-            → HaveNoted self.new.unsynced writes.now (⟦<HostSystem<R> as System>⟧.changes self.old.system)
-            (⟦<HostSystem<R> as System>⟧.changes self.new.system) }
-        ensures earlier { ⟦<HostSystem<R> as System>⟧.honest self.new.system
-            → ⟦<HostSystem<R> as System>⟧.honest self.old.system }
-        ensures keeps_edits { LoseNoEdits seen.old.reads.items writes.now
-            (⟦<HostSystem<R> as System>⟧.changes self.old.system)
-            (⟦<HostSystem<R> as System>⟧.changes self.new.system) }
+            → HaveNoted self.new.unsynced writes.now (S.changes self.old.system) (S.changes self.new.system) }
+        ensures earlier { S.honest self.new.system → S.honest self.old.system }
+        ensures keeps_edits { LoseNoEdits seen.old.reads.items writes.now (S.changes self.old.system)
+            (S.changes self.new.system) }
         ensures reads { seen.new.reads ≡ seen.old.reads }
     {
         let write = &writes[0];
@@ -208,17 +199,14 @@ impl<R: Files<File = File> + AllocGlobal + Clone + Drop> RootFolder<R> {
         seen: &mut Seen,
     ) -> Result<Round, FolderFault>
         requires { BeginsWithFile writes.now }
-        ensures round { IsRoundOf (⟦<HostSystem<R> as System>⟧.honest self.new.system) writes.now self.old.new_file
-            (⟦<HostSystem<R> as System>⟧.holds self.old.system)
-            (⟦<HostSystem<R> as System>⟧.holds self.new.system) result }
+        ensures round { IsRoundOf (S.honest self.new.system) writes.now self.old.new_file (S.holds self.old.system)
+            (S.holds self.new.system) result }
         ensures syncs { self.new.unsynced.syncs ≡ self.old.unsynced.syncs }
         ensures stay_noted { StayNoted self.old.unsynced self.new.unsynced }
         ensures above { self.old.unsynced.syncs ≡ Kept
             → IfOk result (λ round. AreNotedAbove self.new.unsynced writes.now (length round.temp_files.items)) }
-        ensures earlier { ⟦<HostSystem<R> as System>⟧.honest self.new.system
-            → ⟦<HostSystem<R> as System>⟧.honest self.old.system }
-        ensures changes { OnlyChanges IsNewFile (⟦<HostSystem<R> as System>⟧.changes self.old.system)
-            (⟦<HostSystem<R> as System>⟧.changes self.new.system) }
+        ensures earlier { S.honest self.new.system → S.honest self.old.system }
+        ensures changes { OnlyChanges IsNewFile (S.changes self.old.system) (S.changes self.new.system) }
         ensures known { IfOk result (λ round. AreKnown seen.old.reads.items writes.now round.temp_files.items) }
         ensures reads { seen.new.reads ≡ seen.old.reads }
     {
@@ -247,18 +235,15 @@ impl<R: Files<File = File> + AllocGlobal + Clone + Drop> RootFolder<R> {
     ) -> Result<(), FolderFault>
         requires { round.old.temp_files.items ≡ [] }
         ensures folder { round.new.new_file.folder ≡ round.old.new_file.folder }
-        ensures begun { AreBegun (⟦<HostSystem<R> as System>⟧.honest self.new.system × IsTrue (is_ok result))
-            round.old.new_file.folder.identity writes.now round.new.temp_files.items
-            (⟦<HostSystem<R> as System>⟧.holds self.old.system) (⟦<HostSystem<R> as System>⟧.holds self.new.system) }
+        ensures begun { AreBegun (S.honest self.new.system × IsTrue (is_ok result)) round.old.new_file.folder.identity
+            writes.now round.new.temp_files.items (S.holds self.old.system) (S.holds self.new.system) }
         ensures some { BeginsWithFile writes.now → IfOk result (λ _. 0 < length round.new.temp_files.items) }
         ensures syncs { self.new.unsynced.syncs ≡ self.old.unsynced.syncs }
         ensures stay_noted { StayNoted self.old.unsynced self.new.unsynced }
         ensures above { self.old.unsynced.syncs ≡ Kept
             → AreNotedAbove self.new.unsynced writes.now (length round.new.temp_files.items) }
-        ensures earlier { ⟦<HostSystem<R> as System>⟧.honest self.new.system
-            → ⟦<HostSystem<R> as System>⟧.honest self.old.system }
-        ensures changes { OnlyChanges IsNewFile (⟦<HostSystem<R> as System>⟧.changes self.old.system)
-            (⟦<HostSystem<R> as System>⟧.changes self.new.system) }
+        ensures earlier { S.honest self.new.system → S.honest self.old.system }
+        ensures changes { OnlyChanges IsNewFile (S.changes self.old.system) (S.changes self.new.system) }
         ensures known { AreKnown seen.old.reads.items writes.now round.new.temp_files.items }
         ensures reads { seen.new.reads ≡ seen.old.reads }
     {
@@ -288,17 +273,15 @@ impl<R: Files<File = File> + AllocGlobal + Clone + Drop> RootFolder<R> {
     ) -> Result<(), FolderFault>
         ensures folder { round.new.new_file.folder ≡ round.old.new_file.folder }
         ensures others { IsAlikeBut (new_place round.old.new_file.folder.identity (length round.old.temp_files.items))
-            (⟦<HostSystem<R> as System>⟧.holds self.old.system) (⟦<HostSystem<R> as System>⟧.holds self.new.system) }
-        ensures added { IsAdded round.old.new_file.folder.identity (⟦<HostSystem<R> as System>⟧.holds self.new.system)
+            (S.holds self.old.system) (S.holds self.new.system) }
+        ensures added { IsAdded round.old.new_file.folder.identity (S.holds self.new.system)
             (joined parts.entry) round.old.temp_files.items round.new.temp_files.items (is_ok result) }
         ensures syncs { self.new.unsynced.syncs ≡ self.old.unsynced.syncs }
         ensures stay_noted { StayNoted self.old.unsynced self.new.unsynced }
         ensures above { self.old.unsynced.syncs ≡ Kept
             → IfOk result (λ _. IsNotedAbove self.new.unsynced write.now.path.now) }
-        ensures earlier { ⟦<HostSystem<R> as System>⟧.honest self.new.system
-            → ⟦<HostSystem<R> as System>⟧.honest self.old.system }
-        ensures changes { OnlyChanges IsNewFile (⟦<HostSystem<R> as System>⟧.changes self.old.system)
-            (⟦<HostSystem<R> as System>⟧.changes self.new.system) }
+        ensures earlier { S.honest self.new.system → S.honest self.old.system }
+        ensures changes { OnlyChanges IsNewFile (S.changes self.old.system) (S.changes self.new.system) }
         ensures known { IfOk result
             (λ _. (one : NewContent) × (round.new.temp_files.items ≡ round.old.temp_files.items ++ one ∷ [])
             × IsKnownTempFile seen.old.reads.items write.now.path.now one) }
@@ -331,189 +314,5 @@ impl<R: Files<File = File> + AllocGlobal + Clone + Drop> RootFolder<R> {
                 Err(FolderFault::Memory)
             }
         }
-    }
-
-    /// Makes the data of the new files durable and gives each its name, in order: the first so many
-    /// writes are made by that. Where one fails, the others behind it are removed.
-    fn name_all(
-        &mut self,
-        alloc: Global,
-        writes: &[FileWrite],
-        new_file: &mut NewFile,
-        temp_files: &[NewContent],
-    ) -> Result<(), Stop>
-        requires { 0 < length writes.now }
-        ensures stop { IfErr result (λ stop. stop.made < length writes.now) }
-        ensures folder { new_file.new.folder ≡ new_file.old.folder }
-        ensures named { ⟦<HostSystem<R> as System>⟧.honest self.new.system → 0 < length temp_files.now
-            → length temp_files.now ≤ length writes.now
-            → HavePlaces new_file.old.folder.identity temp_files.now → AreApart temp_files.now
-            → AreTempFile new_file.old.folder.identity false (⟦<HostSystem<R> as System>⟧.holds self.old.system) 0
-            (length temp_files.now) writes.now temp_files.now
-            → AreNamed new_file.old.folder.identity (is_kept self.old.unsynced.syncs) writes.now temp_files.now
-            (disk_of ⟦<HostSystem<R> as System>⟧ self.old.system)
-            (disk_of ⟦<HostSystem<R> as System>⟧ self.new.system) result }
-        ensures syncs { self.new.unsynced.syncs ≡ self.old.unsynced.syncs }
-        ensures folders { self.new.unsynced.folders ≡ self.old.unsynced.folders }
-        ensures noted { (reads : List ReadPath) → AreKnown reads writes.now temp_files.now
-            → AreNotedAbove self.old.unsynced writes.now (length temp_files.now)
-            → HaveNoted self.new.unsynced writes.now (⟦<HostSystem<R> as System>⟧.changes self.old.system)
-            (⟦<HostSystem<R> as System>⟧.changes self.new.system) }
-        ensures earlier { ⟦<HostSystem<R> as System>⟧.honest self.new.system
-            → ⟦<HostSystem<R> as System>⟧.honest self.old.system }
-        ensures keeps_edits { (reads : List ReadPath) → AreKnown reads writes.now temp_files.now
-            → LoseNoEdits reads writes.now (⟦<HostSystem<R> as System>⟧.changes self.old.system)
-            (⟦<HostSystem<R> as System>⟧.changes self.new.system) }
-    {
-        if let Err(fault) = self.sync_all(writes, temp_files) {
-            remove_all(&mut self.system, temp_files);
-            return Err(Stop::at_first(fault));
-        }
-        self.name_each(alloc, writes, new_file, temp_files)
-    }
-
-    /// Makes the data of the new files durable.
-    fn sync_all(
-        &mut self,
-        writes: &[FileWrite],
-        temp_files: &[NewContent],
-    ) -> Result<(), FolderFault>
-        ensures synced { (new_files : Identity) → length temp_files.now ≤ length writes.now → AreApart temp_files.now
-            → AreTempFile new_files false (⟦<HostSystem<R> as System>⟧.holds self.old.system) 0
-            (length temp_files.now) writes.now temp_files.now
-            → IfOk result (λ _. AreTempFile new_files (is_kept self.old.unsynced.syncs)
-            (⟦<HostSystem<R> as System>⟧.holds self.new.system) 0 (length temp_files.now) writes.now temp_files.now)
-            × IsAlikeUnless (IsNumbered new_files (length temp_files.now))
-            (⟦<HostSystem<R> as System>⟧.holds self.old.system) (⟦<HostSystem<R> as System>⟧.holds self.new.system) }
-        ensures syncs { self.new.unsynced.syncs ≡ self.old.unsynced.syncs }
-        ensures folders { self.new.unsynced.folders ≡ self.old.unsynced.folders }
-        ensures still { ⟦<HostSystem<R> as System>⟧.folders self.new.system
-            ≡ ⟦<HostSystem<R> as System>⟧.folders self.old.system }
-        ensures earlier { ⟦<HostSystem<R> as System>⟧.honest self.new.system
-            → ⟦<HostSystem<R> as System>⟧.honest self.old.system }
-        ensures changes { ⟦<HostSystem<R> as System>⟧.changes self.new.system
-            ≡ ⟦<HostSystem<R> as System>⟧.changes self.old.system }
-    {
-        for (at, new) in temp_files.iter().enumerate() {
-            let Some(write) = writes.get(at) else {
-                return Ok(());
-            };
-            self.sync_temp_file(&new.temp_file, write.path)?;
-        }
-        Ok(())
-    }
-
-    /// Makes the data of the new file durable that is to get this path.
-    fn sync_temp_file(&mut self, temp_file: &TempFile, path: &PathText) -> Result<(), FolderFault>
-        ensures synced { MatchResult result
-            (λ _. IsSyncedIf (is_kept self.old.unsynced.syncs) (key_of temp_file.now)
-            (⟦<HostSystem<R> as System>⟧.holds self.old.system) (⟦<HostSystem<R> as System>⟧.holds self.new.system))
-            (λ _. IsAlikeButFile (key_of temp_file.now) (⟦<HostSystem<R> as System>⟧.holds self.old.system)
-            (⟦<HostSystem<R> as System>⟧.holds self.new.system)) }
-        ensures syncs { self.new.unsynced.syncs ≡ self.old.unsynced.syncs }
-        ensures folders { self.new.unsynced.folders ≡ self.old.unsynced.folders }
-        ensures still { ⟦<HostSystem<R> as System>⟧.folders self.new.system
-            ≡ ⟦<HostSystem<R> as System>⟧.folders self.old.system }
-        ensures earlier { ⟦<HostSystem<R> as System>⟧.honest self.new.system
-            → ⟦<HostSystem<R> as System>⟧.honest self.old.system }
-        ensures changes { ⟦<HostSystem<R> as System>⟧.changes self.new.system
-            ≡ ⟦<HostSystem<R> as System>⟧.changes self.old.system }
-    {
-        let unsynced = &mut self.unsynced;
-        Ok(unsynced.sync_data(&mut self.system, temp_file, path.text())?)
-    }
-
-    /// Gives each new file its name, in order. If one fails, it and those behind it are removed.
-    fn name_each(
-        &mut self,
-        alloc: Global,
-        writes: &[FileWrite],
-        new_file: &mut NewFile,
-        temp_files: &[NewContent],
-    ) -> Result<(), Stop>
-        ensures stop { IfErr result (λ stop. stop.made < length writes.now) }
-        ensures folder { new_file.new.folder ≡ new_file.old.folder }
-        ensures named { ⟦<HostSystem<R> as System>⟧.honest self.new.system → length temp_files.now ≤ length writes.now
-            → HavePlaces new_file.old.folder.identity temp_files.now → AreApart temp_files.now
-            → AreTempFile new_file.old.folder.identity (is_kept self.old.unsynced.syncs)
-            (⟦<HostSystem<R> as System>⟧.holds self.old.system) 0 (length temp_files.now) writes.now temp_files.now
-            → AreNamed new_file.old.folder.identity (is_kept self.old.unsynced.syncs) writes.now temp_files.now
-            (disk_of ⟦<HostSystem<R> as System>⟧ self.old.system)
-            (disk_of ⟦<HostSystem<R> as System>⟧ self.new.system) result }
-        ensures syncs { self.new.unsynced.syncs ≡ self.old.unsynced.syncs }
-        ensures folders { self.new.unsynced.folders ≡ self.old.unsynced.folders }
-        ensures noted { (reads : List ReadPath) → AreKnown reads writes.now temp_files.now
-            → AreNotedAbove self.old.unsynced writes.now (length temp_files.now)
-            → HaveNoted self.new.unsynced writes.now (⟦<HostSystem<R> as System>⟧.changes self.old.system)
-            (⟦<HostSystem<R> as System>⟧.changes self.new.system) }
-        ensures earlier { ⟦<HostSystem<R> as System>⟧.honest self.new.system
-            → ⟦<HostSystem<R> as System>⟧.honest self.old.system }
-        ensures keeps_edits { (reads : List ReadPath) → AreKnown reads writes.now temp_files.now
-            → LoseNoEdits reads writes.now (⟦<HostSystem<R> as System>⟧.changes self.old.system)
-            (⟦<HostSystem<R> as System>⟧.changes self.new.system) }
-    {
-        for (made, write) in writes.iter().enumerate() {
-            let Some(new) = temp_files.get(made) else {
-                return Ok(());
-            };
-            if let Err(fault) = self.name_one(alloc, new_file, new, write) {
-                remove_all(&mut self.system, &temp_files[made..]);
-                return Err(Stop { made, fault });
-            }
-        }
-        Ok(())
-    }
-
-    /// Gives the new file its name, if what was seen at the path stands there. If that leads to
-    /// another device, the file is written anew beside the one that it is to be.
-    fn name_one(
-        &mut self,
-        alloc: Global,
-        new_file: &mut NewFile,
-        new: &NewContent,
-        write: &FileWrite,
-    ) -> Result<(), FolderFault>
-        ensures folder { new_file.new.folder ≡ new_file.old.folder }
-        ensures named { ⟦<HostSystem<R> as System>⟧.honest self.new.system → (count number : ℕ)
-            → StandsTempFile new_file.old.folder.identity count (is_kept self.old.unsynced.syncs)
-            (⟦<HostSystem<R> as System>⟧.holds self.old.system) number write.now new.now
-            → IsNamed new_file.old.folder.identity count (is_kept self.old.unsynced.syncs) number write.now new.now
-            (disk_of ⟦<HostSystem<R> as System>⟧ self.old.system) (disk_of ⟦<HostSystem<R> as System>⟧ self.new.system)
-            (is_ok result) }
-        ensures syncs { self.new.unsynced.syncs ≡ self.old.unsynced.syncs }
-        ensures folders { self.new.unsynced.folders ≡ self.old.unsynced.folders }
-        ensures noted { (reads : List ReadPath) → IsKnownTempFile reads write.now.path.now new.now
-            → IsNotedAbove self.old.unsynced write.now.path.now
-            → HasNoted self.new.unsynced write.now.path.now (⟦<HostSystem<R> as System>⟧.changes self.old.system)
-            (⟦<HostSystem<R> as System>⟧.changes self.new.system) }
-        ensures earlier { ⟦<HostSystem<R> as System>⟧.honest self.new.system
-            → ⟦<HostSystem<R> as System>⟧.honest self.old.system }
-        ensures keeps_edits { (reads : List ReadPath) → IsKnownTempFile reads write.now.path.now new.now
-            → LoseNoEdits reads (write.now ∷ []) (⟦<HostSystem<R> as System>⟧.changes self.old.system)
-            (⟦<HostSystem<R> as System>⟧.changes self.new.system) }
-    {
-        let path = write.path.text();
-        let (folder, name) = folder_and_name(path);
-        self.open_folders
-            .enter_seen(&mut self.system, alloc, folder)?;
-        let target = Target {
-            folder: self.open_folders.current()?,
-            name,
-            path,
-        };
-        new_file.check(target)?;
-        if name_temp_file(&mut self.system, &new.temp_file, target, new.seen)? {
-            return Ok(());
-        }
-        self.system.discard(&new.temp_file)?;
-        let Some(parts) = write.file else {
-            return Ok(());
-        };
-        let content = Content {
-            parts,
-            wanted: self.ownership.wanted(target.folder, new.seen),
-            found: new.seen,
-        };
-        new_file.write_beside(&mut self.system, alloc, target, content, &mut self.unsynced)
     }
 }

@@ -9,20 +9,18 @@ use super::RootFolder;
 use super::seen::ReadPath;
 use crate::rolled_back::Foreign;
 use reuse_change::PathText;
+use reuse_disk::DiskSystem;
 use reuse_store::Reading;
 use reuse_system::fault::{FolderFault, IoReason};
 use reuse_system::ignored::is_ignored;
 use reuse_system::place::{FileStatus, Place, folder_and_name};
-use reuse_system::system::{HostSystem, System};
 use reuse_text::Bytes;
 use std::alloc::{AllocError, Global};
-use std::fs::File;
-use std::rt::Files;
 
 /// How many paths that were read are remembered at most. A batch has fewer than half as many.
 const MOST_SEEN: usize = 1_024;
 
-impl<R: Files<File = File> + AllocGlobal + Clone + Drop> RootFolder<R> {
+impl<S: DiskSystem + Drop> RootFolder<S> {
     ghost use Rattle.reuse_folder.specs.FolderReads.{IsPlaceAt, IsReadAt, IsReadIn, IsReadWith, LiesIn};
     ghost use Rattle.reuse_disk.specs.OpenFolders.{current_of};
 
@@ -36,18 +34,13 @@ impl<R: Files<File = File> + AllocGlobal + Clone + Drop> RootFolder<R> {
     ) -> Result<Reading, FolderFault>
         ensures within { IfOk result (IsWithin limit) }
         ensures ignored { IsTrue (is_ignored path.now) → IfOk result (λ reading. reading ≡ Reading.Absent) }
-        ensures kept { ⟦<HostSystem<R> as System>⟧.holds self.new.system
-            ≡ ⟦<HostSystem<R> as System>⟧.holds self.old.system }
-        ensures changes { ⟦<HostSystem<R> as System>⟧.changes self.new.system
-            ≡ ⟦<HostSystem<R> as System>⟧.changes self.old.system }
-        ensures still { ⟦<HostSystem<R> as System>⟧.folders self.new.system
-            ≡ ⟦<HostSystem<R> as System>⟧.folders self.old.system }
-        ensures earlier { ⟦<HostSystem<R> as System>⟧.honest self.new.system
-            → ⟦<HostSystem<R> as System>⟧.honest self.old.system }
+        ensures kept { S.holds self.new.system ≡ S.holds self.old.system }
+        ensures changes { S.changes self.new.system ≡ S.changes self.old.system }
+        ensures still { S.folders self.new.system ≡ S.folders self.old.system }
+        ensures earlier { S.honest self.new.system → S.honest self.old.system }
         // Of a file that is remembered the bytes aren't read again.
-        ensures read { ⟦<HostSystem<R> as System>⟧.honest self.new.system → self.old.remembered.files.items ≡ []
-            → IfOk result (IsReadAt (⟦<HostSystem<R> as System>⟧.folders self.new.system)
-            (⟦<HostSystem<R> as System>⟧.holds self.new.system) path.now limit) }
+        ensures read { S.honest self.new.system → self.old.remembered.files.items ≡ []
+            → IfOk result (IsReadAt (S.folders self.new.system) (S.holds self.new.system) path.now limit) }
         ensures noted { IfOk result (λ _. IsNoted self.new.reads.items path.now) }
     {
         let Place::File(status) = self.look(alloc, path)? else {
@@ -71,17 +64,12 @@ impl<R: Files<File = File> + AllocGlobal + Clone + Drop> RootFolder<R> {
         foreign: Foreign,
     ) -> Result<Reading, FolderFault>
         ensures within { IfOk result (IsWithin limit) }
-        ensures kept { ⟦<HostSystem<R> as System>⟧.holds self.new.system
-            ≡ ⟦<HostSystem<R> as System>⟧.holds self.old.system }
-        ensures changes { ⟦<HostSystem<R> as System>⟧.changes self.new.system
-            ≡ ⟦<HostSystem<R> as System>⟧.changes self.old.system }
-        ensures still { ⟦<HostSystem<R> as System>⟧.folders self.new.system
-            ≡ ⟦<HostSystem<R> as System>⟧.folders self.old.system }
-        ensures earlier { ⟦<HostSystem<R> as System>⟧.honest self.new.system
-            → ⟦<HostSystem<R> as System>⟧.honest self.old.system }
-        ensures read { ⟦<HostSystem<R> as System>⟧.honest self.new.system → self.old.remembered.files.items ≡ []
-            → IfOk result (IsReadWith foreign (⟦<HostSystem<R> as System>⟧.folders self.new.system)
-            (⟦<HostSystem<R> as System>⟧.holds self.new.system) path.now limit) }
+        ensures kept { S.holds self.new.system ≡ S.holds self.old.system }
+        ensures changes { S.changes self.new.system ≡ S.changes self.old.system }
+        ensures still { S.folders self.new.system ≡ S.folders self.old.system }
+        ensures earlier { S.honest self.new.system → S.honest self.old.system }
+        ensures read { S.honest self.new.system → self.old.remembered.files.items ≡ []
+            → IfOk result (IsReadWith foreign (S.folders self.new.system) (S.holds self.new.system) path.now limit) }
     {
         let reading = self.read(alloc, path, limit)?;
         self.mounted.note(alloc, &self.open_folders);
@@ -102,18 +90,14 @@ impl<R: Files<File = File> + AllocGlobal + Clone + Drop> RootFolder<R> {
         reading: Reading,
     ) -> Result<Reading, FolderFault>
         ensures within { (limit : ℕ) → IsWithin limit reading → IfOk result (IsWithin limit) }
-        ensures kept { ⟦<HostSystem<R> as System>⟧.holds self.new.system
-            ≡ ⟦<HostSystem<R> as System>⟧.holds self.old.system }
-        ensures changes { ⟦<HostSystem<R> as System>⟧.changes self.new.system
-            ≡ ⟦<HostSystem<R> as System>⟧.changes self.old.system }
-        ensures still { ⟦<HostSystem<R> as System>⟧.folders self.new.system
-            ≡ ⟦<HostSystem<R> as System>⟧.folders self.old.system }
-        ensures earlier { ⟦<HostSystem<R> as System>⟧.honest self.new.system
-            → ⟦<HostSystem<R> as System>⟧.honest self.old.system }
-        ensures reported { ⟦<HostSystem<R> as System>⟧.honest self.new.system
-            → IfOk result (λ reported. (reported ≡ reading) ⊎ ((reported ≡ Reading.TooLong) × IsPlaceAt
-            (⟦<HostSystem<R> as System>⟧.folders self.new.system) (⟦<HostSystem<R> as System>⟧.holds self.new.system)
-            path.now (current_of self.new.open_folders) Place.Other)) }
+        ensures kept { S.holds self.new.system ≡ S.holds self.old.system }
+        ensures changes { S.changes self.new.system ≡ S.changes self.old.system }
+        ensures still { S.folders self.new.system ≡ S.folders self.old.system }
+        ensures earlier { S.honest self.new.system → S.honest self.old.system }
+        ensures reported { S.honest self.new.system
+            → IfOk result (λ reported. (reported ≡ reading) ⊎ ((reported ≡ Reading.TooLong)
+            × IsPlaceAt (S.folders self.new.system) (S.holds self.new.system) path.now
+            (current_of self.new.open_folders) Place.Other)) }
     {
         match self.look(alloc, path)? {
             Place::Other => Ok(Reading::TooLong),
@@ -155,22 +139,15 @@ impl<R: Files<File = File> + AllocGlobal + Clone + Drop> RootFolder<R> {
         status: FileStatus,
     ) -> Result<Reading, FolderFault>
         ensures within { IfOk result (IsWithin limit) }
-        ensures kept { ⟦<HostSystem<R> as System>⟧.holds self.new.system
-            ≡ ⟦<HostSystem<R> as System>⟧.holds self.old.system }
-        ensures changes { ⟦<HostSystem<R> as System>⟧.changes self.new.system
-            ≡ ⟦<HostSystem<R> as System>⟧.changes self.old.system }
-        ensures still { ⟦<HostSystem<R> as System>⟧.folders self.new.system
-            ≡ ⟦<HostSystem<R> as System>⟧.folders self.old.system }
-        ensures earlier { ⟦<HostSystem<R> as System>⟧.honest self.new.system
-            → ⟦<HostSystem<R> as System>⟧.honest self.old.system }
-        ensures read { ⟦<HostSystem<R> as System>⟧.honest self.new.system
-            → LiesIn (⟦<HostSystem<R> as System>⟧.folders self.old.system) path.now (current_of self.old.open_folders)
-            (Place.File status)
-            → IsPlaceAt (⟦<HostSystem<R> as System>⟧.folders self.old.system)
-            (⟦<HostSystem<R> as System>⟧.holds self.old.system) path.now (current_of self.old.open_folders)
-            (Place.File status)
-            → IfOk result (IsReadAt (⟦<HostSystem<R> as System>⟧.folders self.new.system)
-            (⟦<HostSystem<R> as System>⟧.holds self.new.system) path.now limit) }
+        ensures kept { S.holds self.new.system ≡ S.holds self.old.system }
+        ensures changes { S.changes self.new.system ≡ S.changes self.old.system }
+        ensures still { S.folders self.new.system ≡ S.folders self.old.system }
+        ensures earlier { S.honest self.new.system → S.honest self.old.system }
+        ensures read { S.honest self.new.system
+            → LiesIn (S.folders self.old.system) path.now (current_of self.old.open_folders) (Place.File status)
+            → IsPlaceAt (S.folders self.old.system) (S.holds self.old.system) path.now
+            (current_of self.old.open_folders) (Place.File status)
+            → IfOk result (IsReadAt (S.folders self.new.system) (S.holds self.new.system) path.now limit) }
         ensures noted { IfOk result (λ _. IsNoted self.new.reads.items path.now) }
     {
         match self.read_anew(alloc, path, limit, status)? {
@@ -187,17 +164,12 @@ impl<R: Files<File = File> + AllocGlobal + Clone + Drop> RootFolder<R> {
         limit: usize,
     ) -> Result<Reading, FolderFault>
         ensures within { IfOk result (IsWithin limit) }
-        ensures kept { ⟦<HostSystem<R> as System>⟧.holds self.new.system
-            ≡ ⟦<HostSystem<R> as System>⟧.holds self.old.system }
-        ensures changes { ⟦<HostSystem<R> as System>⟧.changes self.new.system
-            ≡ ⟦<HostSystem<R> as System>⟧.changes self.old.system }
-        ensures still { ⟦<HostSystem<R> as System>⟧.folders self.new.system
-            ≡ ⟦<HostSystem<R> as System>⟧.folders self.old.system }
-        ensures earlier { ⟦<HostSystem<R> as System>⟧.honest self.new.system
-            → ⟦<HostSystem<R> as System>⟧.honest self.old.system }
-        ensures read { ⟦<HostSystem<R> as System>⟧.honest self.new.system
-            → IfOk result (IsReadAt (⟦<HostSystem<R> as System>⟧.folders self.new.system)
-            (⟦<HostSystem<R> as System>⟧.holds self.new.system) path.now limit) }
+        ensures kept { S.holds self.new.system ≡ S.holds self.old.system }
+        ensures changes { S.changes self.new.system ≡ S.changes self.old.system }
+        ensures still { S.folders self.new.system ≡ S.folders self.old.system }
+        ensures earlier { S.honest self.new.system → S.honest self.old.system }
+        ensures read { S.honest self.new.system
+            → IfOk result (IsReadAt (S.folders self.new.system) (S.holds self.new.system) path.now limit) }
         ensures noted { IfOk result (λ _. IsNoted self.new.reads.items path.now) }
     {
         let Place::File(status) = self.look(alloc, path)? else {
@@ -221,21 +193,16 @@ impl<R: Files<File = File> + AllocGlobal + Clone + Drop> RootFolder<R> {
         status: FileStatus,
     ) -> Result<Option<Reading>, FolderFault>
         ensures within { IfOk result (λ read. IfSome read (IsWithin limit)) }
-        ensures kept { ⟦<HostSystem<R> as System>⟧.holds self.new.system
-            ≡ ⟦<HostSystem<R> as System>⟧.holds self.old.system }
-        ensures changes { ⟦<HostSystem<R> as System>⟧.changes self.new.system
-            ≡ ⟦<HostSystem<R> as System>⟧.changes self.old.system }
-        ensures still { ⟦<HostSystem<R> as System>⟧.folders self.new.system
-            ≡ ⟦<HostSystem<R> as System>⟧.folders self.old.system }
-        ensures earlier { ⟦<HostSystem<R> as System>⟧.honest self.new.system
-            → ⟦<HostSystem<R> as System>⟧.honest self.old.system }
+        ensures kept { S.holds self.new.system ≡ S.holds self.old.system }
+        ensures changes { S.changes self.new.system ≡ S.changes self.old.system }
+        ensures still { S.folders self.new.system ≡ S.folders self.old.system }
+        ensures earlier { S.honest self.new.system → S.honest self.old.system }
         ensures open_folders { self.new.open_folders ≡ self.old.open_folders }
-        ensures read { ⟦<HostSystem<R> as System>⟧.honest self.new.system
-            → IsPlaceAt (⟦<HostSystem<R> as System>⟧.folders self.old.system)
-            (⟦<HostSystem<R> as System>⟧.holds self.old.system) path.now (current_of self.old.open_folders)
-            (Place.File status)
+        ensures read { S.honest self.new.system
+            → IsPlaceAt (S.folders self.old.system) (S.holds self.old.system) path.now
+            (current_of self.old.open_folders) (Place.File status)
             → IfOk result (λ read. IfSome read (IsReadIn (current_of self.old.open_folders) path.now limit
-            (⟦<HostSystem<R> as System>⟧.holds self.old.system))) }
+            (S.holds self.old.system))) }
         ensures noted { IfOk result (λ read. IfSome read (λ _. IsNoted self.new.reads.items path.now)) }
     {
         if status.len > limit as u64 {

@@ -8,16 +8,13 @@ use super::RootFolder;
 use super::seen::{Expected, expected_at};
 use reuse_change::layout::JOURNAL;
 use reuse_change::{PathText, Pieces};
-use reuse_disk::{Content, NewFile, Target, list_below, remove_folders, remove_seen};
+use reuse_disk::{Content, DiskSystem, NewFile, Target, list_below, remove_folders, remove_seen};
 use reuse_system::fault::{FolderFault, IoReason};
 use reuse_system::new_name::new_names;
 use reuse_system::place::{FileStatus, Place, folder_and_name};
-use reuse_system::system::{HostSystem, System};
 use std::alloc::Global;
-use std::fs::File;
-use std::rt::Files;
 
-impl<R: Files<File = File> + AllocGlobal + Clone + Drop> RootFolder<R> {
+impl<S: DiskSystem + Drop> RootFolder<S> {
     ghost use Rattle.reuse_folder.specs.FolderWrites.{IsCleared, IsGone, IsPutBy, IsPutIn, IsRemovedAt, IsRemovedIn};
     ghost use Rattle.reuse_folder.specs.FolderWrites.{IsStoredAt, IsTidy};
     ghost use Rattle.reuse_disk.specs.Noted.{StayNoted};
@@ -44,30 +41,22 @@ impl<R: Files<File = File> + AllocGlobal + Clone + Drop> RootFolder<R> {
     pub fn put(&mut self, alloc: Global, path: &PathText, parts: Pieces) -> Result<(), FolderFault>
         ensures written { (new_files : Identity)
             × IsPutBy new_files path.now (joined parts.entry) (is_kept self.old.unsynced.syncs)
-            (⟦<HostSystem<R> as System>⟧.holds self.old.system) (⟦<HostSystem<R> as System>⟧.holds self.new.system)
-            (is_ok result) }
-        ensures place { ⟦<HostSystem<R> as System>⟧.honest self.new.system
-            → (new_files : Identity) × IsPutIn new_files (⟦<HostSystem<R> as System>⟧.folders self.new.system) path.now
-            (joined parts.entry) (is_kept self.old.unsynced.syncs)
-            (⟦<HostSystem<R> as System>⟧.holds self.old.system)
-            (⟦<HostSystem<R> as System>⟧.holds self.new.system) (is_ok result)
-            × IsTidy new_files (⟦<HostSystem<R> as System>⟧.holds self.old.system)
-            (⟦<HostSystem<R> as System>⟧.holds self.new.system) (is_ok result) }
-        ensures stands { ⟦<HostSystem<R> as System>⟧.honest self.new.system
-            → IfOk result (λ _. IsStoredAt (⟦<HostSystem<R> as System>⟧.folders self.new.system)
-            (⟦<HostSystem<R> as System>⟧.holds self.new.system) path.now (joined parts.entry)
-            (is_kept self.old.unsynced.syncs)) }
+            (S.holds self.old.system) (S.holds self.new.system) (is_ok result) }
+        ensures place { S.honest self.new.system
+            → (new_files : Identity) × IsPutIn new_files (S.folders self.new.system) path.now (joined parts.entry)
+            (is_kept self.old.unsynced.syncs) (S.holds self.old.system) (S.holds self.new.system) (is_ok result)
+            × IsTidy new_files (S.holds self.old.system) (S.holds self.new.system) (is_ok result) }
+        ensures stands { S.honest self.new.system
+            → IfOk result (λ _. IsStoredAt (S.folders self.new.system) (S.holds self.new.system) path.now
+            (joined parts.entry) (is_kept self.old.unsynced.syncs)) }
         // The folder above the path is noted for the next barrier, if that got or lost a file.
         ensures noted { self.old.unsynced.syncs ≡ Kept
-            → HasNoted self.new.unsynced path.now (⟦<HostSystem<R> as System>⟧.changes self.old.system)
-            (⟦<HostSystem<R> as System>⟧.changes self.new.system) }
-        ensures earlier { ⟦<HostSystem<R> as System>⟧.honest self.new.system
-            → ⟦<HostSystem<R> as System>⟧.honest self.old.system }
+            → HasNoted self.new.unsynced path.now (S.changes self.old.system) (S.changes self.new.system) }
+        ensures earlier { S.honest self.new.system → S.honest self.old.system }
         ensures ignored { IsTrue (is_ignored path.now) → IsErr result }
         // The file at the path stays if it isn't what was read there.
-        ensures keeps_edits { LosesNoEditAfter self.old.reads.items path.now
-            (⟦<HostSystem<R> as System>⟧.changes self.old.system) (⟦<HostSystem<R> as System>⟧.changes self.new.system)
-            (⟦<HostSystem<R> as System>⟧.holds self.old.system) (⟦<HostSystem<R> as System>⟧.holds self.new.system) }
+        ensures keeps_edits { LosesNoEditAfter self.old.reads.items path.now (S.changes self.old.system)
+            (S.changes self.new.system) (S.holds self.old.system) (S.holds self.new.system) }
     {
         let expected = self.take_expected(path);
         self.put_expected(alloc, path, parts, expected)
@@ -83,29 +72,21 @@ impl<R: Files<File = File> + AllocGlobal + Clone + Drop> RootFolder<R> {
     ) -> Result<(), FolderFault>
         ensures written { (new_files : Identity)
             × IsPutBy new_files path.now (joined parts.entry) (is_kept self.old.unsynced.syncs)
-            (⟦<HostSystem<R> as System>⟧.holds self.old.system) (⟦<HostSystem<R> as System>⟧.holds self.new.system)
-            (is_ok result) }
-        ensures place { ⟦<HostSystem<R> as System>⟧.honest self.new.system
-            → (new_files : Identity) × IsPutIn new_files (⟦<HostSystem<R> as System>⟧.folders self.new.system) path.now
-            (joined parts.entry) (is_kept self.old.unsynced.syncs)
-            (⟦<HostSystem<R> as System>⟧.holds self.old.system)
-            (⟦<HostSystem<R> as System>⟧.holds self.new.system) (is_ok result)
-            × IsTidy new_files (⟦<HostSystem<R> as System>⟧.holds self.old.system)
-            (⟦<HostSystem<R> as System>⟧.holds self.new.system) (is_ok result) }
-        ensures stands { ⟦<HostSystem<R> as System>⟧.honest self.new.system
-            → IfOk result (λ _. IsStoredAt (⟦<HostSystem<R> as System>⟧.folders self.new.system)
-            (⟦<HostSystem<R> as System>⟧.holds self.new.system) path.now (joined parts.entry)
-            (is_kept self.old.unsynced.syncs)) }
+            (S.holds self.old.system) (S.holds self.new.system) (is_ok result) }
+        ensures place { S.honest self.new.system
+            → (new_files : Identity) × IsPutIn new_files (S.folders self.new.system) path.now (joined parts.entry)
+            (is_kept self.old.unsynced.syncs) (S.holds self.old.system) (S.holds self.new.system) (is_ok result)
+            × IsTidy new_files (S.holds self.old.system) (S.holds self.new.system) (is_ok result) }
+        ensures stands { S.honest self.new.system
+            → IfOk result (λ _. IsStoredAt (S.folders self.new.system) (S.holds self.new.system) path.now
+            (joined parts.entry) (is_kept self.old.unsynced.syncs)) }
         // The folder above the path is noted for the next barrier, if that got or lost a file.
         ensures noted { self.old.unsynced.syncs ≡ Kept
-            → HasNoted self.new.unsynced path.now (⟦<HostSystem<R> as System>⟧.changes self.old.system)
-            (⟦<HostSystem<R> as System>⟧.changes self.new.system) }
-        ensures earlier { ⟦<HostSystem<R> as System>⟧.honest self.new.system
-            → ⟦<HostSystem<R> as System>⟧.honest self.old.system }
+            → HasNoted self.new.unsynced path.now (S.changes self.old.system) (S.changes self.new.system) }
+        ensures earlier { S.honest self.new.system → S.honest self.old.system }
         ensures ignored { IsTrue (is_ignored path.now) → IsErr result }
-        ensures keeps_edits { LosesNoEdit path.now expected (⟦<HostSystem<R> as System>⟧.changes self.old.system)
-            (⟦<HostSystem<R> as System>⟧.changes self.new.system)
-            (⟦<HostSystem<R> as System>⟧.holds self.old.system) (⟦<HostSystem<R> as System>⟧.holds self.new.system) }
+        ensures keeps_edits { LosesNoEdit path.now expected (S.changes self.old.system) (S.changes self.new.system)
+            (S.holds self.old.system) (S.holds self.new.system) }
     {
         let found = self.make_room(alloc, path, expected)?;
         self.write(alloc, path, parts, found)
@@ -119,12 +100,9 @@ impl<R: Files<File = File> + AllocGlobal + Clone + Drop> RootFolder<R> {
         path: &PathText,
         expected: Expected,
     ) -> Result<Option<FileStatus>, FolderFault>
-        ensures kept { ⟦<HostSystem<R> as System>⟧.holds self.new.system
-            ≡ ⟦<HostSystem<R> as System>⟧.holds self.old.system }
-        ensures changes { ⟦<HostSystem<R> as System>⟧.changes self.new.system
-            ≡ ⟦<HostSystem<R> as System>⟧.changes self.old.system }
-        ensures earlier { ⟦<HostSystem<R> as System>⟧.honest self.new.system
-            → ⟦<HostSystem<R> as System>⟧.honest self.old.system }
+        ensures kept { S.holds self.new.system ≡ S.holds self.old.system }
+        ensures changes { S.changes self.new.system ≡ S.changes self.old.system }
+        ensures earlier { S.honest self.new.system → S.honest self.old.system }
         ensures syncs { self.new.unsynced.syncs ≡ self.old.unsynced.syncs }
         ensures stay_noted { StayNoted self.old.unsynced self.new.unsynced }
         ensures ignored { IsTrue (is_ignored path.now) → IsErr result }
@@ -163,24 +141,18 @@ impl<R: Files<File = File> + AllocGlobal + Clone + Drop> RootFolder<R> {
     ) -> Result<(), FolderFault>
         ensures written { (new_files : Identity)
             × IsPutBy new_files path.now (joined parts.entry) (is_kept self.old.unsynced.syncs)
-            (⟦<HostSystem<R> as System>⟧.holds self.old.system) (⟦<HostSystem<R> as System>⟧.holds self.new.system)
-            (is_ok result) }
-        ensures place { ⟦<HostSystem<R> as System>⟧.honest self.new.system
-            → (new_files : Identity) × IsPutIn new_files (⟦<HostSystem<R> as System>⟧.folders self.new.system) path.now
-            (joined parts.entry) (is_kept self.old.unsynced.syncs)
-            (⟦<HostSystem<R> as System>⟧.holds self.old.system)
-            (⟦<HostSystem<R> as System>⟧.holds self.new.system) (is_ok result)
-            × IsTidy new_files (⟦<HostSystem<R> as System>⟧.holds self.old.system)
-            (⟦<HostSystem<R> as System>⟧.holds self.new.system) (is_ok result) }
+            (S.holds self.old.system) (S.holds self.new.system) (is_ok result) }
+        ensures place { S.honest self.new.system
+            → (new_files : Identity) × IsPutIn new_files (S.folders self.new.system) path.now (joined parts.entry)
+            (is_kept self.old.unsynced.syncs) (S.holds self.old.system) (S.holds self.new.system) (is_ok result)
+            × IsTidy new_files (S.holds self.old.system) (S.holds self.new.system) (is_ok result) }
         // The folder above the path is noted for the next barrier, if that got or lost a file.
         ensures noted { self.old.unsynced.syncs ≡ Kept
-            → HasNoted self.new.unsynced path.now (⟦<HostSystem<R> as System>⟧.changes self.old.system)
-            (⟦<HostSystem<R> as System>⟧.changes self.new.system) }
-        ensures earlier { ⟦<HostSystem<R> as System>⟧.honest self.new.system
-            → ⟦<HostSystem<R> as System>⟧.honest self.old.system }
-        ensures keeps_edits { (expected : Expected) → IsSeenAs expected found → LosesNoEdit path.now expected
-            (⟦<HostSystem<R> as System>⟧.changes self.old.system) (⟦<HostSystem<R> as System>⟧.changes self.new.system)
-            (⟦<HostSystem<R> as System>⟧.holds self.old.system) (⟦<HostSystem<R> as System>⟧.holds self.new.system) }
+            → HasNoted self.new.unsynced path.now (S.changes self.old.system) (S.changes self.new.system) }
+        ensures earlier { S.honest self.new.system → S.honest self.old.system }
+        ensures keeps_edits { (expected : Expected) → IsSeenAs expected found
+            → LosesNoEdit path.now expected (S.changes self.old.system) (S.changes self.new.system)
+            (S.holds self.old.system) (S.holds self.new.system) }
     {
         let (folder, name) = folder_and_name(path.text());
         self.unsynced.note(alloc, folder)?;
@@ -223,12 +195,9 @@ impl<R: Files<File = File> + AllocGlobal + Clone + Drop> RootFolder<R> {
 
     /// The place of new files, opened as needed.
     pub(super) fn take_new_file(&mut self, alloc: Global) -> Result<NewFile, FolderFault>
-        ensures cleared { IsCleared (⟦<HostSystem<R> as System>⟧.changes self.old.system)
-            (⟦<HostSystem<R> as System>⟧.changes self.new.system) self.old.new_file
-            (⟦<HostSystem<R> as System>⟧.holds self.old.system)
-            (⟦<HostSystem<R> as System>⟧.holds self.new.system) result }
-        ensures earlier { ⟦<HostSystem<R> as System>⟧.honest self.new.system
-            → ⟦<HostSystem<R> as System>⟧.honest self.old.system }
+        ensures cleared { IsCleared (S.changes self.old.system) (S.changes self.new.system) self.old.new_file
+            (S.holds self.old.system) (S.holds self.new.system) result }
+        ensures earlier { S.honest self.new.system → S.honest self.old.system }
         ensures syncs { self.new.unsynced.syncs ≡ self.old.unsynced.syncs }
         ensures stay_noted { StayNoted self.old.unsynced self.new.unsynced }
     {
@@ -240,12 +209,9 @@ impl<R: Files<File = File> + AllocGlobal + Clone + Drop> RootFolder<R> {
 
     /// Opens the journal's folder for new files; it is made as needed.
     fn open_new_file(&mut self, alloc: Global) -> Result<NewFile, FolderFault>
-        ensures cleared { IsCleared (⟦<HostSystem<R> as System>⟧.changes self.old.system)
-            (⟦<HostSystem<R> as System>⟧.changes self.new.system) None
-            (⟦<HostSystem<R> as System>⟧.holds self.old.system)
-            (⟦<HostSystem<R> as System>⟧.holds self.new.system) result }
-        ensures earlier { ⟦<HostSystem<R> as System>⟧.honest self.new.system
-            → ⟦<HostSystem<R> as System>⟧.honest self.old.system }
+        ensures cleared { IsCleared (S.changes self.old.system) (S.changes self.new.system) None
+            (S.holds self.old.system) (S.holds self.new.system) result }
+        ensures earlier { S.honest self.new.system → S.honest self.old.system }
         ensures syncs { self.new.unsynced.syncs ≡ self.old.unsynced.syncs }
         ensures stay_noted { StayNoted self.old.unsynced self.new.unsynced }
     {
@@ -260,12 +226,9 @@ impl<R: Files<File = File> + AllocGlobal + Clone + Drop> RootFolder<R> {
 
     /// Removes a folder without files, so that a file can take its place; with files it is a clash.
     fn clear_folder(&mut self, alloc: Global, path: &PathText) -> Result<(), FolderFault>
-        ensures kept { ⟦<HostSystem<R> as System>⟧.holds self.new.system
-            ≡ ⟦<HostSystem<R> as System>⟧.holds self.old.system }
-        ensures changes { ⟦<HostSystem<R> as System>⟧.changes self.new.system
-            ≡ ⟦<HostSystem<R> as System>⟧.changes self.old.system }
-        ensures earlier { ⟦<HostSystem<R> as System>⟧.honest self.new.system
-            → ⟦<HostSystem<R> as System>⟧.honest self.old.system }
+        ensures kept { S.holds self.new.system ≡ S.holds self.old.system }
+        ensures changes { S.changes self.new.system ≡ S.changes self.old.system }
+        ensures earlier { S.honest self.new.system → S.honest self.old.system }
         ensures syncs { self.new.unsynced.syncs ≡ self.old.unsynced.syncs }
         ensures stay_noted { StayNoted self.old.unsynced self.new.unsynced }
     {
@@ -281,24 +244,18 @@ impl<R: Files<File = File> + AllocGlobal + Clone + Drop> RootFolder<R> {
 
     /// Removes the regular file at the path, if there is one, and no folder.
     pub fn remove(&mut self, alloc: Global, path: &PathText) -> Result<(), FolderFault>
-        ensures removed { IsRemovedAt path.now (⟦<HostSystem<R> as System>⟧.holds self.old.system)
-            (⟦<HostSystem<R> as System>⟧.holds self.new.system) }
-        ensures still { ⟦<HostSystem<R> as System>⟧.folders self.new.system
-            ≡ ⟦<HostSystem<R> as System>⟧.folders self.old.system }
-        ensures place { ⟦<HostSystem<R> as System>⟧.honest self.new.system
-            → IsRemovedIn (⟦<HostSystem<R> as System>⟧.folders self.new.system) path.now
-            (⟦<HostSystem<R> as System>⟧.holds self.old.system) (⟦<HostSystem<R> as System>⟧.holds self.new.system) }
-        ensures gone { ⟦<HostSystem<R> as System>⟧.honest self.new.system
-            → IfOk result (λ _. IsGone (⟦<HostSystem<R> as System>⟧.folders self.new.system)
-            (⟦<HostSystem<R> as System>⟧.holds self.new.system) path.now) }
+        ensures removed { IsRemovedAt path.now (S.holds self.old.system) (S.holds self.new.system) }
+        ensures still { S.folders self.new.system ≡ S.folders self.old.system }
+        ensures place { S.honest self.new.system
+            → IsRemovedIn (S.folders self.new.system) path.now (S.holds self.old.system) (S.holds self.new.system) }
+        ensures gone { S.honest self.new.system
+            → IfOk result (λ _. IsGone (S.folders self.new.system) (S.holds self.new.system) path.now) }
         // The folder above the path is noted for the next barrier, if that got or lost a file.
         ensures noted { self.old.unsynced.syncs ≡ Kept
-            → HasNoted self.new.unsynced path.now (⟦<HostSystem<R> as System>⟧.changes self.old.system)
-            (⟦<HostSystem<R> as System>⟧.changes self.new.system) }
+            → HasNoted self.new.unsynced path.now (S.changes self.old.system) (S.changes self.new.system) }
         // The file at the path stays if it isn't what was read there.
-        ensures keeps_edits { LosesNoEditAfter self.old.reads.items path.now
-            (⟦<HostSystem<R> as System>⟧.changes self.old.system) (⟦<HostSystem<R> as System>⟧.changes self.new.system)
-            (⟦<HostSystem<R> as System>⟧.holds self.old.system) (⟦<HostSystem<R> as System>⟧.holds self.new.system) }
+        ensures keeps_edits { LosesNoEditAfter self.old.reads.items path.now (S.changes self.old.system)
+            (S.changes self.new.system) (S.holds self.old.system) (S.holds self.new.system) }
     {
         let expected = self.take_expected(path);
         self.remove_expected(alloc, path, expected)
@@ -311,30 +268,23 @@ impl<R: Files<File = File> + AllocGlobal + Clone + Drop> RootFolder<R> {
         path: &PathText,
         expected: Expected,
     ) -> Result<(), FolderFault>
-        ensures removed { IsRemovedAt path.now (⟦<HostSystem<R> as System>⟧.holds self.old.system)
-            (⟦<HostSystem<R> as System>⟧.holds self.new.system) }
-        ensures still { ⟦<HostSystem<R> as System>⟧.folders self.new.system
-            ≡ ⟦<HostSystem<R> as System>⟧.folders self.old.system }
-        ensures place { ⟦<HostSystem<R> as System>⟧.honest self.new.system
-            → IsRemovedIn (⟦<HostSystem<R> as System>⟧.folders self.new.system) path.now
-            (⟦<HostSystem<R> as System>⟧.holds self.old.system) (⟦<HostSystem<R> as System>⟧.holds self.new.system) }
-        ensures gone { ⟦<HostSystem<R> as System>⟧.honest self.new.system
-            → IfOk result (λ _. IsGone (⟦<HostSystem<R> as System>⟧.folders self.new.system)
-            (⟦<HostSystem<R> as System>⟧.holds self.new.system) path.now) }
-        ensures none_left { IfOk result (λ _. LeavesNone (λ _. Unit {0})
-            (⟦<HostSystem<R> as System>⟧.holds self.old.system) (⟦<HostSystem<R> as System>⟧.holds self.new.system)) }
-        ensures earlier { ⟦<HostSystem<R> as System>⟧.honest self.new.system
-            → ⟦<HostSystem<R> as System>⟧.honest self.old.system }
+        ensures removed { IsRemovedAt path.now (S.holds self.old.system) (S.holds self.new.system) }
+        ensures still { S.folders self.new.system ≡ S.folders self.old.system }
+        ensures place { S.honest self.new.system
+            → IsRemovedIn (S.folders self.new.system) path.now (S.holds self.old.system) (S.holds self.new.system) }
+        ensures gone { S.honest self.new.system
+            → IfOk result (λ _. IsGone (S.folders self.new.system) (S.holds self.new.system) path.now) }
+        ensures none_left { IfOk result (λ _. LeavesNone (λ _. Unit {0}) (S.holds self.old.system)
+            (S.holds self.new.system)) }
+        ensures earlier { S.honest self.new.system → S.honest self.old.system }
         ensures syncs { self.new.unsynced.syncs ≡ self.old.unsynced.syncs }
         ensures stay_noted { StayNoted self.old.unsynced self.new.unsynced }
         // The folder above the path is noted for the next barrier, if that got or lost a file.
         ensures noted { self.old.unsynced.syncs ≡ Kept
-            → HasNoted self.new.unsynced path.now (⟦<HostSystem<R> as System>⟧.changes self.old.system)
-            (⟦<HostSystem<R> as System>⟧.changes self.new.system) }
+            → HasNoted self.new.unsynced path.now (S.changes self.old.system) (S.changes self.new.system) }
         ensures new_file { self.new.new_file ≡ self.old.new_file }
-        ensures keeps_edits { LosesNoEdit path.now expected (⟦<HostSystem<R> as System>⟧.changes self.old.system)
-            (⟦<HostSystem<R> as System>⟧.changes self.new.system)
-            (⟦<HostSystem<R> as System>⟧.holds self.old.system) (⟦<HostSystem<R> as System>⟧.holds self.new.system) }
+        ensures keeps_edits { LosesNoEdit path.now expected (S.changes self.old.system) (S.changes self.new.system)
+            (S.holds self.old.system) (S.holds self.new.system) }
     {
         match self.look_unless_seen(alloc, path, expected.read_file())? {
             Place::File(status) => {

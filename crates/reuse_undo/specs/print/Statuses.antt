@@ -9,7 +9,8 @@ use Rattle.reuse_arguments.specs.declared.line.LineFault.{LineFault}
 use Rattle.reuse_undo.specs.declared.print.status.Ending.{Ending}
 use Rattle.reuse_undo.specs.declared.print.status.Ending.TheVariants.{BadClock, NoLine, Denied, Called}
 use Rattle.reuse_arguments.specs.declared.line.LineFault.TheVariants.{Usage, Help, BadPath, BadAdditions}
-use Rattle.reuse_arguments.specs.declared.line.LineFault.TheVariants.{NothingToAmend, BadGlob, Unreadable, NoTree, Memory}
+use Rattle.reuse_arguments.specs.declared.line.LineFault.TheVariants.{NothingToAmend, BadGlob, Unreadable}
+use Rattle.reuse_arguments.specs.declared.line.LineFault.TheVariants.{NoTree, Memory}
 
 -- after a call, by how many paths changed, or would change in a dry run: 1 where it was refused or failed, and 1 where
 -- a path changed and that is asked for

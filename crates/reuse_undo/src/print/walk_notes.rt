@@ -2,6 +2,7 @@
 //! and listed paths have no file, and what a new header could break. `notes` alone calls it. Tested
 //! by `tests/notes.sh`.
 use crate::run::diagnostics::{Diagnostics, Unrecognised};
+use reuse_print::objects::harm_word;
 use reuse_session::{Harm, Harmed};
 
 /// Prints how many files of how many names aren't recognised, where one is refused for that, or how
@@ -46,14 +47,45 @@ pub fn note_unused(rt: &impl Eprint, diagnostics: &Diagnostics) {
     };
 }
 
-/// Prints in which files a header could break something: the first of them, and how many more.
+/// Prints in which files a header could break something: the first of them, and how many more. Those
+/// whose header may be in a string are told apart.
 pub fn note_harms(rt: &impl Eprint, harms: &[Harmed]) {
-    let Some(first) = harms.first() else {
-        return;
+    let count = harms.iter().filter(|harmed| is_below_text(harmed)).count();
+    if let Some(first) = harms.iter().find(|harmed| !is_below_text(harmed)) {
+        note_first_lines(rt, first, harms.len().saturating_sub(count));
+    }
+    if let Some(first) = harms.iter().find(|harmed| is_below_text(harmed)) {
+        note_below_text(rt, first.path.text(), count);
+    }
+}
+
+fn is_below_text(harmed: &Harmed) -> bool {
+    harmed.harm == Harm::BelowText
+}
+
+// Prints which of some files has a header below text that is no comment.
+fn note_below_text(rt: &impl Eprint, path: &str, count: usize) {
+    let _ = match count {
+        0 | 1 => {
+            eprintln!(rt;
+                "reuse-undo: note: the header of {path} stands below other text: it may be in a string"
+            )
+        }
+        count => {
+            let more = count - 1;
+            eprintln!(rt;
+                "reuse-undo: note: the headers of {count} files stand below other text: \
+                they may be in strings: {path} and {more} more"
+            )
+        }
     };
+}
+
+// Prints which of some files has a first line that a header at the top may break.
+fn note_first_lines(rt: &impl Eprint, first: &Harmed, count: usize) {
     let (path, word) = (first.path.text(), harm_word(first.harm));
-    let _ = match harms.len() {
-        1 => {
+    let _ = match count {
+        0 | 1 => {
             eprintln!(rt; "reuse-undo: note: a header at the top may break {path} ({word}); {KEPT}")
         }
         count => {
@@ -68,15 +100,3 @@ pub fn note_harms(rt: &impl Eprint, harms: &[Harmed]) {
 /// How lines are kept in front of a header.
 const KEPT: &str = "first-lines and front-matter in .reuse/comments.toml keep such lines in front: \
     see docs/RULES.md";
-
-/// What has to stay in front.
-fn harm_word(harm: Harm) -> &'static str {
-    match harm {
-        Harm::InnerAttribute => "inner attribute",
-        Harm::FrontMatter => "front matter",
-        Harm::Directive => "directive",
-        Harm::ModeLine => "mode line",
-        Harm::CloudConfig => "cloud-config",
-        Harm::Charset => "charset",
-    }
-}

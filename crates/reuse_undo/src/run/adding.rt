@@ -4,7 +4,7 @@
 use crate::run::on_folder::find_on_folder;
 use reuse_arguments::line::NamesUse;
 use reuse_arguments::request::made_or_seen;
-use reuse_folder::DiskStore;
+use reuse_folder::HostStore;
 use reuse_ready::{NameCount, StyleAdditions, additions_of};
 use reuse_session::{Call, Command, Refusal, Request};
 use reuse_shown::progress::Progress;
@@ -17,11 +17,11 @@ use std::rt::{Clock, Env, Files};
 pub fn with_styles<R: Files<File = File> + AllocGlobal + Clock + Env + Eprint + Clone + Drop>(
     rt: &R,
     progress: &Progress<R>,
-    folder: DiskStore<R>,
+    folder: HostStore<R>,
     alloc: Global,
     request: Request,
     names: NamesUse,
-) -> (DiskStore<R>, Request, Option<Refusal>) {
+) -> (HostStore<R>, Request, Option<Refusal>) {
     let NamesUse::Added { when, dry_run } = names else {
         return (folder, request, None);
     };

@@ -13,7 +13,7 @@ use crate::run::line::is_refused;
 use crate::run::on_folder::{list_on_folder, run_on_folder};
 use reuse_arguments::line::PrintOptions;
 use reuse_change::PathText;
-use reuse_folder::DiskStore;
+use reuse_folder::HostStore;
 use reuse_print::fault::Fault;
 use reuse_print::output::Output;
 use reuse_session::{Call, Counts, PathOutcome, PathOutcomes, Refusal, Request, Session};
@@ -44,10 +44,10 @@ pub struct Asking<'a, R: Clock + Eprint + Drop> {
 /// Answers the request and prints the answer, unless it is a call and would change a file that
 /// can't be written. It answers what the call counted, too.
 pub fn answer<R: Files<File = File> + AllocGlobal + Clock + Env + Print + Eprint + Clone + Drop>(
-    folder: DiskStore<R>,
+    folder: HostStore<R>,
     alloc: Global,
     asking: &Asking<'_, R>,
-) -> (DiskStore<R>, CallEnding, Counts) {
+) -> (HostStore<R>, CallEnding, Counts) {
     match asking.request {
         Request::Make(call, _) => make(folder, alloc, asking, call),
         Request::Preview(_)
@@ -64,11 +64,11 @@ pub fn answer<R: Files<File = File> + AllocGlobal + Clock + Env + Print + Eprint
 /// Makes the call that is asked for. If it was held before its first put, it is made once more if
 /// it changes no file that can't be written.
 fn make<R: Files<File = File> + AllocGlobal + Clock + Env + Print + Eprint + Clone + Drop>(
-    mut folder: DiskStore<R>,
+    mut folder: HostStore<R>,
     alloc: Global,
     asking: &Asking<'_, R>,
     call: &Call,
-) -> (DiskStore<R>, CallEnding, Counts) {
+) -> (HostStore<R>, CallEnding, Counts) {
     folder.watch_writes();
     folder.remember_files(time_now(asking.rt));
     let (mut folder, outcome, counts) = answer_at_once(folder, alloc, asking);
@@ -94,10 +94,10 @@ fn time_now(rt: &impl Clock) -> Option<Duration> {
 fn answer_at_once<
     R: Files<File = File> + AllocGlobal + Clock + Env + Print + Eprint + Clone + Drop,
 >(
-    folder: DiskStore<R>,
+    folder: HostStore<R>,
     alloc: Global,
     asking: &Asking<'_, R>,
-) -> (DiskStore<R>, Result<usize, Fault>, Counts) {
+) -> (HostStore<R>, Result<usize, Fault>, Counts) {
     let mut folder = folder;
     folder.go_to_handles(asking.rt, alloc);
     let progress = asking.progress;
@@ -116,10 +116,10 @@ fn answer_at_once<
 /// Why the first path can't be written that the call would change and that can't be, if there is
 /// one. If the call would be refused or fail, the call itself reports that.
 fn first_access_refusal<R: Files<File = File> + AllocGlobal + Clone + Drop>(
-    folder: DiskStore<R>,
+    folder: HostStore<R>,
     alloc: Global,
     call: &Call,
-) -> (DiskStore<R>, Option<AccessRefusal>) {
+) -> (HostStore<R>, Option<AccessRefusal>) {
     let (mut folder, path_outcomes) = preview(alloc, folder, call);
     let access_refusal = match path_outcomes {
         Ok(path_outcomes) => access_refusal_among(alloc, &mut folder, path_outcomes.as_slice()),
@@ -130,14 +130,14 @@ fn first_access_refusal<R: Files<File = File> + AllocGlobal + Clone + Drop>(
 
 fn access_refusal_among<R: Files<File = File> + AllocGlobal + Clone + Drop>(
     alloc: Global,
-    folder: &mut DiskStore<R>,
+    folder: &mut HostStore<R>,
     path_outcomes: &[PathOutcome],
 ) -> Option<AccessRefusal> {
     if is_refused(path_outcomes) {
         return None;
     }
     for path_outcome in path_outcomes {
-        if let PathOutcome::Changes(path) = path_outcome
+        if let PathOutcome::Changes { path, harm: _ } = path_outcome
             && let Some(access_refusal) = access_refusal_of(alloc, folder, path)
         {
             return Some(access_refusal);
@@ -149,7 +149,7 @@ fn access_refusal_among<R: Files<File = File> + AllocGlobal + Clone + Drop>(
 /// Why the file at this path can't be written, if that shows before.
 fn access_refusal_of<R: Files<File = File> + AllocGlobal + Clone + Drop>(
     alloc: Global,
-    folder: &mut DiskStore<R>,
+    folder: &mut HostStore<R>,
     path: &PathText,
 ) -> Option<AccessRefusal> {
     if ends_in_long_name(path.text()) {

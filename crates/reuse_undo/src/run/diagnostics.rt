@@ -6,7 +6,7 @@ use crate::run::damage::{JournalDamage, MissingHead, damage_of, is_gone, steps_w
 use reuse_arguments::line::Line;
 use reuse_change::PathText;
 use reuse_change::layout::HEAD;
-use reuse_folder::{DiskStore, Failure, OwnerReport};
+use reuse_folder::{Failure, HostStore, OwnerReport};
 use reuse_print::fault::Fault;
 use reuse_ready::tally;
 use reuse_session::{
@@ -159,7 +159,7 @@ impl Diagnostics {
         &mut self,
         rt: &R,
         alloc: Global,
-        mut folder: DiskStore<R>,
+        mut folder: HostStore<R>,
         request: &Request,
         outcome: &Result<usize, Fault>,
     ) {
@@ -210,7 +210,7 @@ impl Diagnostics {
         &mut self,
         rt: &R,
         alloc: Global,
-        folder: &mut DiskStore<R>,
+        folder: &mut HostStore<R>,
         outcome: &Result<usize, Fault>,
     ) {
         self.failure = folder.take_failure();

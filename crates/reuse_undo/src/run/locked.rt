@@ -9,7 +9,7 @@ use crate::run::texts::find_texts;
 use reuse_arguments::line::{Line, NamesUse, PrintOptions};
 use reuse_arguments::request::{ids_of, with_texts};
 use reuse_arguments::settings::Settings;
-use reuse_folder::DiskStore;
+use reuse_folder::HostStore;
 use reuse_lock::{RootLock, lock_root};
 use reuse_print::fault::Fault;
 use reuse_session::{Counts, LicenceTexts, Refusal, Request};
@@ -53,29 +53,18 @@ fn texts_for(rt: &impl Files, alloc: Global, line: &Line) -> Result<LicenceTexts
     }
 }
 
-/// What a call works with.
-#[derive(Drop)]
-struct Tools<R: Files<File = File> + AllocGlobal + Clock + Eprint + Clone + Drop> {
-    folder: DiskStore<R>,
-    texts: LicenceTexts,
-    progress: Progress<R>,
-}
-
-/// What the line needs: the folder that it names, locked, and the texts.
+/// What the line needs: the folder that it names, locked, as a store, the texts, and the progress.
 fn tools_for<R: Files<File = File> + AllocGlobal + Clock + Eprint + Clone + Drop>(
     rt: &R,
     alloc: Global,
     line: &Line,
     run_options: RunOptions,
-) -> Result<Tools<R>, Fault> {
+) -> Result<(HostStore<R>, LicenceTexts, Progress<R>), Fault> {
     let lock = lock_root(rt, alloc, line.root.as_str())?;
     let texts = texts_for(rt, alloc, line)?;
     let progress = Progress::new(rt.clone()?, run_options.progress);
-    Ok(Tools {
-        folder: folder_at(rt, lock, run_options.settings)?,
-        texts,
-        progress,
-    })
+    let folder = folder_at(rt, lock, run_options.settings)?;
+    Ok((folder, texts, progress))
 }
 
 /// The folder that is locked as a store.
@@ -83,14 +72,14 @@ fn folder_at<R: Files<File = File> + AllocGlobal + Clone + Drop>(
     rt: &R,
     lock: RootLock,
     settings: Settings,
-) -> Result<DiskStore<R>, AllocError> {
-    Ok(DiskStore::at(rt.clone()?, lock, settings.syncs, settings.owner_change))
+) -> Result<HostStore<R>, AllocError> {
+    Ok(HostStore::at(rt.clone()?, lock, settings.syncs, settings.owner_change))
 }
 
 /// Whether the journal is another user's, and not to be opened.
 fn is_denied<R: Files<File = File> + AllocGlobal + Clone + Drop>(
     alloc: Global,
-    folder: &mut DiskStore<R>,
+    folder: &mut HostStore<R>,
     run_options: RunOptions,
 ) -> bool {
     !run_options.settings.trusts_journal && folder.is_journal_of_other(alloc)
@@ -100,7 +89,7 @@ fn is_denied<R: Files<File = File> + AllocGlobal + Clone + Drop>(
 /// files of it were, so there it is noted with the other notes alone.
 fn step_to_note<R: Files<File = File> + AllocGlobal + Clone + Drop>(
     alloc: Global,
-    folder: &mut DiskStore<R>,
+    folder: &mut HostStore<R>,
     request: &Request,
     run_options: RunOptions,
 ) -> Option<u32> {
@@ -117,15 +106,11 @@ fn step_to_note<R: Files<File = File> + AllocGlobal + Clone + Drop>(
 fn work_with<R: Files<File = File> + AllocGlobal + Clock + Env + Print + Eprint + Clone + Drop>(
     rt: &R,
     alloc: Global,
-    tools: Tools<R>,
+    tools: (HostStore<R>, LicenceTexts, Progress<R>),
     line: Line,
     run_options: RunOptions,
 ) -> RunResult {
-    let Tools {
-        mut folder,
-        texts,
-        progress,
-    } = tools;
+    let (mut folder, texts, progress) = tools;
     if is_denied(alloc, &mut folder, run_options) {
         drop(line);
         drop(texts);
@@ -176,11 +161,11 @@ impl AnswerWay {
 fn answer_in<R: Files<File = File> + AllocGlobal + Clock + Env + Print + Eprint + Clone + Drop>(
     rt: &R,
     progress: &Progress<R>,
-    folder: DiskStore<R>,
+    folder: HostStore<R>,
     alloc: Global,
     request: Request,
     way: AnswerWay,
-) -> (DiskStore<R>, Request, CallEnding, Counts) {
+) -> (HostStore<R>, Request, CallEnding, Counts) {
     let (folder, request, refusal) = with_styles(rt, progress, folder, alloc, request, way.names);
     if let Some(refusal) = refusal {
         let ending = Ok(Err(Fault::Refused(refusal)));
@@ -228,7 +213,7 @@ fn found_after<R: Files<File = File> + AllocGlobal + Clone + Drop>(
     rt: &R,
     alloc: Global,
     diagnostics: Option<Diagnostics>,
-    folder: DiskStore<R>,
+    folder: HostStore<R>,
     request: &Request,
     ending: &CallEnding,
 ) -> Option<Diagnostics> {

@@ -6,7 +6,7 @@ ghost use Rattle.reuse_undo.specs.run.RunResult.{CarriesOut};
 use crate::run::line::run_request;
 use crate::run::names::{find_names, is_json};
 use reuse_arguments::line::PrintOptions;
-use reuse_folder::DiskStore;
+use reuse_folder::HostStore;
 use reuse_print::fault::Fault;
 use reuse_print::found_names::report_names;
 use reuse_print::output::Sink;
@@ -22,15 +22,15 @@ use std::rt::{Clock, Files};
 /// reports, and what the call counted. The folder is given back as a store, with what is known of
 /// its last failure.
 pub fn run_on_folder<R: Files<File = File> + AllocGlobal + Clock + Eprint + Clone + Drop, O: Sink>(
-    folder: DiskStore<R>,
+    folder: HostStore<R>,
     progress: &Progress<R>,
     alloc: Global,
     request: &Request,
     options: PrintOptions,
     out: &mut O,
-) -> (DiskStore<R>, Result<usize, Fault>, Counts)
+) -> (HostStore<R>, Result<usize, Fault>, Counts)
     // As on any store, for whatever files the folder holds.
-    ensures { CarriesOut ⟦<DiskStore<R> as Store>⟧ O.contents O.failed request.now options folder result.0 out.old
+    ensures { CarriesOut ⟦<HostStore<R> as Store>⟧ O.contents O.failed request.now options folder result.0 out.old
         out.new result.1 }
 {
     let watched = WatchedStore::new(folder, progress);
@@ -41,12 +41,12 @@ pub fn run_on_folder<R: Files<File = File> + AllocGlobal + Clock + Eprint + Clon
 /// Finds the names without a comment style, by the preview that is requested; and what that
 /// counted. The folder is given back.
 pub fn find_on_folder<R: Files<File = File> + AllocGlobal + Clock + Eprint + Clone + Drop>(
-    folder: DiskStore<R>,
+    folder: HostStore<R>,
     progress: &Progress<R>,
     alloc: Global,
     request: &Request,
-) -> (DiskStore<R>, Result<Vec<NameCount>, Refusal>, Counts)
-    ensures { FindsNames ⟦<DiskStore<R> as Store>⟧ request.now folder result.0 result.1 }
+) -> (HostStore<R>, Result<Vec<NameCount>, Refusal>, Counts)
+    ensures { FindsNames ⟦<HostStore<R> as Store>⟧ request.now folder result.0 result.1 }
 {
     let watched = WatchedStore::new(folder, progress);
     let (watched, found, counts) = find_names(alloc, request, watched);
@@ -55,14 +55,14 @@ pub fn find_on_folder<R: Files<File = File> + AllocGlobal + Clock + Eprint + Clo
 
 /// Finds these names, and writes the list of them.
 pub fn list_on_folder<R: Files<File = File> + AllocGlobal + Clock + Eprint + Clone + Drop, O: Sink>(
-    folder: DiskStore<R>,
+    folder: HostStore<R>,
     progress: &Progress<R>,
     alloc: Global,
     request: &Request,
     options: PrintOptions,
     out: &mut O,
-) -> (DiskStore<R>, Result<usize, Fault>, Counts)
-    ensures { ListsNames ⟦<DiskStore<R> as Store>⟧ O.contents O.failed request.now options folder result.0 out.old
+) -> (HostStore<R>, Result<usize, Fault>, Counts)
+    ensures { ListsNames ⟦<HostStore<R> as Store>⟧ O.contents O.failed request.now options folder result.0 out.old
         out.new result.1 }
 {
     let (folder, found, counts) = find_on_folder(folder, progress, alloc, request);

@@ -1,9 +1,9 @@
 use Rattle.std.proofs.Common.{[], ◌+◌, length, min, refl, sym, ap, ◌∙◌}
 use Rattle.reuse_store.specs.Calls.{mutations_of}
 use Rattle.reuse_disk.specs.Written.{is_kept}
-use Rattle.reuse_folder.proofs.Noted.{disk_after}
 use Rattle.reuse_folder.proofs.RoundEnds.{batch_of_none}
 use Rattle.reuse_folder.proofs.NotedWrites.{begin_any}
+use Rattle.reuse_folder.specs.Batches.{disk_of}
 use Rattle.reuse_folder.proofs.DiskStoreStore.write_all.Goals as goal
 
 pub returns-clause-writes : goal.returns-clause-writes
@@ -18,8 +18,9 @@ returns-clause-keeps_edits g c = rw c.note_writes.ensures.folder c.write_all-ans
 
 pub returns-then-is_empty-clause-made : goal.returns-then-is_empty-clause-made
 returns-then-is_empty-clause-made g c honest =
+    let s = g.S.System in
     batch_of_none (is_kept c.args.self.now.folder.unsynced.syncs) c.args.writes.now
-    (disk_after c.args.self.now.folder.system.noted) (mutations_of c.args.self.now.calls.calls)
+    (disk_of s c.args.self.now.folder.system) (mutations_of c.args.self.now.calls.calls)
     (sym c.is_empty.ensures ∙ c.if-is_empty.true)
 
 pub returns-clause-made : goal.returns-clause-made

@@ -113,7 +113,7 @@ accepted_some direction (Ok previewed) IsThat accepted all = by_refusal (is_refu
 none_first : (path_outcomes : List PathOutcome) → is_refused path_outcomes ≡ false → first_refusal path_outcomes ≡ None
 none_first [] none = refl
 none_first (path_outcome.Refused first ∷ path_outcomes) none = absurd (false≢true (sym none))
-none_first (path_outcome.Changes path ∷ path_outcomes) none = none_first path_outcomes none
+none_first (path_outcome.Changes path harm ∷ path_outcomes) none = none_first path_outcomes none
 none_first (path_outcome.Unchanged path ∷ path_outcomes) none = none_first path_outcomes none
 none_first (path_outcome.Skipped path ∷ path_outcomes) none = none_first path_outcomes none
 

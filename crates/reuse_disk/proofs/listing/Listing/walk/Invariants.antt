@@ -1,18 +1,15 @@
 use Rattle.std.proofs.Common.{◌≡◌}
-use Rattle.reuse_system.specs.SystemCalls.{changes_of, folders_after, held_after, IsHonest}
 use Rattle.reuse_disk.specs.OpenFolders.{AreOpenedIf}
 use Rattle.reuse_disk.proofs.listing.Listing.walk.Given as goal
 
 abbrev pub invariant-loop : goal.invariant-loop
 invariant-loop g l =
-    let now = l.system.noted in
-    let first = l.fn.system.noted in
-    (held_after now.files now.effects now.calls ≡ held_after first.files first.effects first.calls) ×
-    (folders_after now.folders now.effects now.calls ≡ folders_after first.folders first.effects first.calls) ×
-    (IsHonest now.folders now.files now.effects now.calls
-    → IsHonest first.folders first.files first.effects first.calls) ×
-    (AreOpenedIf (IsHonest first.folders first.files first.effects first.calls)
-    (folders_after first.folders first.effects first.calls) l.fn.open_folders
-    → AreOpenedIf (IsHonest now.folders now.files now.effects now.calls)
-    (folders_after now.folders now.effects now.calls) l.open_folders) ×
-    (changes_of now.calls ≡ changes_of first.calls)
+    let s = g.S.System in
+    let now = l.system in
+    let first = l.fn.system in
+    (s.holds now ≡ s.holds first) ×
+    (s.folders now ≡ s.folders first) ×
+    (s.honest now → s.honest first) ×
+    (AreOpenedIf (s.honest first) (s.folders first) l.fn.open_folders → AreOpenedIf (s.honest now)
+    (s.folders now) l.open_folders) ×
+    (s.changes now ≡ s.changes first)

@@ -1,22 +1,22 @@
 use Rattle.std.proofs.Common.{rules, ◌∙◌}
-use Rattle.reuse_system.specs.SystemCalls.{folders_after}
 use Rattle.reuse_disk.specs.OpenFolders.{IsNext}
 use Rattle.reuse_disk.proofs.MadeFolders.{grown_twice, opened_grown}
 use Rattle.reuse_disk.proofs.open_folders.OpenFolders.make.Goals as goal
 
 pub loop-name-preserved : goal.loop-name-preserved
 loop-name-preserved g c =
-    let start = c.args.system.now.noted in
-    let before = c.loop-name.system.noted in
-    let now = c.open_or_make.new.system.noted in
-    let folders = folders_after now.folders now.effects now.calls in
-    let was = folders_after before.folders before.effects before.calls in
+    let s = g.S.System in
+    let start = c.args.system.now in
+    let before = c.loop-name.system in
+    let now = c.open_or_make.new.system in
+    let folders = s.folders now in
+    let was = s.folders before in
     let name = c.in-Some.name.now in
     let next : IsNext c.loop-name.rest.now name c.in-Some.below.now = search rules in
     let grown = c.open_or_make.ensures.grown in (
       search rules,
       c.open_or_make.ensures.syncs ∙ c.loop-name.invariant.1,
-      grown_twice (folders_after start.folders start.effects start.calls) was folders c.loop-name.invariant.2 grown,
+      grown_twice (s.folders start) was folders c.loop-name.invariant.2 grown,
       c.open_or_make.ensures.kept ∙ c.loop-name.invariant.3,
       (λ honest. c.loop-name.invariant.4 (c.open_or_make.ensures.earlier honest)),
       (λ right honest. c.step_into.ensures.opened folders next.has_no_slash
@@ -29,28 +29,31 @@ loop-name-preserved g c =
 
 pub returns-in_err-opened-clause-opened : goal.returns-in_err-opened-clause-opened
 returns-in_err-opened-clause-opened g c right honest =
-    let before = c.loop-name.system.noted in
-    let now = c.open_or_make.new.system.noted in
-    let folders = folders_after now.folders now.effects now.calls in
-    let was = folders_after before.folders before.effects before.calls in
+    let s = g.S.System in
+    let before = c.loop-name.system in
+    let now = c.open_or_make.new.system in
+    let folders = s.folders now in
+    let was = s.folders before in
     opened_grown was folders c.open_or_make.ensures.grown c.loop-name.self
     (c.loop-name.invariant.5 right (c.open_or_make.ensures.earlier honest))
 
 pub returns-in-Other-clause-opened : goal.returns-in-Other-clause-opened
 returns-in-Other-clause-opened g c right honest =
-    let before = c.loop-name.system.noted in
-    let now = c.open_or_make.new.system.noted in
-    let folders = folders_after now.folders now.effects now.calls in
-    let was = folders_after before.folders before.effects before.calls in
+    let s = g.S.System in
+    let before = c.loop-name.system in
+    let now = c.open_or_make.new.system in
+    let folders = s.folders now in
+    let was = s.folders before in
     opened_grown was folders c.open_or_make.ensures.grown c.loop-name.self
     (c.loop-name.invariant.5 right (c.open_or_make.ensures.earlier honest))
 
 pub returns-in_err-step_into-in-Folder-clause-opened : goal.returns-in_err-step_into-in-Folder-clause-opened
 returns-in_err-step_into-in-Folder-clause-opened g c right honest =
-    let before = c.loop-name.system.noted in
-    let now = c.open_or_make.new.system.noted in
-    let folders = folders_after now.folders now.effects now.calls in
-    let was = folders_after before.folders before.effects before.calls in
+    let s = g.S.System in
+    let before = c.loop-name.system in
+    let now = c.open_or_make.new.system in
+    let folders = s.folders now in
+    let was = s.folders before in
     let next : IsNext c.loop-name.rest.now c.in-Some.name.now c.in-Some.below.now = search rules in
     c.step_into.ensures.opened folders next.has_no_slash (opened_grown was folders c.open_or_make.ensures.grown
     c.loop-name.self (c.loop-name.invariant.5 right (c.open_or_make.ensures.earlier honest)))

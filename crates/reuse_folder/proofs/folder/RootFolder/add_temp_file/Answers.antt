@@ -2,7 +2,6 @@ use Rattle.std.proofs.Common.{rules, ◌≡◌, ◌∙◌, ◌∷◌, ◌++◌, 
 use Rattle.reuse_system.specs.TempFiles.{place_of, IsNewIn}
 use Rattle.reuse_system.specs.NameChanges.{change_at}
 use Rattle.reuse_system.specs.NewFiles.{Due}
-use Rattle.reuse_system.specs.SystemCalls.{changes_of, looked_of}
 use Rattle.reuse_disk.specs.OpenFolders.{AreOpened}
 use Rattle.reuse_disk.proofs.EditLemmas.{only_none, only_one, only_then}
 use Rattle.reuse_disk.proofs.PlaceLemmas.{numbered_in}
@@ -15,11 +14,12 @@ use Rattle.reuse_folder.proofs.folder.RootFolder.add_temp_file.Goals as goal
 
 pub returns-in_err-temp_file-clause-changes : goal.returns-in_err-temp_file-clause-changes
 returns-in_err-temp_file-clause-changes g c =
+    let s = g.S.System in
     let new_files = c.args.round.now.new_file.folder.identity in
-    let a = changes_of c.args.self.now.system.noted.calls in
-    let b = changes_of c.make_room.new.self.system.noted.calls in
-    let d = changes_of c.enter_seen.new.system.noted.calls in
-    let e = changes_of c.write_one_temp_file.new.system.noted.calls in
+    let a = s.changes c.args.self.now.system in
+    let b = s.changes c.make_room.new.self.system in
+    let d = s.changes c.enter_seen.new.system in
+    let e = s.changes c.write_one_temp_file.new.system in
     let only = only_then IsNewFile a b e (only_none IsNewFile a b c.make_room.ensures.changes)
     (only_then IsNewFile b d e (only_none IsNewFile b d c.enter_seen.ensures.changes)
     (only_new new_files d e c.write_one_temp_file.ensures.changes)) in
@@ -27,11 +27,12 @@ returns-in_err-temp_file-clause-changes g c =
 
 pub returns-in-Ok-clause-changes : goal.returns-in-Ok-clause-changes
 returns-in-Ok-clause-changes g c =
+    let s = g.S.System in
     let new_files = c.args.round.now.new_file.folder.identity in
-    let a = changes_of c.args.self.now.system.noted.calls in
-    let b = changes_of c.make_room.new.self.system.noted.calls in
-    let d = changes_of c.enter_seen.new.system.noted.calls in
-    let e = changes_of c.write_one_temp_file.new.system.noted.calls in
+    let a = s.changes c.args.self.now.system in
+    let b = s.changes c.make_room.new.self.system in
+    let d = s.changes c.enter_seen.new.system in
+    let e = s.changes c.write_one_temp_file.new.system in
     let only = only_then IsNewFile a b e (only_none IsNewFile a b c.make_room.ensures.changes)
     (only_then IsNewFile b d e (only_none IsNewFile b d c.enter_seen.ensures.changes)
     (only_new new_files d e c.write_one_temp_file.ensures.changes)) in
@@ -39,15 +40,16 @@ returns-in-Ok-clause-changes g c =
 
 pub returns-in-Err-clause-changes : goal.returns-in-Err-clause-changes
 returns-in-Err-clause-changes g c =
+    let s = g.S.System in
     let new_files = c.args.round.now.new_file.folder.identity in
-    let a = changes_of c.args.self.now.system.noted.calls in
-    let b = changes_of c.make_room.new.self.system.noted.calls in
-    let d = changes_of c.enter_seen.new.system.noted.calls in
-    let e = changes_of c.write_one_temp_file.new.system.noted.calls in
+    let a = s.changes c.args.self.now.system in
+    let b = s.changes c.make_room.new.self.system in
+    let d = s.changes c.enter_seen.new.system in
+    let e = s.changes c.write_one_temp_file.new.system in
     let only = only_then IsNewFile a b e (only_none IsNewFile a b c.make_room.ensures.changes)
     (only_then IsNewFile b d e (only_none IsNewFile b d c.enter_seen.ensures.changes)
     (only_new new_files d e c.write_one_temp_file.ensures.changes)) in
-    let f = changes_of c.discard.new.self.noted.calls in
+    let f = s.changes c.discard.new.self in
     let temp_files = c.args.round.now.temp_files.items in
     let from = place_of c.in-Err.full.value.temp_file in
     let number : c.len-number.result ≡ length temp_files = search rules in
@@ -61,7 +63,7 @@ returns-in-Err-clause-changes g c =
       inl (subst (IsNewIn new_files) (sym at) (numbered_in new_files (length temp_files) (rw number at short))),
     ) in
     only_then IsNewFile a e f only (only_one IsNewFile e f
-    (change_at (looked_of c.write_one_temp_file.new.system.noted.calls) from) c.discard.ensures.changes new)
+    (change_at (s.looked c.write_one_temp_file.new.system) from) c.discard.ensures.changes new)
 
 pub invariant_of-self-in-Err : goal.invariant_of-self-in-Err
 invariant_of-self-in-Err g c =

@@ -7,7 +7,6 @@ use Rattle.reuse_system.specs.declared.handle.OpenFolder.{OpenFolder}
 use Rattle.reuse_disk.proofs.EditLemmas.{only_then}
 use Rattle.reuse_folder.specs.Rounds.{new_place, AreApart, AreTempFile, AreBegun, HavePlaces, IsAdded, IsNumbered}
 use Rattle.reuse_folder.specs.Seen.{AreKnown, IsKnownTempFile, IsNewFile}
-use Rattle.reuse_folder.proofs.Noted.{held_of, Honest_of}
 use Rattle.reuse_folder.proofs.PutLemmas.{of_ok}
 use Rattle.reuse_folder.proofs.RoundLemmas.{apart_added, temp_file_added, begun_done, begun_freed, numbered_added}
 use Rattle.reuse_folder.proofs.RoundLemmas.{places_added}
@@ -18,13 +17,14 @@ use Rattle.reuse_folder.proofs.folder.RootFolder.fill_round.Goals as goal
 
 pub returns-in_default-clause-begun : goal.returns-in_default-clause-begun
 returns-in_default-clause-begun g c =
+    let s = g.S.System in
     let so_far = c.loop-write.invariant in
-    let now = c.loop-write.self.system.noted in
+    let now = c.loop-write.self.system in
     let few : length c.loop-write.round.temp_files.items ≤ length c.args.writes.now =
     omega (arith, so_far.count, c.loop-write-test.true) in
-    begun_done (Honest_of now × IsTrue true) c.args.round.now.new_file.folder.identity c.args.writes.now
-    c.loop-write.round.temp_files.items (held_of c.args.self.now.system.noted)
-    (held_of now) few so_far.places so_far.temp_file
+    begun_done (s.honest now × IsTrue true) c.args.round.now.new_file.folder.identity c.args.writes.now
+    c.loop-write.round.temp_files.items (s.holds c.args.self.now.system)
+    (s.holds now) few so_far.places so_far.temp_file
     so_far.apart so_far.alike
 
 pub returns-then-number-eq0-clause-changes : goal.returns-then-number-eq0-clause-changes
@@ -38,51 +38,54 @@ returns-in-Err-clause-changes g c =
 
 pub returns-in-Err-clause-begun : goal.returns-in-Err-clause-begun
 returns-in-Err-clause-begun g c =
+    let s = g.S.System in
     let so_far = c.loop-write.invariant in
     let new_files = c.args.round.now.new_file.folder.identity in
     let writes = c.args.writes.now in
     let temp_files = c.loop-write.round.temp_files.items in
-    let first = held_of c.args.self.now.system.noted in
-    let before = held_of c.loop-write.self.system.noted in
-    let last = c.check_free.new.system.noted in
+    let first = s.holds c.args.self.now.system in
+    let before = s.holds c.loop-write.self.system in
+    let last = c.check_free.new.system in
     let same : c.add_temp_file.new.round.temp_files.items ≡ temp_files = c.in-Err.ensures.added in
     let number : c.len-number.result ≡ length temp_files = search rules in
     let short : c.len-number.result < 2 ^ 64 = search rules in
     let folder = c.add_temp_file.ensures.folder ∙ so_far.folder in
     let place = new_place new_files (length temp_files) in
     let free = ap (λ (f : OpenFolder). new_place f.identity (length temp_files)) folder in
-    let others : IsAlikeBut place before (held_of c.add_temp_file.new.self.system.noted) =
+    let others : IsAlikeBut place before (s.holds c.add_temp_file.new.self.system) =
     subst (λ (f : OpenFolder). IsAlikeBut (new_place f.identity (length temp_files)) before
-    (held_of c.add_temp_file.new.self.system.noted)) so_far.folder c.add_temp_file.ensures.others in
-    let alike : IsAlikeBut place before (held_of last) =
+    (s.holds c.add_temp_file.new.self.system)) so_far.folder c.add_temp_file.ensures.others in
+    let alike : IsAlikeBut place before (s.holds last) =
     subst (IsAlikeBut place before) (sym c.check_free.ensures.kept) others in
     let few : length temp_files ≤ length writes = omega (arith, so_far.count, c.loop-write-test.true) in
-    subst (λ l. AreBegun (Honest_of last × IsTrue (is_ok c.check_free.result)) new_files writes l first (held_of last))
+    subst (λ l. AreBegun (s.honest last × IsTrue (is_ok c.check_free.result)) new_files writes l first (s.holds last))
     (sym same)
     (begun_freed
-    (Honest_of last × IsTrue (is_ok c.check_free.result)) new_files writes temp_files first before (held_of last)
+    (s.honest last × IsTrue (is_ok c.check_free.result)) new_files writes temp_files first before (s.holds last)
     (λ well. rw (folder, number) at (of_ok c.check_free.result
-    (held_of last (new_place c.add_temp_file.new.round.new_file.folder.identity c.len-number.result) ≡ None)
+    (s.holds last (new_place c.add_temp_file.new.round.new_file.folder.identity c.len-number.result) ≡ None)
     (c.check_free.ensures.free well.0) well.1))
     few (rw number at short) so_far.places so_far.temp_file so_far.apart so_far.alike alike)
 
 pub loop-write-preserved : goal.loop-write-preserved
 loop-write-preserved g c =
+    let s = g.S.System in
     let so_far = c.loop-write.invariant in
     let new_files = c.args.round.now.new_file.folder.identity in
     let writes = c.args.writes.now in
     let temp_files = c.loop-write.round.temp_files.items in
     let n = length temp_files in
-    let first = held_of c.args.self.now.system.noted in
-    let before = held_of c.loop-write.self.system.noted in
-    let now = held_of c.add_temp_file.new.self.system.noted in
+    let first = s.holds c.args.self.now.system in
+    let before = s.holds c.loop-write.self.system in
+    let now = s.holds c.add_temp_file.new.self.system in
     let items = c.add_temp_file.new.round.temp_files.items in
     let write = c.write-item.result in
     let bytes = joined c.in-Some.parts in
     let added : IsAdded new_files now bytes temp_files items true = subst (λ (f : OpenFolder).
     IsAdded f.identity now bytes temp_files items true) so_far.folder c.in_default-add_temp_file.ensures.added in
     let others : IsAlikeBut (new_place new_files n) before now = subst
-    (λ (f : OpenFolder). IsAlikeBut (new_place f.identity n) before now) so_far.folder c.add_temp_file.ensures.others in
+    (λ (f : OpenFolder). IsAlikeBut (new_place f.identity n) before now) so_far.folder c.add_temp_file.ensures.others
+    in
     let one = added.0 in
     let is = added.1 in
     let count : length (temp_files ++ (one ∷ [])) ≡ (n + 1) = length_push temp_files one in
@@ -122,13 +125,14 @@ loop-write-preserved g c =
 
 pub returns-clause-begun : goal.returns-clause-begun
 returns-clause-begun g c =
+    let s = g.S.System in
     let so_far = c.loop-write.invariant in
-    let now = c.loop-write.self.system.noted in
+    let now = c.loop-write.self.system in
     let few : length c.loop-write.round.temp_files.items ≤ length c.args.writes.now =
     omega (arith, so_far.count, c.loop-write.auto.write-index-end) in
-    begun_done (Honest_of now × IsTrue true) c.args.round.now.new_file.folder.identity c.args.writes.now
-    c.loop-write.round.temp_files.items (held_of c.args.self.now.system.noted)
-    (held_of now) few so_far.places so_far.temp_file
+    begun_done (s.honest now × IsTrue true) c.args.round.now.new_file.folder.identity c.args.writes.now
+    c.loop-write.round.temp_files.items (s.holds c.args.self.now.system)
+    (s.holds now) few so_far.places so_far.temp_file
     so_far.apart so_far.alike
 
 pub returns-in_default-clause-stay_noted : goal.returns-in_default-clause-stay_noted

@@ -2,7 +2,6 @@ use Rattle.std.proofs.Common.{rules, ◌≡◌, ◌∙◌, refl, subst, ap, Some
 use Rattle.reuse_folder.specs.FolderReads.{IsPlaceAt}
 use Rattle.reuse_disk.specs.OpenFolders.{current_of, IsEntered}
 use Rattle.reuse_system.specs.Names.{IsSplit}
-use Rattle.reuse_system.specs.SystemCalls.{folders_after, held_after}
 use Rattle.reuse_folder.proofs.ReadLemmas.{freely, reported_above, reported_look, nothing_reported, entered_none}
 use Rattle.reuse_folder.proofs.ReadLemmas.{no_file_some, no_lies}
 use Rattle.reuse_system.specs.declared.place.Found.TheVariants as found
@@ -11,9 +10,10 @@ use Rattle.reuse_folder.proofs.folder.RootFolder.look_unless_seen.Goals as goal
 
 pub returns-in-Some-Nothing-clause-seen : goal.returns-in-Some-Nothing-clause-seen
 returns-in-Some-Nothing-clause-seen g c honest none =
-    let noted = c.enter.new.system.noted in
-    let folders = folders_after noted.folders noted.effects noted.calls in
-    let held = held_after noted.files noted.effects noted.calls in
+    let s = g.S.System in
+    let system = c.enter.new.system in
+    let folders = s.folders system in
+    let held = s.holds system in
     let path = c.args.path.now in
     let folder = c.folder_and_name.result.0.now in
     let name = c.folder_and_name.result.1.now in
@@ -26,16 +26,18 @@ returns-in-Some-Nothing-clause-seen g c honest none =
 
 pub returns-in-Some-clause-lies : goal.returns-in-Some-clause-lies
 returns-in-Some-clause-lies g c honest =
-    let noted = c.enter.new.system.noted in
+    let s = g.S.System in
+    let system = c.enter.new.system in
     let is : c.in_ok-enter.field-0 ≡ Some c.in-Some.place = cc in
-    no_lies (folders_after noted.folders noted.effects noted.calls) c.args.path.now (current_of c.enter.new.self)
+    no_lies (s.folders system) c.args.path.now (current_of c.enter.new.self)
     c.in-Some.place (no_file_some c.in_ok-enter.field-0 c.in-Some.place is c.in_ok-enter.ensures.no_file)
 
 pub returns-in-Some-clause-seen : goal.returns-in-Some-clause-seen
 returns-in-Some-clause-seen g c honest none =
-    let noted = c.enter.new.system.noted in
-    let folders = folders_after noted.folders noted.effects noted.calls in
-    let held = held_after noted.files noted.effects noted.calls in
+    let s = g.S.System in
+    let system = c.enter.new.system in
+    let folders = s.folders system in
+    let held = s.holds system in
     let path = c.args.path.now in
     let folder = c.folder_and_name.result.0.now in
     let name = c.folder_and_name.result.1.now in
@@ -48,9 +50,10 @@ returns-in-Some-clause-seen g c honest none =
 
 pub returns-in-Some-seen-clause-lies : goal.returns-in-Some-seen-clause-lies
 returns-in-Some-seen-clause-lies g c honest =
-    let noted = c.enter.new.system.noted in
-    let folders = folders_after noted.folders noted.effects noted.calls in
-    let held = held_after noted.files noted.effects noted.calls in
+    let s = g.S.System in
+    let system = c.enter.new.system in
+    let folders = s.folders system in
+    let held = s.holds system in
     let path = c.args.path.now in
     let folder = c.folder_and_name.result.0.now in
     let name = c.folder_and_name.result.1.now in
@@ -62,19 +65,18 @@ returns-in-Some-seen-clause-lies g c honest =
 
 pub returns-in-Nothing-clause-seen : goal.returns-in-Nothing-clause-seen
 returns-in-Nothing-clause-seen g c honest none =
-    let noted = c.look.new.self.noted in
-    let before =
-    folders_after c.enter.new.system.noted.folders c.enter.new.system.noted.effects c.enter.new.system.noted.calls in
-    let folders = folders_after noted.folders noted.effects noted.calls in
-    let held = held_after noted.files noted.effects noted.calls in
+    let s = g.S.System in
+    let system = c.look.new.self in
+    let before = s.folders c.enter.new.system in
+    let folders = s.folders system in
+    let held = s.holds system in
     let path = c.args.path.now in
     let folder = c.folder_and_name.result.0.now in
     let name = c.folder_and_name.result.1.now in
     let current = current_of c.enter.new.self in
     let above = c.in_ok-current.field-0.now.identity in
     let split : IsSplit path folder name = search rules in
-    let was =
-    held_after c.enter.new.system.noted.files c.enter.new.system.noted.effects c.enter.new.system.noted.calls in
+    let was = s.holds c.enter.new.system in
     let entered = subst (IsEntered before was folder current) c.in-None.is
     (c.in_ok-enter.ensures.entered c.args.self.now.opened (c.look.ensures.earlier honest)) in
     let seen = rw c.in-Nothing.is at (c.in_ok-found.ensures.seen honest) in
@@ -84,38 +86,36 @@ returns-in-Nothing-clause-seen g c honest none =
 
 pub returns-in_default-2-clause-lies : goal.returns-in_default-2-clause-lies
 returns-in_default-2-clause-lies g c honest =
-    let noted = c.look.new.self.noted in
-    let before =
-    folders_after c.enter.new.system.noted.folders c.enter.new.system.noted.effects c.enter.new.system.noted.calls in
-    let folders = folders_after noted.folders noted.effects noted.calls in
-    let held = held_after noted.files noted.effects noted.calls in
+    let s = g.S.System in
+    let system = c.look.new.self in
+    let before = s.folders c.enter.new.system in
+    let folders = s.folders system in
+    let held = s.holds system in
     let path = c.args.path.now in
     let folder = c.folder_and_name.result.0.now in
     let name = c.folder_and_name.result.1.now in
     let current = current_of c.enter.new.self in
     let above = c.in_ok-current.field-0.now.identity in
     let split : IsSplit path folder name = search rules in
-    let was =
-    held_after c.enter.new.system.noted.files c.enter.new.system.noted.effects c.enter.new.system.noted.calls in
+    let was = s.holds c.enter.new.system in
     let entered = subst (IsEntered before was folder current) c.in-None.is
     (c.in_ok-enter.ensures.entered c.args.self.now.opened (c.look.ensures.earlier honest)) in
     entered_none folders held before path folder name current c.into_place.result c.look.ensures.still split entered
 
 pub returns-in_default-2-clause-seen : goal.returns-in_default-2-clause-seen
 returns-in_default-2-clause-seen g c honest none =
-    let noted = c.look.new.self.noted in
-    let before =
-    folders_after c.enter.new.system.noted.folders c.enter.new.system.noted.effects c.enter.new.system.noted.calls in
-    let folders = folders_after noted.folders noted.effects noted.calls in
-    let held = held_after noted.files noted.effects noted.calls in
+    let s = g.S.System in
+    let system = c.look.new.self in
+    let before = s.folders c.enter.new.system in
+    let folders = s.folders system in
+    let held = s.holds system in
     let path = c.args.path.now in
     let folder = c.folder_and_name.result.0.now in
     let name = c.folder_and_name.result.1.now in
     let current = current_of c.enter.new.self in
     let above = c.in_ok-current.field-0.now.identity in
     let split : IsSplit path folder name = search rules in
-    let was =
-    held_after c.enter.new.system.noted.files c.enter.new.system.noted.effects c.enter.new.system.noted.calls in
+    let was = s.holds c.enter.new.system in
     let entered = subst (IsEntered before was folder current) c.in-None.is
     (c.in_ok-enter.ensures.entered c.args.self.now.opened (c.look.ensures.earlier honest)) in
     reported_look folders held before path folder name current above c.in_ok-found.found c.into_place.result
@@ -124,9 +124,10 @@ returns-in_default-2-clause-seen g c honest none =
 
 pub returns-in-Some-Nothing-clause-apart : goal.returns-in-Some-Nothing-clause-apart
 returns-in-Some-Nothing-clause-apart g c honest =
-    let noted = c.enter.new.system.noted in
-    let folders = folders_after noted.folders noted.effects noted.calls in
-    let held = held_after noted.files noted.effects noted.calls in
+    let s = g.S.System in
+    let system = c.enter.new.system in
+    let folders = s.folders system in
+    let held = s.holds system in
     let path = c.args.path.now in
     let folder = c.folder_and_name.result.0.now in
     let name = c.folder_and_name.result.1.now in
@@ -140,9 +141,10 @@ returns-in-Some-Nothing-clause-apart g c honest =
 
 pub returns-in-Some-clause-apart : goal.returns-in-Some-clause-apart
 returns-in-Some-clause-apart g c honest none =
-    let noted = c.enter.new.system.noted in
-    let folders = folders_after noted.folders noted.effects noted.calls in
-    let held = held_after noted.files noted.effects noted.calls in
+    let s = g.S.System in
+    let system = c.enter.new.system in
+    let folders = s.folders system in
+    let held = s.holds system in
     let path = c.args.path.now in
     let folder = c.folder_and_name.result.0.now in
     let name = c.folder_and_name.result.1.now in
@@ -155,19 +157,18 @@ returns-in-Some-clause-apart g c honest none =
 
 pub returns-in-Nothing-clause-apart : goal.returns-in-Nothing-clause-apart
 returns-in-Nothing-clause-apart g c honest =
-    let noted = c.look.new.self.noted in
-    let before =
-    folders_after c.enter.new.system.noted.folders c.enter.new.system.noted.effects c.enter.new.system.noted.calls in
-    let folders = folders_after noted.folders noted.effects noted.calls in
-    let held = held_after noted.files noted.effects noted.calls in
+    let s = g.S.System in
+    let system = c.look.new.self in
+    let before = s.folders c.enter.new.system in
+    let folders = s.folders system in
+    let held = s.holds system in
     let path = c.args.path.now in
     let folder = c.folder_and_name.result.0.now in
     let name = c.folder_and_name.result.1.now in
     let current = current_of c.enter.new.self in
     let above = c.in_ok-current.field-0.now.identity in
     let split : IsSplit path folder name = search rules in
-    let was =
-    held_after c.enter.new.system.noted.files c.enter.new.system.noted.effects c.enter.new.system.noted.calls in
+    let was = s.holds c.enter.new.system in
     let entered = subst (IsEntered before was folder current) c.in-None.is
     (c.in_ok-enter.ensures.entered c.args.self.now.opened (c.look.ensures.earlier honest)) in
     let seen = rw c.in-Nothing.is at (c.in_ok-found.ensures.seen honest) in
@@ -178,19 +179,18 @@ returns-in-Nothing-clause-apart g c honest =
 
 pub returns-in_default-2-clause-apart : goal.returns-in_default-2-clause-apart
 returns-in_default-2-clause-apart g c honest none =
-    let noted = c.look.new.self.noted in
-    let before =
-    folders_after c.enter.new.system.noted.folders c.enter.new.system.noted.effects c.enter.new.system.noted.calls in
-    let folders = folders_after noted.folders noted.effects noted.calls in
-    let held = held_after noted.files noted.effects noted.calls in
+    let s = g.S.System in
+    let system = c.look.new.self in
+    let before = s.folders c.enter.new.system in
+    let folders = s.folders system in
+    let held = s.holds system in
     let path = c.args.path.now in
     let folder = c.folder_and_name.result.0.now in
     let name = c.folder_and_name.result.1.now in
     let current = current_of c.enter.new.self in
     let above = c.in_ok-current.field-0.now.identity in
     let split : IsSplit path folder name = search rules in
-    let was =
-    held_after c.enter.new.system.noted.files c.enter.new.system.noted.effects c.enter.new.system.noted.calls in
+    let was = s.holds c.enter.new.system in
     let entered = subst (IsEntered before was folder current) c.in-None.is
     (c.in_ok-enter.ensures.entered c.args.self.now.opened (c.look.ensures.earlier honest)) in
     reported_look folders held before path folder name current above c.in_ok-found.found c.into_place.result

@@ -1,5 +1,4 @@
 use Rattle.reuse_system.specs.TempFiles.{IsNewIn}
-use Rattle.reuse_system.specs.SystemCalls.{changes_of}
 use Rattle.reuse_disk.proofs.EditLemmas.{only_none, only_then}
 use Rattle.reuse_folder.proofs.FolderLemmas.{nothing_cleared, cleared_at_error}
 use Rattle.reuse_folder.proofs.folder.RootFolder.open_new_file.Goals as goal
@@ -22,12 +21,13 @@ returns-in_err-names-clause-cleared g c = rw c.make.ensures.kept (nothing_cleare
 
 pub returns-in_err-clear-clause-cleared : goal.returns-in_err-clear-clause-cleared
 returns-in_err-clear-clause-cleared g c =
-    let first = c.args.self.now.system.noted.calls in
-    let made = c.make.new.system.noted.calls in
-    let last = c.clear.new.system.noted.calls in
+    let s = g.S.System in
+    let first = s.changes c.args.self.now.system in
+    let made = s.changes c.make.new.system in
+    let last = s.changes c.clear.new.system in
     let IsOne = IsNewIn c.in_folder-new_file.result.folder.identity in
     rw (← c.make.ensures.kept)
     (cleared_at_error c.in_folder-new_file.result.folder.identity _ _ _ _ c.from_residual-in_err-clear.result
     c.from_residual-in_err-clear.ensures.0
-    (only_then IsOne (changes_of first) (changes_of made) (changes_of last) (only_none IsOne (changes_of first)
-    (changes_of made) c.make.ensures.changes) c.clear.ensures.changes) c.clear.ensures.others)
+    (only_then IsOne first made last (only_none IsOne first
+    made c.make.ensures.changes) c.clear.ensures.changes) c.clear.ensures.others)

@@ -1,24 +1,25 @@
 use Rattle.std.proofs.Common.{rules, ◌≡◌, false, is_ok}
 use Rattle.reuse_change.specs.Parts.{joined}
 use Rattle.reuse_disk.specs.Written.{is_kept}
-use Rattle.reuse_folder.proofs.Noted.{folders_of, held_of}
 use Rattle.reuse_folder.proofs.PutLemmas.{nothing_put_by, nothing_put_in, stored_if}
 use Rattle.reuse_folder.proofs.EditLemmas.{loses_none}
 use Rattle.reuse_folder.proofs.folder.RootFolder.put_expected.Goals as goal
 
 pub returns-in_err-found-clause-written : goal.returns-in_err-found-clause-written
 returns-in_err-found-clause-written g c =
+    let s = g.S.System in
     let failed : is_ok c.from_residual.result ≡ false = search rules in
     rw c.make_room.ensures.kept
     (nothing_put_by c.args.path.now (joined c.args.parts) (is_kept c.args.self.now.unsynced.syncs)
-    (held_of c.args.self.now.system.noted) (is_ok c.from_residual.result) failed)
+    (s.holds c.args.self.now.system) (is_ok c.from_residual.result) failed)
 
 pub returns-in_err-found-clause-place : goal.returns-in_err-found-clause-place
 returns-in_err-found-clause-place g c honest =
+    let s = g.S.System in
     let failed : is_ok c.from_residual.result ≡ false = search rules in
     rw c.make_room.ensures.kept
-    (nothing_put_in (folders_of c.make_room.new.self.system.noted) c.args.path.now (joined c.args.parts) (is_kept
-    c.args.self.now.unsynced.syncs) (held_of c.args.self.now.system.noted) (is_ok c.from_residual.result) failed)
+    (nothing_put_in (s.folders c.make_room.new.self.system) c.args.path.now (joined c.args.parts) (is_kept
+    c.args.self.now.unsynced.syncs) (s.holds c.args.self.now.system) (is_ok c.from_residual.result) failed)
 
 pub returns-in_err-found-clause-keeps_edits : goal.returns-in_err-found-clause-keeps_edits
 returns-in_err-found-clause-keeps_edits g c =
@@ -34,7 +35,8 @@ returns-clause-place g c honest =
 
 pub returns-clause-stands : goal.returns-clause-stands
 returns-clause-stands g c honest =
+    let s = g.S.System in
     let put = rw c.make_room.ensures.syncs at (c.write.ensures.place honest) in
-    let last = c.write.new.self.system.noted in
-    stored_if put.0 (folders_of last) c.args.path.now (joined c.args.parts) (is_kept c.args.self.now.unsynced.syncs)
-    (held_of c.make_room.new.self.system.noted) (held_of last) c.write.result put.1
+    let last = c.write.new.self.system in
+    stored_if put.0 (s.folders last) c.args.path.now (joined c.args.parts) (is_kept c.args.self.now.unsynced.syncs)
+    (s.holds c.make_room.new.self.system) (s.holds last) c.write.result put.1

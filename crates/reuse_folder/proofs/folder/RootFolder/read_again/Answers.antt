@@ -1,28 +1,29 @@
 use Rattle.std.proofs.Common.{subst}
 use Rattle.reuse_folder.specs.FolderReads.{IsPlaceAt, LiesIn}
 use Rattle.reuse_disk.specs.OpenFolders.{current_of}
-use Rattle.reuse_system.specs.SystemCalls.{folders_after, held_after}
 use Rattle.reuse_folder.proofs.ReadLemmas.{absent_at, no_file_of, read_after}
 use Rattle.reuse_folder.proofs.folder.RootFolder.read_again.Goals as goal
 
 pub returns-in_default-clause-read : goal.returns-in_default-clause-read
 returns-in_default-clause-read g c honest =
-    let noted = c.look.new.self.system.noted in
+    let s = g.S.System in
+    let system = c.look.new.self.system in
     let place = c.in_ok-status.field-0 in
-    rw c.note_read.ensures.system (absent_at (folders_after noted.folders noted.effects noted.calls) (held_after
-    noted.files noted.effects noted.calls) c.args.path.now c.args.limit (current_of c.look.new.self.open_folders) place
+    rw c.note_read.ensures.system (absent_at (s.folders system) (s.holds system) c.args.path.now c.args.limit
+    (current_of c.look.new.self.open_folders) place
     (no_file_of place c.in_default.not-File) (c.in_ok-status.ensures.seen (rw c.note_read.ensures.system at honest)))
 
 pub returns-in-Some-clause-read : goal.returns-in-Some-clause-read
 returns-in-Some-clause-read g c honest =
-    let first = c.look.new.self.system.noted in
-    let second = c.read_anew.new.self.system.noted in
-    let folders = folders_after first.folders first.effects first.calls in
-    let held = held_after first.files first.effects first.calls in
+    let s = g.S.System in
+    let first = c.look.new.self.system in
+    let second = c.read_anew.new.self.system in
+    let folders = s.folders first in
+    let held = s.holds first in
     let current = current_of c.look.new.self.open_folders in
     let before = c.read_anew.ensures.earlier honest in
     let lies = subst (LiesIn folders c.args.path.now current) c.in-File.is (c.in_ok-status.ensures.lies before) in
     let at = subst (IsPlaceAt folders held c.args.path.now current) c.in-File.is (c.in_ok-status.ensures.seen before) in
-    read_after (folders_after second.folders second.effects second.calls) folders (held_after second.files
-    second.effects second.calls) held c.args.path.now c.args.limit current c.in_ok-reading.field-0 c.in-Some.reading
+    read_after (s.folders second) folders (s.holds second) held c.args.path.now c.args.limit current
+    c.in_ok-reading.field-0 c.in-Some.reading
     c.read_anew.ensures.still c.read_anew.ensures.kept c.in-Some.is lies (c.in_ok-reading.ensures.read honest at)

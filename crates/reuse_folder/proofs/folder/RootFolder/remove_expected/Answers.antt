@@ -3,13 +3,11 @@ use Rattle.reuse_folder.specs.FolderReads.{LiesIn}
 use Rattle.reuse_disk.specs.OpenFolders.{current_of}
 use Rattle.reuse_folder.specs.FolderWrites.{IsGone, IsRemovedIn}
 use Rattle.reuse_system.specs.Names.{IsNameOf}
-use Rattle.reuse_system.specs.SystemCalls.{folders_after, held_after}
 use Rattle.reuse_folder.proofs.FolderLemmas.{nothing_removed, removed_at}
 use Rattle.reuse_folder.proofs.ReadLemmas.{always, gone_if, gone_reported, no_file_of, removed_in}
 use Rattle.reuse_folder.proofs.EditLemmas.{any_due, loses_none, loses_removed}
 use Rattle.reuse_system.specs.FileStates.{place_in}
 use Rattle.reuse_disk.specs.Written.{LeavesNone}
-use Rattle.reuse_folder.proofs.Noted.{held_of}
 use Rattle.reuse_folder.proofs.PutLemmas.{none_by_removal}
 use Rattle.reuse_system.specs.Names.{IsSplit}
 use Rattle.reuse_disk.specs.Noted.{IsNoted}
@@ -52,44 +50,47 @@ pub returns-in_ok-current-in-File-clause-removed : goal.returns-in_ok-current-in
 returns-in_ok-current-in-File-clause-removed g c =
     let name = c.folder_and_name.result.1.now in
     let named : IsNameOf c.args.path.now name = search rules in
-    rw (← c.look_unless_seen.ensures.kept) (removed_at c.args.path.now name c.in_ok-current-in-File.field-0.now.identity
+    rw (← c.look_unless_seen.ensures.kept)
+    (removed_at c.args.path.now name c.in_ok-current-in-File.field-0.now.identity
     _ _ c.remove_seen.result named c.remove_seen.ensures.removed)
 
 pub returns-in_ok-current-in-File-clause-place : goal.returns-in_ok-current-in-File-clause-place
 returns-in_ok-current-in-File-clause-place g c honest =
+    let s = g.S.System in
     let path = c.args.path.now in
     let name = c.folder_and_name.result.1.now in
     let named : IsNameOf path name = search rules in
-    let seen = c.look_unless_seen.new.self.system.noted in
-    let now = c.remove_seen.new.system.noted in
-    let folders = folders_after seen.folders seen.effects seen.calls in
+    let seen = c.look_unless_seen.new.self.system in
+    let now = c.remove_seen.new.system in
+    let folders = s.folders seen in
     let current = current_of c.look_unless_seen.new.self.open_folders in
     let folder = c.in_ok-current-in-File.field-0.now.identity in
     let lies = subst (LiesIn folders path current) c.in-File.is
     (c.in_ok-status.ensures.lies (c.remove_seen.ensures.earlier honest)) in
-    let a = held_after seen.files seen.effects seen.calls in
-    let b = held_after now.files now.effects now.calls in
+    let a = s.holds seen in
+    let b = s.holds now in
     let removed = removed_in folders path name current folder a b c.remove_seen.result named lies
     c.in_ok-current-in-File.ensures c.remove_seen.ensures.removed in
     subst
-    (λ held. IsRemovedIn (folders_after now.folders now.effects now.calls) path held b) c.look_unless_seen.ensures.kept
+    (λ held. IsRemovedIn (s.folders now) path held b) c.look_unless_seen.ensures.kept
     (subst (λ reported. IsRemovedIn reported path a b) (sym c.remove_seen.ensures.still) removed)
 
 pub returns-in_ok-current-in-File-clause-gone : goal.returns-in_ok-current-in-File-clause-gone
 returns-in_ok-current-in-File-clause-gone g c honest =
+    let s = g.S.System in
     let path = c.args.path.now in
     let name = c.folder_and_name.result.1.now in
     let named : IsNameOf path name = search rules in
-    let seen = c.look_unless_seen.new.self.system.noted in
-    let now = c.remove_seen.new.system.noted in
-    let folders = folders_after seen.folders seen.effects seen.calls in
+    let seen = c.look_unless_seen.new.self.system in
+    let now = c.remove_seen.new.system in
+    let folders = s.folders seen in
     let current = current_of c.look_unless_seen.new.self.open_folders in
     let folder = c.in_ok-current-in-File.field-0.now.identity in
     let lies = subst (LiesIn folders path current) c.in-File.is
     (c.in_ok-status.ensures.lies (c.remove_seen.ensures.earlier honest)) in
-    let a = held_after seen.files seen.effects seen.calls in
-    let b = held_after now.files now.effects now.calls in
-    gone_if (folders_after now.folders now.effects now.calls) folders path name current folder a b c.remove_seen.result
+    let a = s.holds seen in
+    let b = s.holds now in
+    gone_if (s.folders now) folders path name current folder a b c.remove_seen.result
     c.remove_seen.ensures.still named lies c.in_ok-current-in-File.ensures c.remove_seen.ensures.removed
 
 pub returns-in_ok-current-in-File-clause-keeps_edits : goal.returns-in_ok-current-in-File-clause-keeps_edits
@@ -105,10 +106,11 @@ returns-in_ok-current-in-File-clause-keeps_edits g c =
 
 pub returns-in_default : goal.returns-in_default
 returns-in_default g c =
+    let s = g.S.System in
     let path = c.args.path.now in
-    let noted = c.look_unless_seen.new.self.system.noted in
-    let folders = folders_after noted.folders noted.effects noted.calls in
-    let held = held_after noted.files noted.effects noted.calls in
+    let system = c.look_unless_seen.new.self.system in
+    let folders = s.folders system in
+    let held = s.holds system in
     let current = current_of c.look_unless_seen.new.self.open_folders in
     let place = c.in_ok-status.field-0 in
     let free = no_file_of place c.in_default.not-File in
@@ -118,7 +120,7 @@ returns-in_default g c =
       place = λ honest. rw c.look_unless_seen.ensures.kept (inl (λ at. refl));
       gone = λ honest. always c.nothing.result (IsGone folders held path)
           (gone_reported folders held path current place free (c.in_ok-status.ensures.apart honest free));
-      none_left = always c.nothing.result (LeavesNone (λ at. Unit {0}) (held_of c.args.self.now.system.noted) held)
+      none_left = always c.nothing.result (LeavesNone (λ at. Unit {0}) (s.holds c.args.self.now.system) held)
           (λ at any. inl (ap (λ f. f at) c.look_unless_seen.ensures.kept));
       earlier = c.look_unless_seen.ensures.earlier;
       syncs = ap (λ unsynced. unsynced.syncs) c.look_unless_seen.ensures.unsynced;
@@ -133,11 +135,12 @@ returns-in_default g c =
 
 pub returns-in_ok-current-in-File-clause-none_left : goal.returns-in_ok-current-in-File-clause-none_left
 returns-in_ok-current-in-File-clause-none_left g c =
+    let s = g.S.System in
     let name = c.folder_and_name.result.1.now in
     rw (← c.look_unless_seen.ensures.kept)
     (none_by_removal (place_in c.in_ok-current-in-File.field-0.now.identity name)
-    (held_of c.look_unless_seen.new.self.system.noted)
-    (held_of c.remove_seen.new.system.noted) c.remove_seen.result c.remove_seen.ensures.removed)
+    (s.holds c.look_unless_seen.new.self.system)
+    (s.holds c.remove_seen.new.system) c.remove_seen.result c.remove_seen.ensures.removed)
 
 pub returns-in_ok-current-in-File-clause-noted : goal.returns-in_ok-current-in-File-clause-noted
 returns-in_ok-current-in-File-clause-noted g c kept =
@@ -146,6 +149,7 @@ returns-in_ok-current-in-File-clause-noted g c kept =
     let name = c.folder_and_name.result.1.now in
     let split : IsSplit path above name = search rules in
     let noted =
-    c.in_ok-note-in-File.ensures.noted (ap (λ unsynced. unsynced.syncs) c.look_unless_seen.ensures.unsynced ∙ kept) in
+    c.in_ok-note-in-File.ensures.noted (ap (λ unsynced. unsynced.syncs) c.look_unless_seen.ensures.unsynced ∙ kept)
+    in
     has_noted _ path c.args.expected _ _ _ _ (above_of _ path above name split noted)
     (returns-in_ok-current-in-File-clause-keeps_edits g c)

@@ -3,13 +3,13 @@ use Rattle.reuse_system.specs.TempFiles.{key_of}
 use Rattle.reuse_disk.specs.Written.{is_kept, IsSyncedIf}
 use Rattle.reuse_folder.specs.Rounds.{AreTempFile}
 use Rattle.std.proofs.Common.{length}
-use Rattle.reuse_folder.proofs.Noted.{held_of}
 use Rattle.reuse_folder.proofs.RoundEnds.{never_ok}
 use Rattle.reuse_folder.proofs.RoundLemmas.{numbered_twice, synced_alike, synced_more, unsynced_alike}
 use Rattle.reuse_folder.proofs.folder.RootFolder.sync_all.Goals as goal
 
 pub returns-in_err-sync_temp_file-clause-synced : goal.returns-in_err-sync_temp_file-clause-synced
 returns-in_err-sync_temp_file-clause-synced g c new_files few apart temp_file =
+    let s = g.S.System in
     let so_far = c.loop-at.invariant.synced new_files few apart temp_file in
     let is = is_kept c.args.self.now.unsynced.syncs in
     let writes = c.args.writes.now in
@@ -17,9 +17,9 @@ returns-in_err-sync_temp_file-clause-synced g c new_files few apart temp_file =
     let k = c.loop-at.at in
     let write = c.in-Some.write.now in
     let one = c.index-temp_files-at.result in
-    let a = held_of c.args.self.now.system.noted in
-    let b = held_of c.loop-at.self.system.noted in
-    let d = held_of c.sync_temp_file.new.self.system.noted in
+    let a = s.holds c.args.self.now.system in
+    let b = s.holds c.loop-at.self.system in
+    let d = s.holds c.sync_temp_file.new.self.system in
     let stands =
     so_far.0.1 k write one (omega arith) c.loop-at-test.true c.in-Some.ensures.lookup.1 c.index-temp_files-at.is in (
       never_ok c.from_residual.result
@@ -30,6 +30,7 @@ returns-in_err-sync_temp_file-clause-synced g c new_files few apart temp_file =
 
 pub loop-at-preserved : goal.loop-at-preserved
 loop-at-preserved g c =
+    let s = g.S.System in
     record {
       synced = λ new_files few apart temp_file.
           let so_far = c.loop-at.invariant.synced new_files few apart temp_file in
@@ -39,9 +40,9 @@ loop-at-preserved g c =
           let k = c.loop-at.at in
           let write = c.in-Some.write.now in
           let one = c.index-temp_files-at.result in
-          let a = held_of c.args.self.now.system.noted in
-          let b = held_of c.loop-at.self.system.noted in
-          let d = held_of c.sync_temp_file.new.self.system.noted in
+          let a = s.holds c.args.self.now.system in
+          let b = s.holds c.loop-at.self.system in
+          let d = s.holds c.sync_temp_file.new.self.system in
           let stands = so_far.0.1 k write one
           (omega arith) c.loop-at-test.true c.in-Some.ensures.lookup.1 c.index-temp_files-at.is in
           let synced : IsSyncedIf is (key_of one.temp_file) b d =

@@ -5,10 +5,8 @@ use Rattle.reuse_system.specs.FileStates.{place_in}
 use Rattle.reuse_disk.specs.OpenFolders.{current_of, AreOpened}
 use Rattle.reuse_system.specs.NameChanges.{OnlyChanges}
 use Rattle.reuse_system.specs.Names.{IsNameOf, IsSplit}
-use Rattle.reuse_system.specs.SystemCalls.{changes_of, held_after}
 use Rattle.reuse_system.specs.SystemLaws.{IsAlikeUnless}
 use Rattle.reuse_disk.specs.Written.{IsWritten, LeavesNone, is_kept}
-use Rattle.reuse_folder.proofs.Noted.{folders_of, held_of}
 use Rattle.reuse_folder.proofs.PutLemmas.{not_put_by, not_put_in, nothing_put_by, nothing_put_in, of_ok, put_by, put_in}
 use Rattle.reuse_folder.proofs.ReadLemmas.{named_of}
 use Rattle.reuse_folder.proofs.EditLemmas.{loses_none, loses_only, loses_put, owner_kept}
@@ -20,70 +18,79 @@ use Rattle.reuse_folder.proofs.folder.RootFolder.write.Goals as goal
 
 pub returns-in_err-note-clause-written : goal.returns-in_err-note-clause-written
 returns-in_err-note-clause-written g c =
+    let s = g.S.System in
     let failed : is_ok c.from_residual.result ≡ false = search rules in
     nothing_put_by c.args.path.now (joined c.args.parts) (is_kept c.args.self.now.unsynced.syncs)
-    (held_of c.args.self.now.system.noted) (is_ok c.from_residual.result) failed
+    (s.holds c.args.self.now.system) (is_ok c.from_residual.result) failed
 
 pub returns-in_err-note-clause-place : goal.returns-in_err-note-clause-place
 returns-in_err-note-clause-place g c honest =
+    let s = g.S.System in
     let failed : is_ok c.from_residual.result ≡ false = search rules in
-    nothing_put_in (folders_of c.args.self.now.system.noted) c.args.path.now (joined c.args.parts)
-    (is_kept c.args.self.now.unsynced.syncs) (held_of c.args.self.now.system.noted)
+    nothing_put_in (s.folders c.args.self.now.system) c.args.path.now (joined c.args.parts)
+    (is_kept c.args.self.now.unsynced.syncs) (s.holds c.args.self.now.system)
     (is_ok c.from_residual.result) failed
 
 pub returns-in_err-new_file-clause-written : goal.returns-in_err-new_file-clause-written
 returns-in_err-new_file-clause-written g c =
+    let s = g.S.System in
     let failed : is_ok c.from_residual-in_err-new_file.result ≡ false = search rules in
     let cleared = c.take_new_file.ensures.cleared in
     not_put_by cleared.folder c.args.path.now (joined c.args.parts) (is_kept c.args.self.now.unsynced.syncs)
-    (held_of c.args.self.now.system.noted) (held_of c.take_new_file.new.self.system.noted)
+    (s.holds c.args.self.now.system) (s.holds c.take_new_file.new.self.system)
     (is_ok c.from_residual-in_err-new_file.result) failed cleared.others
 
 pub returns-in_err-new_file-clause-place : goal.returns-in_err-new_file-clause-place
 returns-in_err-new_file-clause-place g c honest =
+    let s = g.S.System in
     let failed : is_ok c.from_residual-in_err-new_file.result ≡ false = search rules in
     let cleared = c.take_new_file.ensures.cleared in
-    not_put_in (folders_of c.take_new_file.new.self.system.noted) c.args.path.now (joined c.args.parts)
-    (is_kept c.args.self.now.unsynced.syncs) (held_of c.args.self.now.system.noted)
-    (held_of c.take_new_file.new.self.system.noted)
+    not_put_in (s.folders c.take_new_file.new.self.system) c.args.path.now (joined c.args.parts)
+    (is_kept c.args.self.now.unsynced.syncs) (s.holds c.args.self.now.system)
+    (s.holds c.take_new_file.new.self.system)
     (is_ok c.from_residual-in_err-new_file.result) cleared.folder failed cleared.others
 
 pub returns-in_err-enter_seen-clause-written : goal.returns-in_err-enter_seen-clause-written
 returns-in_err-enter_seen-clause-written g c =
+    let s = g.S.System in
     let failed : is_ok c.from_residual-in_err-enter_seen.result ≡ false = search rules in
     let cleared = c.take_new_file.ensures.cleared in
     not_put_by cleared.folder c.args.path.now (joined c.args.parts) (is_kept c.args.self.now.unsynced.syncs)
-    (held_of c.args.self.now.system.noted) (held_of c.enter_seen.new.system.noted)
+    (s.holds c.args.self.now.system) (s.holds c.enter_seen.new.system)
     (is_ok c.from_residual-in_err-enter_seen.result) failed (rw c.enter_seen.ensures.kept cleared.others)
 
 pub returns-in_err-enter_seen-clause-place : goal.returns-in_err-enter_seen-clause-place
 returns-in_err-enter_seen-clause-place g c honest =
+    let s = g.S.System in
     let failed : is_ok c.from_residual-in_err-enter_seen.result ≡ false = search rules in
     let cleared = c.take_new_file.ensures.cleared in
-    not_put_in (folders_of c.enter_seen.new.system.noted) c.args.path.now (joined c.args.parts)
-    (is_kept c.args.self.now.unsynced.syncs) (held_of c.args.self.now.system.noted)
-    (held_of c.enter_seen.new.system.noted) (is_ok c.from_residual-in_err-enter_seen.result) cleared.folder failed
+    not_put_in (s.folders c.enter_seen.new.system) c.args.path.now (joined c.args.parts)
+    (is_kept c.args.self.now.unsynced.syncs) (s.holds c.args.self.now.system)
+    (s.holds c.enter_seen.new.system) (is_ok c.from_residual-in_err-enter_seen.result) cleared.folder failed
     (rw c.enter_seen.ensures.kept cleared.others)
 
 pub returns-in_err-current-clause-written : goal.returns-in_err-current-clause-written
 returns-in_err-current-clause-written g c =
+    let s = g.S.System in
     let failed : is_ok c.from_residual-in_err-current.result ≡ false = search rules in
     let cleared = c.take_new_file.ensures.cleared in
     not_put_by cleared.folder c.args.path.now (joined c.args.parts) (is_kept c.args.self.now.unsynced.syncs)
-    (held_of c.args.self.now.system.noted) (held_of c.enter_seen.new.system.noted)
+    (s.holds c.args.self.now.system) (s.holds c.enter_seen.new.system)
     (is_ok c.from_residual-in_err-current.result) failed (rw c.enter_seen.ensures.kept cleared.others)
 
 pub returns-in_err-current-clause-place : goal.returns-in_err-current-clause-place
 returns-in_err-current-clause-place g c honest =
+    let s = g.S.System in
     let failed : is_ok c.from_residual-in_err-current.result ≡ false = search rules in
     let cleared = c.take_new_file.ensures.cleared in
-    not_put_in (folders_of c.enter_seen.new.system.noted) c.args.path.now (joined c.args.parts)
-    (is_kept c.args.self.now.unsynced.syncs) (held_of c.args.self.now.system.noted)
-    (held_of c.enter_seen.new.system.noted) (is_ok c.from_residual-in_err-current.result) cleared.folder failed
+    not_put_in (s.folders c.enter_seen.new.system) c.args.path.now (joined c.args.parts)
+    (is_kept c.args.self.now.unsynced.syncs) (s.holds c.args.self.now.system)
+    (s.holds c.enter_seen.new.system) (is_ok c.from_residual-in_err-current.result) cleared.folder failed
     (rw c.enter_seen.ensures.kept cleared.others)
 
 pub returns-clause-written : goal.returns-clause-written
 returns-clause-written g c =
+    let s = g.S.System in
     let path = c.args.path.now in
     let above = c.folder_and_name.result.0.now in
     let name = c.folder_and_name.result.1.now in
@@ -93,11 +100,11 @@ returns-clause-written g c =
     let is_done = is_ok c.write-written.result in
     let folder = c.in_ok-current.field-0.now.identity in
     let new_files = c.in_ok-new_file.new_file.folder.identity in
-    let a = held_of c.args.self.now.system.noted in
-    let b = held_of c.enter_seen.new.system.noted in
-    let d = held_of c.write-written.new.system.noted in
+    let a = s.holds c.args.self.now.system in
+    let b = s.holds c.enter_seen.new.system in
+    let d = s.holds c.write-written.new.system in
     let cleared = c.in_ok-new_file.ensures.cleared in
-    let cleared_alike : IsAlikeUnless (IsNewIn new_files) a (held_of c.take_new_file.new.self.system.noted) =
+    let cleared_alike : IsAlikeUnless (IsNewIn new_files) a (s.holds c.take_new_file.new.self.system) =
     rw cleared.is_folder cleared.others in
     let alike : IsAlikeUnless (IsNewIn new_files) a b = rw c.enter_seen.ensures.kept cleared_alike in
     let syncs : c.take_new_file.new.self.unsynced.syncs ≡ c.args.self.now.unsynced.syncs = search rules in
@@ -108,6 +115,7 @@ returns-clause-written g c =
 
 pub returns-clause-place : goal.returns-clause-place
 returns-clause-place g c honest =
+    let s = g.S.System in
     let path = c.args.path.now in
     let above = c.folder_and_name.result.0.now in
     let name = c.folder_and_name.result.1.now in
@@ -117,11 +125,11 @@ returns-clause-place g c honest =
     let is_done = is_ok c.write-written.result in
     let folder = c.in_ok-current.field-0.now.identity in
     let new_files = c.in_ok-new_file.new_file.folder.identity in
-    let a = held_of c.args.self.now.system.noted in
-    let b = held_of c.enter_seen.new.system.noted in
-    let d = held_of c.write-written.new.system.noted in
+    let a = s.holds c.args.self.now.system in
+    let b = s.holds c.enter_seen.new.system in
+    let d = s.holds c.write-written.new.system in
     let cleared = c.in_ok-new_file.ensures.cleared in
-    let cleared_alike : IsAlikeUnless (IsNewIn new_files) a (held_of c.take_new_file.new.self.system.noted) =
+    let cleared_alike : IsAlikeUnless (IsNewIn new_files) a (s.holds c.take_new_file.new.self.system) =
     rw cleared.is_folder cleared.others in
     let alike : IsAlikeUnless (IsNewIn new_files) a b = rw c.enter_seen.ensures.kept cleared_alike in
     let syncs : c.take_new_file.new.self.unsynced.syncs ≡ c.args.self.now.unsynced.syncs = search rules in
@@ -130,11 +138,11 @@ returns-clause-place g c honest =
     let late = rw c.note_written.ensures.system at honest in
     let entered =
     c.in_ok-enter_seen.ensures.entered c.take_new_file.new.self.opened (c.write-written.ensures.earlier late) in
-    let none : LeavesNone (IsNewIn new_files) a (held_of c.take_new_file.new.self.system.noted) =
+    let none : LeavesNone (IsNewIn new_files) a (s.holds c.take_new_file.new.self.system) =
     rw cleared.is_folder cleared.none_left in
     let none_left : LeavesNone (IsNewIn new_files) a b = rw c.enter_seen.ensures.kept none in
     rw c.note_written.ensures.system
-    (put_in (folders_of c.write-written.new.system.noted) (folders_of c.enter_seen.new.system.noted) path above name
+    (put_in (s.folders c.write-written.new.system) (s.folders c.enter_seen.new.system) path above name
     (current_of c.enter_seen.new.self) new_files folder bytes is a b d is_done
     c.write-written.ensures.still split entered c.in_ok-current.ensures alike none_left
     c.write-written.ensures.apart written
@@ -145,7 +153,8 @@ pub invariant_of-self-2 : goal.invariant_of-self-2
 invariant_of-self-2 g c =
     let was = c.enter_seen.ensures.opened c.take_new_file.new.self.opened in
     record {
-      opened = λ honest. subst (λ folders. AreOpened folders c.enter_seen.new.self) (sym c.write-written.ensures.still)
+      opened = λ honest. subst (λ folders. AreOpened folders c.enter_seen.new.self)
+          (sym c.write-written.ensures.still)
           (was (c.write-written.ensures.earlier honest));
     }
 
@@ -175,28 +184,29 @@ returns-in_err-current-clause-keeps_edits g c expected seen =
 
 pub returns-clause-keeps_edits : goal.returns-clause-keeps_edits
 returns-clause-keeps_edits g c expected seen =
+    let s = g.S.System in
     let path = c.args.path.now in
     let name = c.folder_and_name.result.1.now in
     let named : IsNameOf path name = search rules in
     let folder = c.in_ok-current.field-0.now.identity in
     let new_files = c.in_ok-new_file.new_file.folder.identity in
-    let first = c.args.self.now.system.noted in
-    let between = c.take_new_file.new.self.system.noted in
-    let second = c.enter_seen.new.system.noted in
-    let third = c.write-written.new.system.noted in
-    let a = held_after first.files first.effects first.calls in
-    let b = held_after second.files second.effects second.calls in
-    let d = held_after third.files third.effects third.calls in
+    let first = c.args.self.now.system in
+    let between = c.take_new_file.new.self.system in
+    let second = c.enter_seen.new.system in
+    let third = c.write-written.new.system in
+    let a = s.holds first in
+    let b = s.holds second in
+    let d = s.holds third in
     let cleared = c.in_ok-new_file.ensures.cleared in
-    let cleared_alike : IsAlikeUnless (IsNewIn new_files) a (held_after between.files between.effects between.calls) =
+    let cleared_alike : IsAlikeUnless (IsNewIn new_files) a (s.holds between) =
     rw cleared.is_folder cleared.others in
     let alike : IsAlikeUnless (IsNewIn new_files) a b = rw c.enter_seen.ensures.kept cleared_alike in
-    let cleared_only : OnlyChanges (IsNewIn new_files) (changes_of first.calls) (changes_of between.calls) =
+    let cleared_only : OnlyChanges (IsNewIn new_files) (s.changes first) (s.changes between) =
     rw cleared.is_folder cleared.changed in
-    let only : OnlyChanges (IsNewIn new_files) (changes_of first.calls) (changes_of second.calls) =
+    let only : OnlyChanges (IsNewIn new_files) (s.changes first) (s.changes second) =
     rw c.enter_seen.ensures.changes cleared_only in
-    rw c.note_written.ensures.system (loses_put path name expected _ new_files folder (changes_of first.calls)
-    (changes_of second.calls) (changes_of third.calls) a b d named seen
+    rw c.note_written.ensures.system (loses_put path name expected _ new_files folder (s.changes first)
+    (s.changes second) (s.changes third) a b d named seen
     (owner_kept c.take_new_file.new.self.ownership.process c.args.found c.in_ok-current.field-0.now.owner
     c.in_ok-current.field-0.now.passes_group c.wanted.result.owner c.wanted.ensures.owner) only alike
     c.write-written.ensures.guarded)

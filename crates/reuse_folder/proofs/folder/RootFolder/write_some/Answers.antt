@@ -1,40 +1,41 @@
 use Rattle.std.proofs.Common.{rules, ◌≡◌, ◌≢◌, ◌∷◌, [], length, is_ok, true, IfErr, None, Some, Ok, Err, refl, sym}
 use Rattle.std.proofs.Common.{subst}
 use Rattle.reuse_store.specs.declared.file_write.FileWrite.{FileWrite}
-use Rattle.reuse_system.specs.SystemCalls.{changes_of}
 use Rattle.reuse_disk.specs.Written.{is_kept, LeavesNone}
 use Rattle.reuse_folder.specs.FolderWrites.{IsGone}
 use Rattle.reuse_folder.specs.Rounds.{AreNamed, IsRoundOf}
 use Rattle.reuse_folder.specs.Seen.{AreKnown, LoseNoEdits}
 use Rattle.reuse_folder.specs.declared.folder.batch.Stop.{Stop}
 use Rattle.reuse_folder.proofs.BatchLemmas.{begins, none_made}
-use Rattle.reuse_folder.proofs.Noted.{disk_after, folders_of, held_of, Honest_of}
 use Rattle.reuse_folder.proofs.PutLemmas.{of_ok}
 use Rattle.reuse_folder.proofs.RoundEnds.{naming_done, naming_stopped, removal_made, removal_stopped}
 use Rattle.reuse_folder.proofs.SeenLemmas.{lose_at, lose_only, lose_one, lose_then}
 use Rattle.reuse_folder.specs.Barriers.{AreNotedAbove}
 use Rattle.reuse_folder.proofs.BarrierLemmas.{have_one, have_only, have_then}
+use Rattle.reuse_folder.specs.Batches.{disk_of}
 use Rattle.reuse_folder.proofs.folder.RootFolder.write_some.Goals as goal
 
 pub returns-in_err-map_err-clause-made : goal.returns-in_err-map_err-clause-made
 returns-in_err-map_err-clause-made g c honest =
+    let s = g.S.System in
     let is = is_kept c.args.self.now.unsynced.syncs in
     let writes = c.args.writes.now in
     let write = c.index-writes-0.result in
-    let first = c.args.self.now.system.noted in
-    let last = c.remove_expected.new.self.system.noted in
+    let first = c.args.self.now.system in
+    let last = c.remove_expected.new.self.system in
     let none : write.file ≡ None = search rules in
     let at_first : IfErr c.from_residual.result (λ (stop : Stop). stop.made ≡ 0) = search rules in
-    removal_stopped is writes write c.args.self.now.new_file c.remove_expected.new.self.new_file (disk_after first)
-    (disk_after last) c.from_residual.result c.requires c.index-writes-0.is none c.from_residual.ensures.0 at_first
+    removal_stopped is writes write c.args.self.now.new_file c.remove_expected.new.self.new_file (disk_of s first)
+    (disk_of s last) c.from_residual.result c.requires c.index-writes-0.is none c.from_residual.ensures.0 at_first
     (c.remove_expected.ensures.place honest)
 
 pub returns-in_err-map_err-clause-keeps_edits : goal.returns-in_err-map_err-clause-keeps_edits
 returns-in_err-map_err-clause-keeps_edits g c =
+    let s = g.S.System in
     let reads = c.args.seen.now.reads.items in
     let write = c.index-writes-0.result in
-    let a = changes_of c.args.self.now.system.noted.calls in
-    let b = changes_of c.remove_expected.new.self.system.noted.calls in
+    let a = s.changes c.args.self.now.system in
+    let b = s.changes c.remove_expected.new.self.system in
     lose_at reads c.args.writes.now 0 write a b c.requires
     (subst (λ (w : FileWrite). LoseNoEdits reads (w ∷ []) a b) c.index-writes-0.is
     (lose_one reads write write.path.now c.next_at-expected.result a b _ _ refl c.next_at-expected.ensures.expected
@@ -42,26 +43,28 @@ returns-in_err-map_err-clause-keeps_edits g c =
 
 pub returns-then-is_none-clause-made : goal.returns-then-is_none-clause-made
 returns-then-is_none-clause-made g c honest =
+    let s = g.S.System in
     let is = is_kept c.args.self.now.unsynced.syncs in
     let writes = c.args.writes.now in
     let write = c.index-writes-0.result in
-    let first = c.args.self.now.system.noted in
-    let last = c.remove_expected.new.self.system.noted in
+    let first = c.args.self.now.system in
+    let last = c.remove_expected.new.self.system in
     let none : write.file ≡ None = search rules in
     let done : is_ok c.remove_expected.result ≡ true = search rules in
-    removal_made is writes write c.args.self.now.new_file c.remove_expected.new.self.new_file (disk_after first)
-    (disk_after last) c.requires c.index-writes-0.is none c.remove_expected.ensures.new_file
+    removal_made is writes write c.args.self.now.new_file c.remove_expected.new.self.new_file (disk_of s first)
+    (disk_of s last) c.requires c.index-writes-0.is none c.remove_expected.ensures.new_file
     (c.remove_expected.ensures.place honest) (of_ok c.remove_expected.result
-    (IsGone (folders_of last) (held_of last) write.path.now) (c.remove_expected.ensures.gone honest) done)
+    (IsGone (s.folders last) (s.holds last) write.path.now) (c.remove_expected.ensures.gone honest) done)
     (of_ok c.remove_expected.result
-    (LeavesNone (λ at. Unit {0}) (held_of first) (held_of last)) c.remove_expected.ensures.none_left done)
+    (LeavesNone (λ at. Unit {0}) (s.holds first) (s.holds last)) c.remove_expected.ensures.none_left done)
 
 pub returns-then-is_none-clause-keeps_edits : goal.returns-then-is_none-clause-keeps_edits
 returns-then-is_none-clause-keeps_edits g c =
+    let s = g.S.System in
     let reads = c.args.seen.now.reads.items in
     let write = c.index-writes-0.result in
-    let a = changes_of c.args.self.now.system.noted.calls in
-    let b = changes_of c.remove_expected.new.self.system.noted.calls in
+    let a = s.changes c.args.self.now.system in
+    let b = s.changes c.remove_expected.new.self.system in
     lose_at reads c.args.writes.now 0 write a b c.requires
     (subst (λ (w : FileWrite). LoseNoEdits reads (w ∷ []) a b) c.index-writes-0.is
     (lose_one reads write write.path.now c.next_at-expected.result a b _ _ refl c.next_at-expected.ensures.expected
@@ -69,33 +72,34 @@ returns-then-is_none-clause-keeps_edits g c =
 
 pub returns-in_err-named-in-Ok-clause-made : goal.returns-in_err-named-in-Ok-clause-made
 returns-in_err-named-in-Ok-clause-made g c honest =
+    let s = g.S.System in
     let is = is_kept c.args.self.now.unsynced.syncs in
     let writes = c.args.writes.now in
     let write = c.index-writes-0.result in
-    let first = c.args.self.now.system.noted in
-    let last = c.name_all-named.new.self.system.noted in
-    let temp_file = c.write_temp_file.new.self.system.noted in
+    let first = c.args.self.now.system in
+    let last = c.name_all-named.new.self.system in
+    let temp_file = c.write_temp_file.new.self.system in
     let round = c.in-Ok.field-0 in
     let temp_files = round.temp_files.items in
     let early = c.name_all-named.ensures.earlier honest in
     let some : write.file ≢ None = search rules in
     let starts = begins writes write c.requires c.index-writes-0.is some in
-    let begun : IsRoundOf (Honest_of temp_file) writes c.args.self.now.new_file (held_of first) (held_of temp_file)
+    let begun : IsRoundOf (s.honest temp_file) writes c.args.self.now.new_file (s.holds first) (s.holds temp_file)
     (Ok round) = c.in-Ok.ensures.round in
     let written = begun.2.written early in
     let slice : c.deref.result.now ≡ temp_files = c.deref.ensures.value in
-    let named : AreNamed round.new_file.folder.identity is writes temp_files (disk_after temp_file)
-    (disk_after last) c.name_all-named.result =
+    let named : AreNamed round.new_file.folder.identity is writes temp_files (disk_of s temp_file)
+    (disk_of s last) c.name_all-named.result =
     rw (slice, c.write_temp_file.ensures.syncs) at c.name_all-named.ensures.named honest begun.1 begun.2.few
     begun.2.places written.apart written.temp_file in
     let stop = c.in_err-named-in-Ok.field-0.0 in
     let was : c.name_all-named.result ≡ Err stop = c.in_err-named-in-Ok.was in
     let same : c.from_residual-in_err-named-in-Ok.result ≡ Err stop = search rules in
-    naming_stopped (Honest_of temp_file) is writes c.args.self.now.new_file (Some c.name_all-named.new.new_file)
-    (disk_after first) (disk_after temp_file)
-    (disk_after last) round stop c.from_residual-in_err-named-in-Ok.result early starts
+    naming_stopped (s.honest temp_file) is writes c.args.self.now.new_file (Some c.name_all-named.new.new_file)
+    (disk_of s first) (disk_of s temp_file)
+    (disk_of s last) round stop c.from_residual-in_err-named-in-Ok.result early starts
     same begun (subst
-    (AreNamed round.new_file.folder.identity is writes temp_files (disk_after temp_file) (disk_after last)) was named)
+    (AreNamed round.new_file.folder.identity is writes temp_files (disk_of s temp_file) (disk_of s last)) was named)
 
 pub returns-in_err-named-in-Ok-clause-keeps_edits : goal.returns-in_err-named-in-Ok-clause-keeps_edits
 returns-in_err-named-in-Ok-clause-keeps_edits g c =
@@ -108,31 +112,32 @@ returns-in_err-named-in-Ok-clause-keeps_edits g c =
 
 pub returns-in_ok-named-in-Ok-clause-made : goal.returns-in_ok-named-in-Ok-clause-made
 returns-in_ok-named-in-Ok-clause-made g c honest =
+    let s = g.S.System in
     let is = is_kept c.args.self.now.unsynced.syncs in
     let writes = c.args.writes.now in
     let write = c.index-writes-0.result in
-    let first = c.args.self.now.system.noted in
-    let last = c.name_all-named.new.self.system.noted in
-    let temp_file = c.write_temp_file.new.self.system.noted in
+    let first = c.args.self.now.system in
+    let last = c.name_all-named.new.self.system in
+    let temp_file = c.write_temp_file.new.self.system in
     let round = c.in-Ok.field-0 in
     let temp_files = round.temp_files.items in
     let early = c.name_all-named.ensures.earlier honest in
     let some : write.file ≢ None = search rules in
     let starts = begins writes write c.requires c.index-writes-0.is some in
-    let begun : IsRoundOf (Honest_of temp_file) writes c.args.self.now.new_file (held_of first) (held_of temp_file)
+    let begun : IsRoundOf (s.honest temp_file) writes c.args.self.now.new_file (s.holds first) (s.holds temp_file)
     (Ok round) = c.in-Ok.ensures.round in
     let written = begun.2.written early in
     let slice : c.deref.result.now ≡ temp_files = c.deref.ensures.value in
-    let named : AreNamed round.new_file.folder.identity is writes temp_files (disk_after temp_file)
-    (disk_after last) c.name_all-named.result =
+    let named : AreNamed round.new_file.folder.identity is writes temp_files (disk_of s temp_file)
+    (disk_of s last) c.name_all-named.result =
     rw (slice, c.write_temp_file.ensures.syncs) at c.name_all-named.ensures.named honest begun.1 begun.2.few
     begun.2.places written.apart written.temp_file in
     let was : c.name_all-named.result ≡ Ok tt = c.in_ok-named-in-Ok.was in
     let count : c.len.result ≡ length temp_files = search rules in
-    rw count (naming_done (Honest_of temp_file) is writes c.args.self.now.new_file (disk_after first)
-    (disk_after temp_file) (disk_after last) round c.name_all-named.new.new_file early starts begun
+    rw count (naming_done (s.honest temp_file) is writes c.args.self.now.new_file (disk_of s first)
+    (disk_of s temp_file) (disk_of s last) round c.name_all-named.new.new_file early starts begun
     c.name_all-named.ensures.folder (subst
-    (AreNamed round.new_file.folder.identity is writes temp_files (disk_after temp_file) (disk_after last)) was named))
+    (AreNamed round.new_file.folder.identity is writes temp_files (disk_of s temp_file) (disk_of s last)) was named))
 
 pub returns-in_ok-named-in-Ok-clause-keeps_edits : goal.returns-in_ok-named-in-Ok-clause-keeps_edits
 returns-in_ok-named-in-Ok-clause-keeps_edits g c =
@@ -145,17 +150,18 @@ returns-in_ok-named-in-Ok-clause-keeps_edits g c =
 
 pub returns-in-Err-clause-made : goal.returns-in-Err-clause-made
 returns-in-Err-clause-made g c honest =
+    let s = g.S.System in
     let is = is_kept c.args.self.now.unsynced.syncs in
     let writes = c.args.writes.now in
     let write = c.index-writes-0.result in
-    let first = c.args.self.now.system.noted in
+    let first = c.args.self.now.system in
     let some : write.file ≢ None = search rules in
     let starts = begins writes write c.requires c.index-writes-0.is some in
     let round = c.in-Err.ensures.round in (
       round.0,
       round.1,
-      rw c.at_first.ensures (none_made round.0 is writes (disk_after first)
-          (disk_after c.write_temp_file.new.self.system.noted) starts round.2),
+      rw c.at_first.ensures (none_made round.0 is writes (disk_of s first)
+          (disk_of s c.write_temp_file.new.self.system) starts round.2),
     )
 
 pub returns-in-Err-clause-keeps_edits : goal.returns-in-Err-clause-keeps_edits

@@ -8,16 +8,16 @@ use Rattle.reuse_disk.proofs.EditLemmas.{only_then}
 use Rattle.reuse_folder.specs.FolderWrites.{IsFolderOf}
 use Rattle.reuse_folder.specs.Rounds.{AreBegun}
 use Rattle.reuse_folder.specs.Seen.{IsNewFile}
-use Rattle.reuse_folder.proofs.Noted.{held_of, Honest_of}
 use Rattle.reuse_folder.proofs.RoundEnds.{alike_then, all_new, begun_after, round_not_begun}
 use Rattle.reuse_folder.proofs.SeenLemmas.{new_at, only_new}
 use Rattle.reuse_folder.proofs.folder.RootFolder.write_temp_file.Goals as goal
 
 pub returns-in_err-check_guard-clause-round : goal.returns-in_err-check_guard-clause-round
 returns-in_err-check_guard-clause-round g c =
-    let noted = c.args.self.now.system.noted in
-    round_not_begun (Honest_of noted) c.args.writes.now c.args.self.now.new_file
-    (held_of noted) c.from_residual.result c.from_residual.ensures.0
+    let s = g.S.System in
+    let system = c.args.self.now.system in
+    round_not_begun (s.honest system) c.args.writes.now c.args.self.now.new_file
+    (s.holds system) c.from_residual.result c.from_residual.ensures.0
 
 pub returns-in_err-take_new_file-clause-changes : goal.returns-in_err-take_new_file-clause-changes
 returns-in_err-take_new_file-clause-changes g c = let cleared = c.take_new_file.ensures.cleared in
@@ -25,9 +25,10 @@ returns-in_err-take_new_file-clause-changes g c = let cleared = c.take_new_file.
 
 pub returns-in-Ok-clause-round : goal.returns-in-Ok-clause-round
 returns-in-Ok-clause-round g c =
-    let first = held_of c.args.self.now.system.noted in
-    let between = held_of c.take_new_file.new.self.system.noted in
-    let last = c.fill_round.new.self.system.noted in
+    let s = g.S.System in
+    let first = s.holds c.args.self.now.system in
+    let between = s.holds c.take_new_file.new.self.system in
+    let last = c.fill_round.new.self.system in
     let temp_files = c.fill_round.new.round.temp_files.items in
     let folder = c.in_ok-take_new_file.field-0.folder in
     let cleared = c.in_ok-take_new_file.ensures.cleared in
@@ -35,11 +36,11 @@ returns-in-Ok-clause-round g c =
     let alike : IsAlikeUnless (IsNewIn folder.identity) first between = rw cleared.is_folder cleared.others in
     let none_left : LeavesNone (IsNewIn folder.identity) first between = rw cleared.is_folder cleared.none_left in
     subst (λ (f : OpenFolder). IsFolderOf c.args.self.now.new_file f.identity × (0 < length temp_files) × AreBegun
-    (Honest_of last) f.identity c.args.writes.now temp_files first (held_of last)) (sym c.fill_round.ensures.folder) (
+    (s.honest last) f.identity c.args.writes.now temp_files first (s.holds last)) (sym c.fill_round.ensures.folder) (
       was,
       c.in-Ok.ensures.some c.requires,
-      begun_after (Honest_of last) folder.identity c.args.writes.now temp_files first between
-          (held_of last) alike none_left c.in-Ok.ensures.begun,
+      begun_after (s.honest last) folder.identity c.args.writes.now temp_files first between
+          (s.holds last) alike none_left c.in-Ok.ensures.begun,
     )
 
 pub returns-in-Ok-clause-changes : goal.returns-in-Ok-clause-changes
@@ -48,10 +49,11 @@ returns-in-Ok-clause-changes g c = let cleared = c.take_new_file.ensures.cleared
 
 pub returns-in-Err-clause-round : goal.returns-in-Err-clause-round
 returns-in-Err-clause-round g c =
-    let first = held_of c.args.self.now.system.noted in
-    let between = held_of c.take_new_file.new.self.system.noted in
-    let filled = held_of c.fill_round.new.self.system.noted in
-    let last = held_of c.remove_all.new.system.noted in
+    let s = g.S.System in
+    let first = s.holds c.args.self.now.system in
+    let between = s.holds c.take_new_file.new.self.system in
+    let filled = s.holds c.fill_round.new.self.system in
+    let last = s.holds c.remove_all.new.system in
     let new_files = c.in_ok-take_new_file.field-0.folder.identity in
     let cleared = c.in_ok-take_new_file.ensures.cleared in
     let was : IsFolderOf c.args.self.now.new_file new_files = rw cleared.is_folder cleared.was in

@@ -1,10 +1,7 @@
 -- The folders, the files and the effects that the contract is asked for. Of what names lead to no clause of the store
 -- speaks: some start has to be picked, and this one claims nothing.
 use Rattle.std.specs.Prelude.{[]}
-use Rattle.reuse_folder.proofs.DiskStore.at.Given as goal
+use Rattle.reuse_folder.proofs.host_system.Given as goal
 
 abbrev pub ghost-new : goal.ghost-new
 ghost-new g a = record { folders = ((0, 0), ([], [])); files = []; effects = [] }
-
-abbrev pub ghost-new-2 : goal.ghost-new-2
-ghost-new-2 g a = g.start
