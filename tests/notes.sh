@@ -174,6 +174,8 @@ refusals() {
   files a.py 'x\n' .reuse/comments.toml 'version = 1\n[comments.own]\nopen = "<<"\nclose = "<"\n'
   notes annotate -l MIT a.py : \
     'what is wrong with \.reuse/comments\.toml: bad marks of own: the closer stands in the opener'
+  files a.py 'x\n' .reuse/comments.toml 'version = 1\n[[rules]]\nname = "*"\nstyle = "cc"\n'
+  notes annotate -l MIT a.py : 'what is wrong with \.reuse/comments\.toml: bad style of rule 1'
 }
 
 # A call that passes files over has counted them itself: with notes it asks the system for no name
@@ -274,6 +276,22 @@ END
   cp "$(dirname "$0")/../share/comments.toml" "$tree/.reuse/"
   notes annotate -l MIT -r . : '3 files changed; .*' "$(breaks 'b\.css \(charset\)')"
   notes annotate -l MIT a.md Dockerfile : '2 files changed; .*'
+  # A header below other text, which may be in a string: where it changes
+  files a.py 'x = """\n# SPDX-License-Identifier: ISC\n"""\n' \
+    b.py '\n# Sums\n\n# SPDX-License-Identifier: ISC\n' c.sh 'cat << E\n# SPDX-License-Identifier: ISC\nE\n'
+  word='the header of a\.py stands below other text: it may be in a string'
+  notes annotate -l MIT a.py b.py : '2 files changed; .*' "$word"
+  notes annotate -n -l MIT a.py b.py : "$word"
+  notes annotate -n -l ISC a.py :
+  word='the headers of 2 files stand below other text: they may be in strings: a\.py and 1 more'
+  notes annotate -n -l Zlib a.py b.py c.sh : "$word"
+  files a.md '---\n---\n' b.py 'x = 1\n' c.sh 'x\n# SPDX-License-Identifier: ISC\n'
+  "$program" --root "$tree" annotate -n --json -l MIT a.md b.py c.sh > "$room/objects" 2> /dev/null
+  diff "$room/objects" - << 'END' || fail "the objects of a dry run don't say what could break"
+{"could_break":"front matter","outcome":"would change","path":"a.md"}
+{"outcome":"would change","path":"b.py"}
+{"could_break":"string","outcome":"would change","path":"c.sh"}
+END
 }
 
 dep5() {

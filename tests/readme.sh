@@ -23,7 +23,7 @@ git clone -q "$top" "$room/clone"
 cd "$room/clone"
 
 # (kits of several letters have the same logic)
-logic=$(grep -oE '`rattle-kit-[^`]* logic [0-9a-f]+`' README.md | grep -oE 'logic [0-9a-f]+') ||
+logic=$(grep -oE 'logic [0-9a-f]{16}' README.md) ||
   fail 'the README names no kit'
 [[ $(rt version) == *" $logic" ]] || fail "the README names the $logic, and not $(rt version)"
 has '    ./install.sh'

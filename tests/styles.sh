@@ -102,6 +102,26 @@ keys='open = "<!--"\nclose = "-->"\nfront-matter = ["---", "..."]\n'
 before='---\nt: 1\n...\nx\n' own_comment "$keys" "---\nt: 1\n...\n\n$header\nx\n"
 before='---\nx\n' own_comment "$keys" "$header\n---\nx\n"
 
+# A tree's rules: each of these files gets its style by its name or by its first line alone, and the
+# header is found again and taken back
+rules='version = 1\n[[rules]]\nname = "Dockerfile.*"\nstyle = "python"\n'
+rules+='[[rules]]\nfirst-line = "#!*node*"\nstyle = "c"\n'
+ruled() {
+  local path=$1 before=$2 wanted=$3
+  rm -rf "$plain" "$tree"
+  mkdir -p "$plain/.reuse"
+  printf %b "$rules" > "$plain/.reuse/comments.toml"
+  printf %b "$before" > "$plain/$path"
+  cp -r "$plain" "$tree"
+  annotate "$path" > "$room/out" || fail "$path isn't annotated by a rule"
+  printf %b "$wanted" > "$room/wanted"
+  cmp "$room/wanted" "$tree/$path" || fail "$path: $(cat "$tree/$path")"
+  [[ $(annotate "$path") == 'nothing changed' ]] || fail "$path: a header is not found again"
+  taken_back "$plain"
+}
+ruled dockerfile.dev 'FROM x\n' "# $notice\n#\n# $license\n\nFROM x\n"
+ruled run '#!/usr/bin/env node\nx()\n' "#!/usr/bin/env node\n\n// $notice\n//\n// $license\n\nx()\n"
+
 # Samples: a path, the command that takes its file, and the text
 samples=0 passed=0
 sample() {

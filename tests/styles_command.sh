@@ -106,7 +106,7 @@ add() {
   tells 0 'changed .reuse/comments.toml\nchanged .reuse/styles.toml\n' styles --add --no-sync
   tells 0 "1 $(date -u +%F) styles 2 done\n" log
   undone .reuse/comments.toml .reuse/styles.toml
-  tells 0 'changed .reuse/styles.toml\n' styles --add src
+  tells 0 'changed .reuse/comments.toml\nchanged .reuse/styles.toml\n' styles --add src
   holds .reuse/styles.toml 'version = 1\n\n[styles]\n".MJS" = "c"\n"Jenkinsfile" = "c"\n'
   tells 0 'nothing changed\n' styles --add b.mjs
   make_tree
@@ -143,6 +143,32 @@ own() {
   (cd "$room/before" && patch -s -p1 < "$room/patch") || fail 'patch'
   tells 0 'changed .reuse/comments.toml\nchanged .reuse/styles.toml\n' styles --add
   diff -r -x undo "$room/before" "$tree" > "$room/diff" || fail "patch: $(cat "$room/diff")"
+}
+
+# Names of files whose first line a header could break are listed, if a ready style keeps that in
+# front; and scripts without an ending get rules by their first line.
+kept() {
+  files a.md '---\ntitle: x\n---\n# Head\n' b.md 'x\n' c.css '@charset "utf-8";\n' \
+    d.rs '#![no_std]\n' Dockerfile.dev 'FROM x\n' run '#!/bin/sh\nx\n' walk '#!/usr/bin/env node\nx\n' \
+    words 'x\n'
+  rm -rf "$room/before"
+  cp -r "$tree" "$room/before"
+  tells 0 '1 .css stylesheet\n1 .md markdown\n1 Dockerfile.dev docker\n1 run -\n1 walk -\n1 words -\n' \
+    styles
+  tells 0 '1 .md markdown\n' styles a.md b.md d.rs
+  tells 0 'nothing changed\n' styles --add b.md d.rs
+  tells 0 'changed .reuse/comments.toml\nchanged .reuse/styles.toml\n' styles --add
+  holds .reuse/styles.toml 'version = 1\n\n[styles]\n".css" = "stylesheet"\n".md" = "markdown"\n'"$(
+  )"'"Dockerfile.dev" = "docker"\n'
+  tells 0 '1 words -\n' styles
+  tells 0 'nothing changed\n' styles --add
+  tells 0 'changed a.md\nchanged c.css\nchanged run\nchanged walk\n' annotate -l MIT a.md c.css run walk
+  [[ $(head -n 1 "$tree/a.md") == --- ]] || fail 'front matter'
+  [[ $(head -n 1 "$tree/c.css") == @charset* ]] || fail 'a charset'
+  [[ $(sed -n '1p;3p' "$tree/run") == '#!/bin/sh'$'\n''# SPDX-License-Identifier: MIT' ]] || fail 'a script'
+  grep -q '^// SPDX' "$tree/walk" || fail 'a script of node'
+  tells 0 'undone a.md\nundone c.css\nundone run\nundone walk\n' undo
+  undone .reuse/comments.toml .reuse/styles.toml
 }
 
 refused() {
@@ -216,6 +242,7 @@ as_nobody() {
 list
 add
 own
+kept
 refused
 words
 tables
