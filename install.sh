@@ -1,6 +1,6 @@
 #!/usr/bin/env bash
 # Proves, builds and installs the program and what belongs to it: the manual, completions for bash,
-# zsh and fish, and a table of styles; then runs the program on a folder with two files, if DESTDIR
+# zsh and fish, and the ready styles; then runs the program on a folder with two files, if DESTDIR
 # isn't set. Crates that don't stand on each other are proved side by side. It can be interrupted
 # and run again: what was proved is kept.
 # usage: ./install.sh [PREFIX]                  PREFIX is $HOME/.local by default
@@ -21,6 +21,7 @@ case ${1:-} in
 esac
 case ${1:-} in -*) usage ;; esac
 [ $# -le 1 ] || usage
+[ "${1:-${HOME:-}}" ] || { echo "There is no HOME: name a PREFIX." >&2; usage; }
 prefix=$(realpath -ms "${DESTDIR:+$DESTDIR/}${1:-$HOME/.local}")
 # The folders that it made, each by its path from the prefix
 record=$prefix/share/reuse-undo/folders
@@ -81,14 +82,16 @@ say() {
     printf '%3d:%02d  %s\n' $(((SECONDS - start) / 60)) $(((SECONDS - start) % 60)) "$*"
 }
 
-[ ! "$uninstall" ] || { uninstall_files; exit; }
-# (so that a prefix that can't be written is reported now, and not after the proofs)
-above=$prefix/bin
-while [ ! -e "$above" ]; do above=$(dirname "$above"); done
-[ -d "$above" ] && [ -w "$above" ] || { echo "$above can't be written" >&2; exit 1; }
-[ ! "$program" ] || { install_files; exit; }
+# Says so if the shell won't find the program.
+say_path() {
+    case :$PATH: in
+        *":$prefix/bin:"*) ;;
+        *) echo "$prefix/bin is not in PATH" ;;
+    esac
+}
 
-if ! command -v rt > /dev/null; then
+[ ! "$uninstall" ] || { uninstall_files; exit; }
+if [ ! "$program" ] && ! command -v rt > /dev/null; then
     cat >&2 << 'WITHOUT'
 The Rattle kit isn't there: no command rt. It proves and builds the program from these sources.
 Without the kit, take a release: a Debian package or a tarball of the proved program. README.md
@@ -96,6 +99,18 @@ says how that is installed. A program that was built elsewhere, FILE, is install
     ./install.sh --program FILE
 WITHOUT
     exit 1
+fi
+# (so that a prefix that can't be written is reported now, and not after the proofs)
+above=$prefix/bin
+while [ ! -e "$above" ]; do above=$(dirname "$above"); done
+if [ ! -d "$above" ] || [ ! -w "$above" ]; then
+    echo "$above can't be written: name another folder, ./install.sh PREFIX" >&2
+    exit 1
+fi
+if [ "$program" ]; then
+    install_files
+    [ "${DESTDIR:-}" ] || say_path
+    exit
 fi
 logs=$(mktemp -d)
 declare -A running=() lanes=() proved=() begun=()
@@ -257,9 +272,6 @@ done
 stamp
 install_files
 [ ! "${DESTDIR:-}" ] || exit 0
-case :$PATH: in
-    *":$prefix/bin:"*) ;;
-    *) echo "$prefix/bin is not in PATH" ;;
-esac
+say_path
 echo
 "$top/example.sh"

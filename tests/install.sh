@@ -53,7 +53,8 @@ install() { run "$@" || fail "install.sh $*: $(tail -n 5 "$room/log")"; }
 # The files and folders beneath a folder
 list() { (cd "$1" && find . | LC_ALL=C sort); }
 crates=$(ls "$copy/crates" | wc -l)
-files=6
+files=$(sed -n '/^files() {/,/^}/p' "$top/install.sh" | grep -c '^    echo ')
+((files >= 7)) || fail "install.sh lists $files files"
 
 many_runs() {
   local k
@@ -152,6 +153,12 @@ without_kit() {
   [[ ! -e $room/none ]] || fail 'without a kit a folder is left'
   PATH=$tools "$copy/install.sh" --program "$room/bin/program" "$room/none" > "$room/log" 2>&1 ||
     fail "--program without a kit: $(cat "$room/log")"
+  grep -qF "$room/none/bin is not in PATH" "$room/log" || fail "PATH: $(cat "$room/log")"
+  ! (unset HOME; run) || fail 'a HOME that is not set is passed over'
+  grep -q 'no HOME: name a PREFIX' "$room/log" || fail "without HOME: $(cat "$room/log")"
+  touch "$room/file"
+  ! run "$room/file" || fail 'a prefix that is a file is taken'
+  grep -q "can't be written: name another folder" "$room/log" || fail "$(cat "$room/log")"
   echo 'without the kit it says what to do'
 }
 
