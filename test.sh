@@ -15,7 +15,11 @@
 set -euo pipefail
 cd "$(dirname "$0")"
 (($# == 0)) || { sed -n '/^# usage/s/^# //p' "$0" >&2; exit 2; }
-command -v rt > /dev/null || { echo "The Rattle kit isn't there: no command rt." >&2; exit 1; }
+if ! command -v rt > /dev/null; then
+    echo "The Rattle kit isn't there: no command rt. Without it only the scripts can be run, on a" \
+        "program that was built elsewhere: tests/all.sh PROGRAM" >&2
+    exit 1
+fi
 room=$(mktemp -d)
 beside=
 trap '[ -z "$beside" ] || kill "$beside" 2> /dev/null; rm -rf "$room"' EXIT

@@ -1,15 +1,16 @@
 #!/usr/bin/env bash
 # Looks at the documents: the lists that scripts make of the sources can be made; what the page on
-# the headline names is there, and so are the files and modules that documents name; each link leads
-# to a file, and to a heading of it; README has 120 lines at most, and the tutorial 80. No line
-# outside of tables and code has over 100 columns, and no cell over 25 words.
+# the headline names is there, and so are the files that documents name; each crate has its row;
+# each link leads to a file, and to a heading of it; README has 120 lines at most, and the tutorial
+# 80. No line outside of tables and code has over 100 columns, no cell over 25 words, and next to no
+# sentence.
 # usage: tests/documents.sh PROGRAM      (which isn't run)
 set -euo pipefail
 . "$(dirname "$0")/common.sh"
 cd "$(dirname "$0")/.."
 documents=(README.md SECURITY.md CONTRIBUTING.md CHANGELOG.md docs/*.md)
 
-for script in index_of_clauses list_of_wrong_bodies; do
+for script in index_of_clauses list_of_modules list_of_wrong_bodies; do
   "docs/$script.sh" > "$room/list" || fail "docs/$script.sh"
   (($(wc -l < "$room/list") > 300)) || fail "docs/$script.sh lists next to nothing"
 done
@@ -56,23 +57,9 @@ awk '{ print; while (sub(/^[^\/]*\//, "")) print }' "$room/files" > "$room/known
 while IFS= read -r file; do
   [[ -e $file ]] || fail "a document names $file, which isn't there"
 done < "$room/missing"
-# The modules of a crate, at the heads of a list
-awk '
-  /^#/ { crate = "" }
-  /^### The modules of / { crate = $NF }
-  crate && /^- `/ {
-    sub(/`:( .*)?$/, "`")
-    while (match($0, /`[a-z_:\/]+`/)) {
-      name = substr($0, RSTART + 1, RLENGTH - 2)
-      gsub(/::/, "/", name)
-      print crate "/src/" name ".rt"
-      $0 = substr($0, RSTART + RLENGTH)
-    }
-  }' docs/ARCHITECTURE.md > "$room/modules"
-(($(wc -l < "$room/modules") >= 60)) || fail 'docs/ARCHITECTURE.md names few modules'
-while IFS= read -r file; do
-  [[ -e crates/$file ]] || fail "docs/ARCHITECTURE.md: there is no crates/$file"
-done < "$room/modules"
+diff <(sed -nE 's/^([a-z0-9_]+):.*/\1/p' crates.txt | sort) \
+  <(sed -nE 's/^\| (reuse_[a-z0-9_]+) \|.*/\1/p' docs/ARCHITECTURE.md | sort) > "$room/crates" ||
+  fail "the crates of docs/ARCHITECTURE.md: $(cat "$room/crates")"
 
 (($(wc -l < README.md) <= 120)) || fail "README.md has over 120 lines"
 (($(wc -l < docs/TUTORIAL.md) <= 80)) || fail "docs/TUTORIAL.md has over 80 lines"
@@ -90,6 +77,9 @@ for document in "${documents[@]}"; do
     length($0) > 100 { tell("line") }' "$document"
 done > "$room/long"
 [[ ! -s $room/long ]] || fail "$(cat "$room/long")"
+docs/long_sentences.py "${documents[@]}" > "$room/sentences"
+sentences=$(wc -l < "$room/sentences")
+((sentences <= 10)) || fail "$(cat "$room/sentences")"
 recipes=$(wc -l < "$room/recipes")
-echo "$links links lead somewhere, $recipes files of recipes are there, two lists are made, and" \
-  "${#documents[@]} documents are short"
+echo "$links links lead somewhere, $recipes files of recipes are there, three lists are made, and" \
+  "${#documents[@]} documents are short: $sentences sentences have over 25 words"
