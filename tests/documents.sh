@@ -1,9 +1,9 @@
 #!/usr/bin/env bash
-# Looks at the documents: the lists that scripts make of the sources can be made; what the page on
-# the headline names is there, and so are the files that documents name; each crate has its row;
-# each link leads to a file, and to a heading of it; README has 120 lines at most, and the tutorial
-# 80. No line outside of tables and code has over 100 columns, no cell over 25 words, and next to no
-# sentence.
+# Looks at the documents: the lists that scripts make of the sources can be made, and those of the
+# manual page are as they are made of the reference; what the page on the headline names is there,
+# and so are the files that documents name; each crate has its row; each link leads to a file, and
+# to a heading of it; README has 120 lines at most, and the tutorial 80. No line outside of tables
+# and code has over 100 columns, no cell over 25 words, and next to no sentence.
 # usage: tests/documents.sh PROGRAM      (which isn't run)
 set -euo pipefail
 . "$(dirname "$0")/common.sh"
@@ -14,6 +14,9 @@ for script in index_of_clauses list_of_modules list_of_wrong_bodies; do
   "docs/$script.sh" > "$room/list" || fail "docs/$script.sh"
   (($(wc -l < "$room/list") > 300)) || fail "docs/$script.sh lists next to nothing"
 done
+
+# The lists of the manual page are those of the reference.
+docs/manual_options.py --check > "$room/list" || fail 'call docs/manual_options.py'
 
 # The definitions and types that the page on the headline names
 docs/theorem.py --all --names > "$room/names" || fail "docs/theorem.py"
