@@ -48,8 +48,14 @@ done < <(grep -oE '\]\([^) ]+\)' "${documents[@]}" | grep -v '](https\?:' |
 git ls-files --cached --others --exclude-standard 2> /dev/null > "$room/files" ||
   find . -type f -not -path '*/out/*' -not -path './.git/*' -printf '%P\n' > "$room/files"
 sed -nE '/^## Where a change goes/,/^## Checking/p' CONTRIBUTING.md |
-  grep -oE '`[A-Za-z0-9_.-]+/[A-Za-z0-9_./-]+`' | tr -d '`' | sort -u > "$room/recipes"
-(($(wc -l < "$room/recipes") >= 80)) || fail 'CONTRIBUTING.md names few files'
+  tee "$room/all" | grep -oE '`[A-Za-z0-9_.-]+/[A-Za-z0-9_./-]+`' | tr -d '`' | sort -u \
+  > "$room/recipes"
+(($(wc -l < "$room/recipes") >= 150)) || fail 'CONTRIBUTING.md names few files'
+for recipe in 'A rule' 'A comment style of the table' 'A ready name, or a ready style' \
+  'A subcommand that reads' 'A subcommand that changes files' 'A kind of change'; do
+  awk -v recipe="### $recipe" '/^### / { inside = $0 == recipe } inside' "$room/all" |
+    grep -q 'tests/wrong_bodies/' || fail "CONTRIBUTING.md: no wrong body in '$recipe'"
+done
 while IFS= read -r file; do
   [[ -e $file || -e crates/$file ]] || fail "CONTRIBUTING.md: there is no $file"
 done < "$room/recipes"
