@@ -66,8 +66,8 @@ awk '{ print; while (sub(/^[^\/]*\//, "")) print }' "$room/files" > "$room/known
 while IFS= read -r file; do
   [[ -e $file ]] || fail "a document names $file, which isn't there"
 done < "$room/missing"
-# Names of the sources, that is words with an underscore or with capitals in them: each stands there.
-# What is named in PROOFS.md and README.md as a function's clause is a clause or a field.
+# Names of the sources, that is words with an underscore or with capitals in them, stand there. What
+# is named in PROOFS.md and README.md as a function's clause is a clause or a field.
 grep -E '^crates/.*\.(rt|antt)$' "$room/files" | xargs cat > "$room/sources"
 grep -oE '[A-Za-z_][A-Za-z0-9_]+' "$room/sources" | LC_ALL=C sort -u > "$room/words"
 for page in ARCHITECTURE DECISIONS GLOSSARY JOURNAL PROOFS RULES THEOREM; do
@@ -75,7 +75,8 @@ for page in ARCHITECTURE DECISIONS GLOSSARY JOURNAL PROOFS RULES THEOREM; do
     grep -oE '`[A-Za-z_]+(::[A-Za-z_]+)*`' | tr -d '`' | sed 's/::/\n/g' |
     grep -E '_|^[A-Z][a-z]+[A-Z]' | grep -vx node_modules | LC_ALL=C sort -u > "$room/names"
   LC_ALL=C comm -23 "$room/names" "$room/words" > "$room/missing"
-  [[ ! -s $room/missing ]] || fail "docs/$page.md: nothing is called $(paste -sd ' ' "$room/missing")"
+  [[ ! -s $room/missing ]] ||
+    fail "docs/$page.md: nothing is called $(paste -sd ' ' "$room/missing")"
 done
 {
   grep -oE 'ensures +[a-z_]+ *\{' "$room/sources" | sed -E 's/ensures +//; s/ *\{//'
@@ -84,7 +85,8 @@ done
 cat docs/PROOFS.md README.md | tr '\n' ' ' | tr -s ' ' | grep -oE '`[A-Za-z_:]+`: `[a-z_]+`' |
   sed -E 's/.*: `//; s/`//' | LC_ALL=C sort -u | LC_ALL=C comm -23 - "$room/clauses" |
   grep -vxFf <(grep -oE 'fn [a-z_]+' "$room/sources" | cut -c 4- | sort -u) > "$room/missing" || :
-[[ ! -s $room/missing ]] || fail "PROOFS.md: there is no clause $(paste -sd ' ' "$room/missing")"
+[[ ! -s $room/missing ]] ||
+  fail "PROOFS.md: there is no clause $(paste -sd ' ' "$room/missing")"
 
 diff <(sed -nE 's/^([a-z0-9_]+):.*/\1/p' crates.txt | sort) \
   <(sed -nE 's/^\| (reuse_[a-z0-9_]+) \|.*/\1/p' docs/ARCHITECTURE.md | sort) > "$room/crates" ||
