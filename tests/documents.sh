@@ -92,6 +92,8 @@ diff <(sed -nE 's/^([a-z0-9_]+):.*/\1/p' crates.txt | sort) \
   <(sed -nE 's/^\| (reuse_[a-z0-9_]+) \|.*/\1/p' docs/ARCHITECTURE.md | sort) > "$room/crates" ||
   fail "the crates of docs/ARCHITECTURE.md: $(cat "$room/crates")"
 
+diff <(sed -nE 's/^## //p' docs/HOWTO.md) <(sed -nE 's/^- \[(.*)\]\(#.*/\1/p' docs/HOWTO.md) \
+  > "$room/how_tos" || fail "the list of docs/HOWTO.md: $(cat "$room/how_tos")"
 (($(wc -l < README.md) <= 120)) || fail "README.md has over 120 lines"
 (($(wc -l < docs/TUTORIAL.md) <= 80)) || fail "docs/TUTORIAL.md has over 80 lines"
 for document in "${documents[@]}"; do
