@@ -7,6 +7,7 @@
 # usage: tests/documents.sh PROGRAM      (which isn't run)
 set -euo pipefail
 . "$(dirname "$0")/common.sh"
+wants python3 python3
 cd "$(dirname "$0")/.."
 documents=(README.md SECURITY.md CONTRIBUTING.md CHANGELOG.md docs/*.md)
 
