@@ -119,10 +119,14 @@ class Function:
         self.is_of_trait = bool(trait)
 
     def names(self, crate, listed):
-        """Returns its name in a check of the crate, or None, and how its closures' begin."""
+        """Returns its name in a check of the crate, or None, and how its closures' begin.
+
+        Without a list of the names it is the one that the text tells."""
         start = "::".join([crate, *self.modules, ""])
         path = [self.name]
-        if self.owner:
+        if self.owner and listed is None:
+            path = ["".join(self.owner), self.name]
+        elif self.owner:
             inside = [it[len(start) :].split("::") for it in listed if it.startswith(start)]
             owners = {it[0] for it in inside if len(it) == 2 and it[1] == self.name}
             plain = [it.replace("_", "").lower() for it in self.owner]
@@ -132,7 +136,7 @@ class Function:
                 exact = exact or sorted(fits, key=lambda it: (len(it), it))
             path = [*exact[:1], self.name]
         name = start + "::".join(path)
-        is_found = name in listed and len(path) == 1 + bool(self.owner)
+        is_found = (listed is None or name in listed) and len(path) == 1 + bool(self.owner)
         return name if is_found else None, start + "::".join(["fn", *path, ""])
 
 
@@ -181,12 +185,15 @@ class Edit:
             inner = max(around, key=lambda it: it.first, default=None)
             name, closures = inner.names(crate, listed) if inner else (None, "")
             if not name:
-                self.functions, self.names, self.closures, self.is_alone = [], [], [], True
+                self.forget_functions(is_alone=True)
                 return
             if name not in self.names:
                 self.functions.append(inner)
                 self.names.append(name)
                 self.closures.append(closures)
+
+    def forget_functions(self, is_alone):
+        self.functions, self.names, self.closures, self.is_alone = [], [], [], is_alone
 
     def holds(self, path, line):
         """Returns whether a line of a file, counted from 1, is in what it changes."""
@@ -248,9 +255,11 @@ class Verdict:
 class Crate:
     """A crate whose edits are tried."""
 
-    def __init__(self, kit, top, crate, checks, jobs):
+    def __init__(self, kit, top, crate, checks, jobs, is_passed):
         self.kit, self.crate, self.name, self.folder = kit, crate, crate.name, crate.folder
         self.checks, self.jobs, self.rounds, self.sources = checks, jobs, 0, {}
+        # Whether the gate has proved it, and whether a check has left what others begin with
+        self.is_passed, self.is_begun = is_passed, False
         self.kept = f"{self.folder}/out/incremental"
         for at, _, names in os.walk(f"{self.folder}/src"):
             for name in names:
@@ -271,24 +280,54 @@ class Crate:
         return Verdict(self.name, ran.returncode, ran.stdout)
 
     def begin(self):
-        """Proves the crate as it stands, which rounds begin with, and returns whether it is."""
+        """Finds the functions of the edits, and returns whether the crate is proved as it stands.
+
+        Behind the gate that is known. Then no more is proved than what the rounds ask for, if each
+        edit lies in functions whose names are told by the text."""
         os.makedirs(self.kept, exist_ok=True)
+        for edit in self.edits:
+            why = edit.read(self.sources)
+            if why:
+                edit.settle(BAD, why)
+        self.is_begun = not (self.is_passed and self.finds_by_text())
+        if not self.is_begun:
+            return True
         verdict = self.checks(self.check, self.folder, self.kept, "--jobs", str(self.jobs))
         if verdict.status:
             print(f"{self.name} isn't proved as it stands: {verdict.tells()}", flush=True)
             return False
+        self.find(verdict.functions)
+        return True
+
+    def find(self, listed):
+        """Finds the functions of the edits, among those that a check lists, if it was made."""
         functions = []
         for path, text in self.sources.items():
             lines = text.split("\n")
             heads = [at for at, it in enumerate(lines) if Function.HEAD.match(it)]
             functions += [Function(path, lines, at) for at in heads]
         for edit in self.edits:
-            why = edit.read(self.sources)
-            if why:
-                edit.settle(BAD, why)
-            else:
-                edit.find(functions, self.name, verdict.functions)
-        return True
+            if edit.state == OPEN:
+                edit.find(functions, self.name, listed)
+
+    def finds_by_text(self):
+        """Finds the functions of the edits by the text alone, and returns whether there are such.
+
+        A check that is to prove a function of an unknown name ends at that, before all else."""
+        self.find(None)
+        opened = [it for it in self.edits if it.state == OPEN]
+        names = list(dict.fromkeys(name for it in opened for name in it.names))
+        is_found = all(it.names for it in opened) and bool(names)
+        if is_found:
+            nobody = f"{self.name}::no_function_has_this_name"
+            flags = [word for it in (*names, nobody) for word in ("--only", it)]
+            verdict = self.checks(self.check, self.folder, self.kept, *flags)
+            is_found = f"has no function `{nobody}`" in verdict.said
+        for it in opened:
+            it.forget_functions(is_alone=False)
+        if is_found:
+            self.find(None)
+        return is_found
 
     def group(self):
         """Returns the open edits in rounds: in one, no two touch a function or a line."""
@@ -321,8 +360,10 @@ class Crate:
             for path, lines in texts.items():
                 with open(f"{room}/{path}", "w", encoding="utf-8") as it:
                     it.write("\n".join(lines))
-            shutil.copytree(self.kept, f"{room}/kept", copy_function=link_or_copy)
-            verdict = self.check(room, f"{room}/kept", "--jobs", str(jobs), *flags)
+            kept = f"{room}/kept" if self.is_begun else self.kept
+            if self.is_begun:
+                shutil.copytree(self.kept, kept, copy_function=link_or_copy)
+            verdict = self.check(room, kept, "--jobs", str(jobs), *flags)
         self.rounds += 1
         (self.judge_alone if len(edits) == 1 else self.judge)(edits, verdict)
 
@@ -364,6 +405,11 @@ class Crate:
         if not self.begin():
             return 0, len(self.edits)
         rounds = self.group()
+        if rounds and not self.is_begun:
+            # What the first one makes of the libraries and lemmas serves the others.
+            self.checks(self.try_round, max(rounds, key=len), self.jobs)
+            self.is_begun = True
+            rounds = self.group()
         while rounds:
             jobs = max(self.jobs // len(rounds), 1)
             side_by_side([lambda it=it: self.checks(self.try_round, it, jobs) for it in rounds])
@@ -456,7 +502,8 @@ def main(top, room, lanes, begins_with, *names):
         checks = lambda call, *given: pool.submit(call, *given).result()
         chosen = [it for it in kit.crates_below(room) if it.name in records and it.name not in old]
         jobs = max(int(lanes) // len(chosen), 1)
-        crates = [Crate(kit, top, it, checks, jobs) for it in chosen]
+        is_passed = begins_with == "gate"
+        crates = [Crate(kit, top, it, checks, jobs, is_passed) for it in chosen]
         # The largest begins first.
         crates.sort(key=lambda it: -sum(map(len, it.sources.values())))
         for crate, found in zip(crates, side_by_side([it.run for it in crates])):
