@@ -237,13 +237,17 @@ choices() {
 harms() {
   local name word text line="$room/harms" changed='1 file changed; .*' jo=(-c Jo -y 2024)
   breaks() {
-    printf 'a header at the top may break %s; first-lines and front-matter in %s' "$1" \
-      '\.reuse/comments\.toml keep such lines in front: see docs/RULES\.md'
+    local own='\.reuse/comments\.toml' way
+    way="first-lines and front-matter in $own keep such lines in front: see docs/RULES\.md"
+    [[ $1 != *'(markup'* ]] ||
+      way="rules in $own give such files another style, or a neighbour: see reuse-undo styles"
+    printf '%s' "a header at the top may break $1; $way"
   }
   cat > "$line" << 'END'
 a.css:charset:@charset "utf-8";\n
 a.el:mode line:;;; a.el -*- lexical-binding: t -*-\n
 a.md:front matter:---\ntitle: x\n---\n# Head\n
+a.php:markup:\n <h1>Hello</h1>\n<?php echo 1;\n
 a.rs:inner attribute:#![no_std]\nfn f() {}\n
 a.yaml:cloud-config:#cloud-config\nusers: []\n
 Dockerfile:directive:# syntax=docker/dockerfile:1\nFROM x\n
@@ -291,6 +295,13 @@ END
 {"could_break":"front matter","outcome":"would change","path":"a.md"}
 {"outcome":"would change","path":"b.py"}
 {"could_break":"string","outcome":"would change","path":"c.sh"}
+END
+  files a.php '<?php\necho 1;\n' a.ts '<?xml version="1.0"?>\n' b.html '<p>\n'
+  "$program" --root "$tree" annotate -n --json -l MIT -r . > "$room/objects" 2> /dev/null
+  diff "$room/objects" - << 'END' || fail "the objects of a dry run don't tell of markup"
+{"outcome":"would change","path":"a.php"}
+{"could_break":"markup","outcome":"would change","path":"a.ts"}
+{"outcome":"would change","path":"b.html"}
 END
 }
 

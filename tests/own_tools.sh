@@ -24,9 +24,8 @@ echo 'MIT License' > "$room/texts/MIT.txt"
 annotate=(annotate -c 'Jane Doe <jane@example.org>' -y 2024 -l MIT)
 declare -A left_out=()
 total=0 taken=0
-# The files that a header breaks even so: XML in a .ts, which the program takes for TypeScript; a
-# page in a .php that doesn't begin with PHP; for rustfmt, a comment between inner attributes
-known=' de.ts lib.rs page.php '
+# The file that a header breaks even so: for rustfmt, a comment between inner attributes
+known=' lib.rs '
 
 # Debian's Python, which has the libraries of its packages
 python=/usr/bin/python3

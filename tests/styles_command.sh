@@ -171,6 +171,40 @@ kept() {
   undone .reuse/comments.toml .reuse/styles.toml
 }
 
+# Files that begin with markup, where their style is that of another language, get rules by their
+# first line.
+markup() {
+  local rules
+  files a.php '<h1>Hello</h1>\n<?php echo 1;\n' B.PHP '\n<?php\necho 1;\n' c.php '<?php\necho 1;\n' \
+    d.php '#!/usr/bin/php\n<?php\necho 1;\n' e.php "<?php include 'c.php'; ?>\n<p>\n" f.php 'Hello\n' \
+    a.ts '<?xml version="1.0"?>\n<TS/>\n' b.ts 'let a = 1;\n' c.html '<p>\n' d.js '<p>\n'
+  rm -rf "$room/before"
+  cp -r "$tree" "$room/before"
+  tells 0 '3 .PHP rules\n1 .ts rules\n' styles
+  tells 0 '{"count":1,"name":".ts","style":"rules"}\n' styles --json a.ts b.ts c.php
+  tells 0 '' styles b.ts c.php d.php d.js
+  tells 0 'nothing changed\n' styles --add b.ts c.php d.php d.js
+  tells 0 'changed .reuse/comments.toml\n' styles --add
+  rules=$(sed -n '/# PHP/,$p' "$tree/.reuse/comments.toml")
+  [[ $rules == "$(sed -n '/# PHP/,$p' "$top/share/comments.toml")" ]] || fail "the rules: $rules"
+  tells 0 '' styles
+  tells 0 'nothing changed\n' styles --add
+  tells 0 "$(printf 'changed %s\\n' B.PHP.license a.php.license a.ts b.ts c.php d.php e.php.license \
+    f.php.license)" annotate -l MIT B.PHP a.php a.ts b.ts c.php d.php e.php f.php
+  [[ $(head -n 3 "$tree/a.ts") == '<?xml version="1.0"?>'$'\n\n''<!--' ]] || fail 'XML'
+  [[ $(sed -n 3p "$tree/c.php") == '// SPDX'* && $(sed -n 4p "$tree/d.php") == '// SPDX'* ]] || fail 'PHP'
+  [[ $(head -n 1 "$tree/b.ts") == '// SPDX'* ]] || fail 'TypeScript'
+  "$program" --root "$tree" undo > "$room/out" || fail 'undo'
+  undone .reuse/comments.toml
+  # Rules of the tree for such names stay alone
+  files a.php '<p>\n' a.ts '<TS/>\n' .reuse/comments.toml \
+    'version = 1\n[[rules]]\nname = "*.php"\nstyle = "c"\n'
+  tells 0 'changed .reuse/comments.toml\n' styles --add
+  [[ $(grep -c '^name' "$tree/.reuse/comments.toml") == 2 ]] || fail 'own rules'
+  tells 0 '1 .php rules\n' styles
+  tells 0 'nothing changed\n' styles --add
+}
+
 refused() {
   local wrong
   make_tree
@@ -243,6 +277,7 @@ list
 add
 own
 kept
+markup
 refused
 words
 tables

@@ -1,15 +1,17 @@
 -- What a header could break in a file (docs/RULES.md, "What a header could break").
-use Rattle.std.specs.Prelude.{ℕ, Bool, false, ◌&&◌, nat_eq, List, [], ◌∷◌, length, drop, Option, None, Some, is_none}
-use Rattle.std.specs.Prelude.{is_some, codes}
+use Rattle.std.specs.Prelude.{ℕ, Bool, false, not, ◌&&◌, nat_eq, List, [], ◌∷◌, length, drop, Option, None, Some}
+use Rattle.std.specs.Prelude.{is_none, is_some, codes}
 use Rattle.std.specs.Prelude.{if◌then◌else◌}
 use Rattle.std.specs.List.{starts_with, list_any}
+use Rattle.std.specs.Option.{option_map_or, option_or}
 use Rattle.reuse_text.specs.Text.{file_lines}
 use Rattle.reuse_notice.specs.Tags.{is_blank, drop_front}
 use Rattle.reuse_style.specs.declared.style.Style.{Style}
 use Rattle.reuse_style.specs.Search.{holds}
+use Rattle.reuse_style.specs.Styles.{block_comment_of, style_name, style_named}
 use Rattle.reuse_header.specs.declared.harm.Harm.{Harm}
 use Rattle.reuse_header.specs.declared.harm.Harm.TheVariants.{InnerAttribute, FrontMatter, Directive, ModeLine}
-use Rattle.reuse_header.specs.declared.harm.Harm.TheVariants.{CloudConfig, Charset}
+use Rattle.reuse_header.specs.declared.harm.Harm.TheVariants.{CloudConfig, Charset, Markup}
 use Rattle.reuse_header.specs.Blocks.{block_at}
 use Rattle.reuse_header.specs.Body.{PlacedLines, is_whole_line, count_to, body_lines, open_contents}
 
@@ -46,9 +48,31 @@ harm_among [] body = harm_before body
 harm_among (line ∷ lines) body =
     if starts_with nat_eq line.1.content (codes "#![") then Some InnerAttribute else harm_before body
 
+-- the style's comments over several lines are those of markup
+abbrev pub opens_markup : Style → Bool
+opens_markup style =
+    option_map_or (λ comment. starts_with nat_eq comment.opener (codes "<")) (block_comment_of style) false
+
+-- a style of the table whose comments are no markup: one of a tree's own may be a template's, which no page shows
+unfoldable pub is_no_markup : Style → Bool
+is_no_markup style = is_some (style_named (style_name style)) && not (opens_markup style)
+
+-- the first of some lines that isn't blank begins with markup, perhaps behind blanks
+unfoldable pub begins_with_markup : PlacedLines → Bool
+begins_with_markup [] = false
+begins_with_markup (line ∷ lines) =
+    if is_whole_line [] line.1.content then begins_with_markup lines
+    else starts_with nat_eq (drop_front is_blank line.1.content) (codes "<")
+
+-- a comment in front of markup would be text of it, and so would the blank lines between
+unfoldable pub harm_to_markup : Style → PlacedLines → Option Harm
+harm_to_markup style body = if is_no_markup style && begins_with_markup body then Some Markup else None
+
 -- what a header that is put behind the prefix lines of a file could break
 abbrev pub harm_of : Style → List ℕ → Option Harm
-harm_of style file = harm_among (file_lines file) (body_lines style (file_lines file))
+harm_of style file =
+    option_or (harm_among (file_lines file) (body_lines style (file_lines file)))
+    (harm_to_markup style (body_lines style (file_lines file)))
 
 -- the first of some lines that isn't blank begins no comment
 unfoldable pub begins_with_text : Style → PlacedLines → Bool

@@ -3,6 +3,7 @@
 ghost use Rattle.std.specs.Prelude.{◌≡◌, ◌<◌, ◌^◌, length};
 ghost use Rattle.reuse_text.specs.Lines.{lines_left};
 ghost use Rattle.reuse_header.specs.Harm.{names_value, is_directive, harm_before_line, harm_before, harm_of};
+ghost use Rattle.reuse_header.specs.Harm.{harm_among, harm_to_markup, begins_with_markup, is_no_markup, opens_markup};
 ghost use Rattle.reuse_header.specs.Harm.{begins_with_text, text_stands_first};
 
 use crate::blocks::block_at;
@@ -12,8 +13,8 @@ use reuse_notice::trim_blank_start;
 use reuse_style::{Style, holds};
 use reuse_text::Lines;
 
-/// What a header could break in its file. But for the last of these it is why a line has to be the
-/// first one.
+/// What a header could break in its file. But for the last two of these it is why a line has to be
+/// the first one.
 #[derive(Clone, Copy, Debug, PartialEq, Eq)]
 pub enum Harm {
     /// It begins `#![`, as an attribute of Rust does. It is taken for an interpreter line, so a
@@ -29,21 +30,20 @@ pub enum Harm {
     CloudConfig,
     /// It gives the encoding of a style sheet.
     Charset,
+    /// The file begins with markup, as a template of PHP that begins with HTML does, and the header is
+    /// a comment of another language, which would be text of the page.
+    Markup,
     /// Text that is no comment stands above the header block, which may be in a string or in a here
     /// document.
     BelowText,
 }
 
 /// What a header could break that is put behind the prefix lines of a file.
-#[tactic(auto, unfolding(crate::specs::Harm::harm_among))]
 pub fn harm_of(file: &[u8], style: &Style<'_>) -> Option<Harm>
     ensures { result ≡ harm_of style.now file.now }
 {
-    let mut lines = Lines::new(file);
-    match lines.next() {
-        Some(line) if line.content.starts_with(b"#![") => Some(Harm::InnerAttribute),
-        _ => harm_before(pass_prefix(file, style).rest),
-    }
+    let body = pass_prefix(file, style).rest;
+    harm_among(Lines::new(file), body).or(harm_to_markup(body, style))
 }
 
 /// Whether text that is no comment stands first in a file, behind its prefix lines. A header block
@@ -71,6 +71,18 @@ fn begins_with_text(lines: Lines, style: &Style<'_>) -> bool
         }
     }
     false
+}
+
+// What a header in front of the last of some lines could break, if it isn't to markup.
+#[tactic(auto, unfolding(crate::specs::Harm::harm_among))]
+fn harm_among(lines: Lines, body: Lines) -> Option<Harm>
+    ensures { result ≡ harm_among (lines_left lines.entry) (lines_left body.entry) }
+{
+    let mut rest = lines;
+    match rest.next() {
+        Some(line) if line.content.starts_with(b"#![") => Some(Harm::InnerAttribute),
+        _ => harm_before(body),
+    }
 }
 
 // What a header in front of lines could break.
@@ -122,4 +134,47 @@ fn names_value(text: &[u8], name: &[u8]) -> bool
     ensures { result ≡ names_value text.now name.now }
 {
     text.starts_with(name) && trim_blank_start(&text[name.len()..]).starts_with(b"=")
+}
+
+// What a header in front of lines could break if they begin with markup.
+#[tactic(auto, unfolding(crate::specs::Harm::harm_to_markup))]
+fn harm_to_markup(lines: Lines, style: &Style<'_>) -> Option<Harm>
+    ensures { result ≡ harm_to_markup style.now (lines_left lines.entry) }
+{
+    if is_no_markup(style) && begins_with_markup(lines) {
+        Some(Harm::Markup)
+    } else {
+        None
+    }
+}
+
+// Whether a style is of the table, and its comments are no markup.
+#[tactic(auto, unfolding(crate::specs::Harm::is_no_markup))]
+fn is_no_markup(style: &Style<'_>) -> bool
+    ensures { result ≡ is_no_markup style.now }
+{
+    Style::of_name(style.name()).is_some() && !opens_markup(style)
+}
+
+fn opens_markup(style: &Style<'_>) -> bool
+    ensures { result ≡ opens_markup style.now }
+{
+    match style.block_comment() {
+        None => false,
+        Some(comment) => comment.opener.starts_with(b"<"),
+    }
+}
+
+// Whether the first of some lines that isn't blank begins with markup.
+#[tactic(auto, unfolding(crate::specs::Harm::begins_with_markup))]
+fn begins_with_markup(lines: Lines) -> bool
+    ensures { result ≡ begins_with_markup (lines_left lines.entry) }
+{
+    let mut rest = lines;
+    while let Some(line) = rest.next() {
+        if !is_whole_line(line.content, b"") {
+            return trim_blank_start(line.content).starts_with(b"<");
+        }
+    }
+    false
 }

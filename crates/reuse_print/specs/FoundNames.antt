@@ -1,12 +1,12 @@
 -- The names for which an annotation that was previewed is refused, since they have no comment style, and those that a
--- ready style is better for.
-use Rattle.std.specs.Prelude.{◌≡◌, ℕ, Bool, true, false, is_some, ◌&&◌, ◌||◌, List, [], ◌∷◌, Option, None}
+-- ready style or ready rules are better for.
+use Rattle.std.specs.Prelude.{◌≡◌, ℕ, Bool, true, false, is_some, ◌||◌, List, [], ◌∷◌, Option, None}
 use Rattle.std.specs.Prelude.{Some, Result, Ok, Err}
 use Rattle.std.specs.Prelude.{codes, filter_map, if◌then◌else◌}
 use Rattle.std.specs.Str.{bytes_eq}
 use Rattle.std.specs.declared.vec.Vec.{Vec}
 use Rattle.reuse_header.specs.declared.harm.Harm.{Harm}
-use Rattle.reuse_header.specs.declared.harm.Harm.TheVariants.{BelowText}
+use Rattle.reuse_header.specs.declared.harm.Harm.TheVariants.{BelowText, Markup}
 use Rattle.reuse_command.specs.declared.failure.Failure.TheVariants.{Memory}
 use Rattle.reuse_command.specs.declared.path_outcome.PathOutcome.{PathOutcome}
 use Rattle.reuse_command.specs.declared.path_outcome.PathOutcome.TheVariants.{Changes, Refused}
@@ -17,26 +17,23 @@ use Rattle.reuse_print.specs.Names.{name_lines, name_objects}
 use Rattle.reuse_print.specs.Outputs.{Adds, AddsFront}
 use Rattle.reuse_print.specs.declared.fault.Fault.{Fault}
 use Rattle.reuse_print.specs.declared.fault.Fault.TheVariants as faults
-use Rattle.reuse_ready.specs.Ready.{ready_style}
+use Rattle.reuse_ready.specs.Ready.{has_ready_rules, ready_style}
 use Rattle.reuse_ready.specs.Tally.{name_of, tally}
 use Rattle.reuse_ready.specs.declared.name_count.NameCount.{NameCount}
 use Rattle.reuse_shown.specs.declared.shown_name.NameDisplay.{NameDisplay}
 
--- what a header could break is a line that has to stay the first one, which a style can keep in front
-abbrev pub breaks_first_line : Option Harm → Bool
-breaks_first_line None = false
-breaks_first_line (Some BelowText) = false
-breaks_first_line (Some harm) = true
+-- a name has a ready style that may keep in front what a header could break, or ready rules that give a file another
+-- style if it begins with markup
+abbrev pub is_helped : Option Harm → List ℕ → Bool
+is_helped None name = false
+is_helped (Some BelowText) name = false
+is_helped (Some Markup) name = has_ready_rules name
+is_helped (Some harm) name = is_some (ready_style name)
 
--- the counted name of the path has a ready style
-abbrev pub has_ready_style : List ℕ → Bool
-has_ready_style path = is_some (ready_style (name_of path))
-
--- the path of a file whose name has no style, or whose first line a header could break, if a ready style is known for
--- it
+-- the path of a file whose name has no style, or that a header could break, if the ready tables help its name
 abbrev pub listed_path : PathOutcome → Option (List ℕ)
 listed_path (Refused (Unrecognised path)) = Some path
-listed_path (Changes path harm) = if breaks_first_line harm && has_ready_style path then Some path else None
+listed_path (Changes path harm) = if is_helped harm (name_of path) then Some path else None
 listed_path path_outcome = None
 
 abbrev pub listed_paths : List PathOutcome → List (List ℕ)

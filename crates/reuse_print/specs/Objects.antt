@@ -69,7 +69,7 @@ IsShownObject shown text =
 abbrev pub outcome_value : List ℕ → List ℕ → Data
 outcome_value outcome path = object_of ((codes "outcome", string outcome) ∷ (codes "path", string path) ∷ [])
 
--- what has to stay in front of a header, or what that may be in
+-- what has to stay in front of a header, what shows it, or what it may be in
 abbrev pub harm_word : Harm → List ℕ
 harm_word harms.InnerAttribute = codes "inner attribute"
 harm_word harms.FrontMatter = codes "front matter"
@@ -77,6 +77,7 @@ harm_word harms.Directive = codes "directive"
 harm_word harms.ModeLine = codes "mode line"
 harm_word harms.CloudConfig = codes "cloud-config"
 harm_word harms.Charset = codes "charset"
+harm_word harms.Markup = codes "markup"
 harm_word harms.BelowText = codes "string"
 
 -- a path that would change, with what its new header could break

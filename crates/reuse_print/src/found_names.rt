@@ -1,5 +1,5 @@
 //! The names for which an annotation that was previewed is refused, since they have no comment
-//! style, and those that a ready style is better for; and the list of them.
+//! style, and those that a ready style or ready rules are better for; and the list of them.
 ghost use Rattle.std.specs.Prelude.{◌≡◌, ◌++◌, Err, IfErr, IfOk, List, None, Ok, OnOk, Result, Some};
 ghost use Rattle.std.specs.Option.{option_to_list};
 ghost use Rattle.reuse_command.specs.Refused.{IsRefused};
@@ -8,7 +8,7 @@ ghost use Rattle.reuse_print.specs.declared.fault.Fault.TheVariants as faults;
 ghost use Rattle.reuse_command.specs.declared.reply.Refusal.{Refusal};
 ghost use Rattle.reuse_ready.specs.declared.name_count.NameCount.{NameCount};
 ghost use Rattle.reuse_print.specs.FoundNames.{IsFound, is_for_all, is_own_file, names_found, refusal_for_all};
-ghost use Rattle.reuse_print.specs.FoundNames.{has_ready_style, breaks_first_line, listed_path};
+ghost use Rattle.reuse_print.specs.FoundNames.{is_helped, listed_path};
 ghost use Rattle.reuse_print.specs.FoundNames.{listed_paths, unless_for_all};
 
 use crate::fault::{Fault, in_memory};
@@ -18,15 +18,13 @@ use reuse_change::PathText;
 use reuse_command::path_outcome::{PathOutcome, PathOutcomes};
 use reuse_command::reply::Refusal;
 use reuse_header::Harm;
-use reuse_ready::{NameCount, ready_style, tally};
+use reuse_ready::{NameCount, has_ready_rules, name_of, ready_style, tally};
 use reuse_shown::shown_name::NameDisplay;
-use reuse_style::ending;
-use reuse_text::last_part;
 use std::alloc::{AllocError, Global};
 
-/// The names of the files that are refused as unrecognised, and of those whose first line a header
-/// could break, if the name has a ready style; each with how many of these files have it. Other
-/// refusals of single files are passed over; one that is of the whole call is the answer.
+/// The names of the files that are refused as unrecognised, and of those that a header could break,
+/// if a ready style or ready rules of the name help; each with how many of these files have it.
+/// Other refusals of single files are passed over; one that is of the whole call is the answer.
 pub fn names_found(alloc: Global, path_outcomes: PathOutcomes) -> Result<Vec<NameCount>, Refusal>
     ensures { IsFound (names_found path_outcomes) result }
 {
@@ -70,8 +68,7 @@ fn push_unrecognised(paths: &mut Vec<PathText>, refusal: Refusal) -> Result<(), 
     }
 }
 
-// Adds the path of a file that a header could break so, if a ready style is known that may keep its
-// first line in front.
+// Adds the path of a file that a header could break, if the ready tables help.
 fn push_harmed(
     paths: &mut Vec<PathText>,
     path: PathText,
@@ -80,7 +77,7 @@ fn push_harmed(
     ensures { OnOk result (paths.new.items ≡ paths.old.items
         ++ option_to_list (listed_path (PathOutcome.Changes path harm))) }
 {
-    if breaks_first_line(harm) && has_ready_style(path.as_bytes()) {
+    if is_helped(harm, name_of(path.as_bytes())) {
         paths.push(path)?;
     } else {
         drop(path);
@@ -88,22 +85,16 @@ fn push_harmed(
     Ok(())
 }
 
-// Whether what a header could break is a line that has to stay the first one.
-fn breaks_first_line(harm: Option<Harm>) -> bool
-    ensures { result ≡ breaks_first_line harm }
+// Whether a ready style of a name may keep what a header could break in front, or ready rules give
+// a file that begins with markup another style.
+fn is_helped(harm: Option<Harm>, name: &[u8]) -> bool
+    ensures { result ≡ is_helped harm name.now }
 {
     match harm {
         None | Some(Harm::BelowText) => false,
-        Some(_) => true,
+        Some(Harm::Markup) => has_ready_rules(name),
+        Some(_) => ready_style(name).is_some(),
     }
-}
-
-// Whether the counted name of a path has a ready style.
-fn has_ready_style(path: &[u8]) -> bool
-    ensures { result ≡ has_ready_style path.now }
-{
-    let part = last_part(path);
-    ready_style(part).is_some() || ready_style(ending(part)).is_some()
 }
 
 // Whether the refusal is of the whole call: a PATH that isn't there, or a file of the tree's own

@@ -199,7 +199,7 @@ fn change_outcome_value(
     }
 }
 
-/// What has to stay in front of a header, or what that may be in.
+/// What has to stay in front of a header, what shows it, or what it may be in.
 pub fn harm_word(harm: Harm) -> &'static str
     ensures { result.now ≡ harm_word harm }
 {
@@ -210,6 +210,7 @@ pub fn harm_word(harm: Harm) -> &'static str
         Harm::ModeLine => "mode line",
         Harm::CloudConfig => "cloud-config",
         Harm::Charset => "charset",
+        Harm::Markup => "markup",
         Harm::BelowText => "string",
     }
 }

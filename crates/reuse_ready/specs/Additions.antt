@@ -29,17 +29,13 @@ missing_names own names = filter (λ (n : NameAddition). is_none (own n.name)) n
 abbrev pub missing_tables : List GoodStyle → List TableAddition → List TableAddition
 missing_tables comments tables = filter (λ (t : TableAddition). is_none (own_style_named comments t.name)) tables
 
--- the pattern of a rule for first lines, as it stands in a file of comments
-abbrev pub rule_line : List ℕ → List ℕ
-rule_line pattern = codes "first-line = \"" ++ pattern ++ codes "\""
-
--- a file of comments has a rule of this pattern, whatever its style
-abbrev pub has_rule : Option (List ℕ) → RuleAddition → Bool
-has_rule None r = false
-has_rule (Some bytes) r = holds (rule_line r.first_line) bytes
+-- a file of comments has the line of these rules, whatever it says of such files
+abbrev pub has_rules : Option (List ℕ) → RuleAddition → Bool
+has_rules None r = false
+has_rules (Some bytes) r = holds r.line bytes
 
 abbrev pub missing_rules : Option (List ℕ) → List RuleAddition → List RuleAddition
-missing_rules file rules = filter (λ (r : RuleAddition). not (has_rule file r)) rules
+missing_rules file rules = filter (λ (r : RuleAddition). not (has_rules file r)) rules
 
 -- a name and its style, as a line of the file of styles
 abbrev pub name_line : NameAddition → List ℕ
@@ -49,9 +45,9 @@ name_line n = codes "\"" ++ n.name ++ codes "\" = \"" ++ n.style ++ codes "\"\n"
 abbrev pub table_lines : TableAddition → List ℕ
 table_lines t = codes "\n" ++ t.table
 
--- a rule behind an empty line
+-- rules behind an empty line
 abbrev pub rule_lines : RuleAddition → List ℕ
-rule_lines r = codes "\n[[rules]]\n" ++ rule_line r.first_line ++ codes "\nstyle = \"" ++ r.style ++ codes "\"\n"
+rule_lines r = codes "\n" ++ r.rules
 
 -- bytes have a line end behind their last line
 unfoldable pub is_ended : List ℕ → Bool

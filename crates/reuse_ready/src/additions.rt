@@ -2,12 +2,16 @@
 ghost use Rattle.std.specs.Prelude.{◌≡◌, ◌∷◌, ◌++◌, [], IfOk, OnOk, false, map, filter};
 ghost use Rattle.std.specs.List.{filter_map, list_any};
 ghost use Rattle.std.specs.Option.{option_map_or};
-ghost use Rattle.std.specs.Str.{bytes_eq};
+ghost use Rattle.std.specs.Str.{bytes_eq, str_eq_ignore_ascii_case};
 ghost use Rattle.reuse_ready.specs.Needed.{additions_of, name_addition, table_addition, is_needed};
 ghost use Rattle.reuse_ready.specs.Needed.{needed_rules, rule_addition, is_bare};
+ghost use Rattle.reuse_ready.specs.Needed.{is_counted, name_rules_addition, needed_name_rules};
 
 use crate::name_count::NameCount;
-use crate::tables::{ReadyComment, ReadyRule, ready_comments, ready_rules};
+use crate::tables::{
+    ReadyComment, ReadyRule, ready_comments, ready_name_rules, ready_rules, same_name,
+};
+use crate::texts::{push_name_rule_line, push_pattern_line, push_pattern_rule};
 use reuse_change::FixedList;
 use reuse_text::Bytes;
 use std::alloc::{AllocError, Global};
@@ -30,13 +34,13 @@ pub struct TableAddition {
     pub table: Bytes,
 }
 
-/// A rule that is to stand in a file of comments.
+/// Rules that are to stand in a file of comments.
 #[derive(Debug, Drop)]
 pub struct RuleAddition {
-    /// The pattern of the first lines that it is for.
-    pub first_line: Bytes,
-    /// The name of its style.
-    pub style: Bytes,
+    /// The line that says for which files they are, by which a file of comments has them already.
+    pub line: Bytes,
+    /// The rules, as they stand there.
+    pub rules: Bytes,
 }
 
 /// What is to be added to a tree's own files, where they lack it.
@@ -50,15 +54,17 @@ pub struct StyleAdditions {
     pub rules: FixedList<RuleAddition>,
 }
 
-/// The counted names that have a ready style, and the ready comments that are styles of them. Where a
-/// name without an ending has none, the ready rules, too, since the file may be a script.
+/// The counted names that have a ready style, the ready comments that are styles of them, and the
+/// ready rules for counted names. Where a name without an ending has no style, the ready rules for
+/// first lines, too, since the file may be a script.
 #[tactic(auto, unfolding(crate::specs::Needed::additions_of))]
 pub fn additions_of(alloc: Global, rows: &[NameCount]) -> Result<StyleAdditions, AllocError>
     ensures { IfOk result (λ additions. additions ≡ additions_of rows.now) }
 {
     let names = names_with_styles(alloc, rows)?;
     let tables = needed_tables(alloc, ready_comments(), rows)?;
-    let rules = needed_rules(alloc, ready_rules(), rows)?;
+    let mut rules = needed_rules(alloc, ready_rules(), rows)?;
+    push_name_rules(alloc, &mut rules, ready_name_rules(), rows)?;
     Ok(StyleAdditions {
         names: FixedList::new(names),
         tables: FixedList::new(tables),
@@ -166,9 +172,51 @@ fn rule_additions(alloc: Global, rules: &[ReadyRule<'_>]) -> Result<Vec<RuleAddi
 {
     let mut additions = Vec::new(alloc);
     for rule in rules {
-        let first_line = Bytes::from_slice(alloc, rule.0.as_bytes())?;
-        let style = Bytes::from_slice(alloc, rule.1.as_bytes())?;
-        additions.push(RuleAddition { first_line, style })?;
+        additions.push(rule_addition(alloc, rule)?)?;
     }
     Ok(additions)
+}
+
+fn rule_addition(alloc: Global, rule: &ReadyRule<'_>) -> Result<RuleAddition, AllocError>
+    ensures { IfOk result (λ addition. addition ≡ rule_addition (rule.now.0.now, rule.now.1.now)) }
+{
+    let mut line = Bytes::new(alloc);
+    push_pattern_line(&mut line, rule.0.as_bytes())?;
+    let mut rules = Bytes::new(alloc);
+    push_pattern_rule(&mut rules, rule.0.as_bytes(), rule.1.as_bytes())?;
+    Ok(RuleAddition { line, rules })
+}
+
+// Adds the rules that are for counted names.
+fn push_name_rules(
+    alloc: Global,
+    needed: &mut Vec<RuleAddition>,
+    rules: &[ReadyRule<'_>],
+    rows: &[NameCount],
+) -> Result<(), AllocError>
+    ensures { OnOk result (needed.new.items ≡ needed.old.items
+        ++ needed_name_rules rows.now (map (λ rule. (rule.0.now, rule.1.now)) rules.now)) }
+{
+    for rule in rules {
+        if is_counted(rows, rule.0) {
+            needed.push(name_rules_addition(alloc, rule)?)?;
+        }
+    }
+    Ok(())
+}
+
+// Whether a name is a counted one.
+fn is_counted(rows: &[NameCount], name: &str) -> bool
+    ensures { result ≡ is_counted rows.now name.now }
+{
+    rows.iter().any(|row| same_name(name, row.name.as_slice()))
+}
+
+fn name_rules_addition(alloc: Global, rule: &ReadyRule<'_>) -> Result<RuleAddition, AllocError>
+    ensures { IfOk result (λ addition. addition ≡ name_rules_addition (rule.now.0.now, rule.now.1.now)) }
+{
+    let mut line = Bytes::new(alloc);
+    push_name_rule_line(&mut line, rule.0.as_bytes())?;
+    let rules = Bytes::from_slice(alloc, rule.1.as_bytes())?;
+    Ok(RuleAddition { line, rules })
 }

@@ -16,11 +16,11 @@ mod uncommentable_lines;
 
 pub use additions::{NameAddition, RuleAddition, StyleAdditions, TableAddition, additions_of};
 pub use comments::READY_COMMENTS;
-pub use name_count::{NameCount, tally};
+pub use name_count::{NameCount, name_of, tally};
 pub use other_lines::OTHER_LINES;
 pub use own_lines::{AddedLines, AdditionRefusal, OwnStyles, lines_added};
-pub use rules::{READY_FRONTS, READY_RULES};
+pub use rules::{READY_FRONTS, READY_NAME_RULES, READY_RULES};
 pub use table_lines::TABLE_LINES;
-pub use tables::{ReadyComment, ReadyLine, ReadyRule, ready_comment, ready_style};
+pub use tables::{ReadyComment, ReadyLine, ReadyRule, has_ready_rules, ready_comment, ready_style};
 pub use texts::{ready_comments_text, ready_styles_text};
 pub use uncommentable_lines::UNCOMMENTABLE_LINES;

@@ -45,9 +45,9 @@ fn values_of(alloc: Global, rows: BTreeMap<Bytes, NameCount>) -> Result<Vec<Name
     rows.into_values().collect(alloc)
 }
 
-// The name of a path: its last part where the ready tables have that, else what stands there from
-// the last dot on.
-fn name_of(path: &[u8]) -> &[u8]
+/// The name of a path: its last part where the ready tables have that, else what stands there from
+/// the last dot on.
+pub fn name_of(path: &[u8]) -> &[u8]
     ensures { result.now ≡ name_of path.now }
 {
     let part = last_part(path);

@@ -12,7 +12,7 @@ ghost use Rattle.reuse_ready.specs.Refused.{IsAdditionRefused};
 
 use crate::additions::{NameAddition, RuleAddition, StyleAdditions, TableAddition};
 use crate::rule_lines::missing_rules;
-use crate::texts::{push_name_line, push_rule, push_table};
+use crate::texts::{push_name_line, push_table};
 use reuse_style::{CommentRules, CommentsRefusal, Kind, StyleTable, StylesRefusal};
 use reuse_text::Bytes;
 use std::alloc::{AllocError, Global};
@@ -169,11 +169,7 @@ fn comment_lines(
         push_table(&mut lines, table.table.as_slice())?;
     }
     for rule in rules {
-        push_rule(
-            &mut lines,
-            rule.first_line.as_slice(),
-            rule.style.as_slice(),
-        )?;
+        push_table(&mut lines, rule.rules.as_slice())?;
     }
     Ok(lines)
 }

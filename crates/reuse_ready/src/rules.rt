@@ -1,4 +1,5 @@
-//! The ready rules: which files get a style by a beginning of their names, or by their first lines.
+//! The ready rules: which files get a style by a beginning of their names, by their first lines, or
+//! by both.
 
 /// Beginnings of the names of files that are for one purpose each, with their style: behind one
 /// stands the purpose.
@@ -21,4 +22,50 @@ pub static READY_RULES: [(&str, &str); 12] = [
     ("#!*lua*", "haskell"),
     ("#!*node*", "c"),
     ("#!*deno*", "c"),
+];
+
+/// Endings of names whose files may begin with markup, each with the rules for them as they stand in
+/// a file of comments. By these a file that begins so gets another style than by its name, or a
+/// neighbour.
+pub static READY_NAME_RULES: [(&str, &str); 2] = [
+    (
+        ".php",
+        "\
+# PHP shows what stands outside of its tags, comments too. So a file gets a neighbour unless it
+# begins with a tag that isn't closed on its line, or is a script.
+[[rules]]
+name = \"*.php\"
+first-line = \"<?php*?>*\"
+style = \"uncommentable\"
+over-table = true
+
+[[rules]]
+name = \"*.php\"
+first-line = \"<?php*\"
+style = \"c\"
+over-table = true
+
+[[rules]]
+name = \"*.php\"
+first-line = \"#!*\"
+style = \"c\"
+over-table = true
+
+[[rules]]
+name = \"*.php\"
+style = \"uncommentable\"
+over-table = true
+",
+    ),
+    (
+        ".ts",
+        "\
+# Translations of Qt, which are XML
+[[rules]]
+name = \"*.ts\"
+first-line = \"<*\"
+style = \"html\"
+over-table = true
+",
+    ),
 ];

@@ -1,16 +1,17 @@
 //! The ready tables: which style a name has, and the table of a ready comment.
 ghost use Rattle.std.specs.Prelude.{◌≡◌, ℕ, List, map, find};
-ghost use Rattle.std.specs.List.{filter_map};
+ghost use Rattle.std.specs.List.{filter_map, list_any};
 ghost use Rattle.std.specs.Option.{option_copied, option_map};
 ghost use Rattle.std.specs.Str.{bytes_eq, str_eq_ignore_ascii_case};
 ghost use Rattle.reuse_style.specs.Names.{lookup};
 ghost use Rattle.reuse_ready.specs.Ready.{ready_style, ready_comment, ready_comments, named, table_names, other_names};
 ghost use Rattle.reuse_ready.specs.Ready.{uncommentable_names, later_names};
 ghost use Rattle.reuse_ready.specs.Ready.{ready_fronts, ready_rules, listed_style, front_style, begins_with};
+ghost use Rattle.reuse_ready.specs.Ready.{ready_name_rules, has_ready_rules, is_named_in};
 
 use crate::comments::READY_COMMENTS;
 use crate::other_lines::OTHER_LINES;
-use crate::rules::{READY_FRONTS, READY_RULES};
+use crate::rules::{READY_FRONTS, READY_NAME_RULES, READY_RULES};
 use crate::table_lines::TABLE_LINES;
 use crate::uncommentable_lines::UNCOMMENTABLE_LINES;
 
@@ -21,7 +22,8 @@ pub type ReadyLine<'a> = (&'a str, Option<&'a str>);
 /// The name of a comment style that is none of the table of styles, with its table.
 pub type ReadyComment<'a> = (&'a str, &'a str);
 
-/// The beginning of names, or the pattern of first lines, with the style that it gives.
+/// The beginning of names, or the pattern of first lines, with the style that it gives; or the
+/// ending of names, with their rules.
 pub type ReadyRule<'a> = (&'a str, &'a str);
 
 /// The lines of the ready names whose style is one of the table.
@@ -70,6 +72,34 @@ pub(crate) fn ready_rules() -> &'static [ReadyRule<'static>]
     ensures { map (λ rule. (rule.0.now, rule.1.now)) result.now ≡ ready_rules }
 {
     &READY_RULES
+}
+
+/// The endings of names that have ready rules.
+#[tactic(auto, unfolding(crate::specs::Ready::ready_name_rules))]
+pub(crate) fn ready_name_rules() -> &'static [ReadyRule<'static>]
+    ensures { map (λ rules. (rules.0.now, rules.1.now)) result.now ≡ ready_name_rules }
+{
+    &READY_NAME_RULES
+}
+
+/// Whether there are ready rules for a name, where letters of either case are the same.
+pub fn has_ready_rules(name: &[u8]) -> bool
+    ensures { result ≡ has_ready_rules name.now }
+{
+    is_named_in(ready_name_rules(), name)
+}
+
+// Whether a name is one of those that some rules are for.
+fn is_named_in(mut rules: &[ReadyRule<'_>], name: &[u8]) -> bool
+    ensures { result ≡ is_named_in (map (λ rules. (rules.0.now, rules.1.now)) rules.entry.now) name.now }
+{
+    while let [first, others @ ..] = rules {
+        if same_name(first.0, name) {
+            return true;
+        }
+        rules = others;
+    }
+    false
 }
 
 /// The ready style of a name, where letters of either case are the same: by the whole name, or else
@@ -165,8 +195,8 @@ fn begins_with(front: &str, name: &[u8]) -> bool
     same_name(front, &name[..front.len()])
 }
 
-// Whether two names are the same but for the case of ASCII letters.
-fn same_name(a: &str, b: &[u8]) -> bool
+/// Whether two names are the same but for the case of ASCII letters.
+pub(crate) fn same_name(a: &str, b: &[u8]) -> bool
     ensures { result ≡ str_eq_ignore_ascii_case a.now b.now }
 {
     a.as_bytes().eq_ignore_ascii_case(b)

@@ -3,13 +3,13 @@ ghost use Rattle.std.specs.Prelude.{◌≡◌, ◌++◌, IfOk, OnOk, codes, map}
 ghost use Rattle.std.specs.Option.{option_copied};
 ghost use Rattle.std.specs.List.{flat_map};
 ghost use Rattle.reuse_ready.specs.Ready.{ready_styles_text, ready_comments_text, line_text, title_line, comment_text};
-ghost use Rattle.reuse_ready.specs.Ready.{front_text, rule_text, fronts_text, rules_text};
-ghost use Rattle.reuse_ready.specs.Additions.{name_line, rule_line, rule_lines};
-ghost use Rattle.reuse_ready.specs.declared.additions.RuleAddition.{RuleAddition};
+ghost use Rattle.reuse_ready.specs.Ready.{front_text, rule_text, fronts_text, rules_text, ready_name_rules};
+ghost use Rattle.reuse_ready.specs.Ready.{pattern_line, pattern_rule, name_rule_line};
+ghost use Rattle.reuse_ready.specs.Additions.{name_line};
 
 use crate::tables::{
-    ReadyComment, ReadyLine, ReadyRule, other_names, ready_comments, ready_fronts, ready_rules,
-    table_names, uncommentable_names,
+    ReadyComment, ReadyLine, ReadyRule, other_names, ready_comments, ready_fronts,
+    ready_name_rules, ready_rules, table_names, uncommentable_names,
 };
 use reuse_text::Bytes;
 use std::alloc::{AllocError, Global};
@@ -62,6 +62,7 @@ pub fn ready_comments_text(alloc: Global) -> Result<Bytes, AllocError>
     push_comments(&mut text, ready_comments())?;
     push_ready_fronts(&mut text)?;
     push_ready_rules(&mut text)?;
+    push_comments(&mut text, ready_name_rules())?;
     Ok(text)
 }
 
@@ -118,7 +119,7 @@ pub(crate) fn push_name_line(text: &mut Bytes, name: &[u8], style: &[u8]) -> Res
     text.push_slice(b"\"\n")
 }
 
-// Adds the tables of comments.
+// Adds the tables of comments, or the rules for names.
 fn push_comments(text: &mut Bytes, comments: &[ReadyComment<'_>]) -> Result<(), AllocError>
     ensures { OnOk result
         (text.new ≡ text.old ++ flat_map comment_text (map (λ comment. (comment.0.now, comment.1.now)) comments.now)) }
@@ -168,31 +169,45 @@ fn push_rules(text: &mut Bytes, rules: &[ReadyRule<'_>]) -> Result<(), AllocErro
 fn push_ready_rule(text: &mut Bytes, pattern: &[u8], style: &[u8]) -> Result<(), AllocError>
     ensures { OnOk result (text.new ≡ text.old ++ rule_text (pattern.now, style.now)) }
 {
-    push_rule(text, pattern, style)
+    text.push_slice(b"\n")?;
+    push_pattern_rule(text, pattern, style)
 }
 
-/// Adds a rule for first lines, behind an empty line.
-pub(crate) fn push_rule(text: &mut Bytes, pattern: &[u8], style: &[u8]) -> Result<(), AllocError>
-    ensures { OnOk result (text.new ≡ text.old
-        ++ rule_lines (record { first_line = pattern.now; style = style.now })) }
+/// Adds a rule for first lines.
+#[tactic(auto, unfolding(crate::specs::Ready::pattern_rule))]
+pub(crate) fn push_pattern_rule(
+    text: &mut Bytes,
+    pattern: &[u8],
+    style: &[u8],
+) -> Result<(), AllocError>
+    ensures { OnOk result (text.new ≡ text.old ++ pattern_rule (pattern.now, style.now)) }
 {
-    text.push_slice(b"\n[[rules]]\n")?;
-    push_rule_line(text, pattern)?;
+    text.push_slice(b"[[rules]]\n")?;
+    push_pattern_line(text, pattern)?;
     text.push_slice(b"\nstyle = \"")?;
     text.push_slice(style)?;
     text.push_slice(b"\"\n")
 }
 
-/// Adds the pattern of a rule, as it stands in a file of comments.
-pub(crate) fn push_rule_line(text: &mut Bytes, pattern: &[u8]) -> Result<(), AllocError>
-    ensures { OnOk result (text.new ≡ text.old ++ rule_line pattern.now) }
+/// Adds the line of a rule's pattern of first lines.
+pub(crate) fn push_pattern_line(text: &mut Bytes, pattern: &[u8]) -> Result<(), AllocError>
+    ensures { OnOk result (text.new ≡ text.old ++ pattern_line pattern.now) }
 {
     text.push_slice(b"first-line = \"")?;
     text.push_slice(pattern)?;
     text.push_slice(b"\"")
 }
 
-/// Adds a table of a file of comments, behind an empty line.
+/// Adds the line of a rule for names that end so.
+pub(crate) fn push_name_rule_line(text: &mut Bytes, ending: &[u8]) -> Result<(), AllocError>
+    ensures { OnOk result (text.new ≡ text.old ++ name_rule_line ending.now) }
+{
+    text.push_slice(b"name = \"*")?;
+    text.push_slice(ending)?;
+    text.push_slice(b"\"")
+}
+
+/// Adds a table of a file of comments, or rules, behind an empty line.
 pub(crate) fn push_table(text: &mut Bytes, table: &[u8]) -> Result<(), AllocError>
     ensures { OnOk result (text.new ≡ text.old ++ codes "\n" ++ table.now) }
 {

@@ -84,18 +84,27 @@ fn note_below_text(rt: &impl Eprint, path: &str, count: usize) {
 // Prints which of some files has a first line that a header at the top may break.
 fn note_first_lines(rt: &impl Eprint, first: &Harmed, count: usize) {
     let (path, word) = (first.path.text(), harm_word(first.harm));
+    let way = if first.harm == Harm::Markup {
+        RULED
+    } else {
+        KEPT
+    };
     let _ = match count {
         0 | 1 => {
-            eprintln!(rt; "reuse-undo: note: a header at the top may break {path} ({word}); {KEPT}")
+            eprintln!(rt; "reuse-undo: note: a header at the top may break {path} ({word}); {way}")
         }
         count => {
             let more = count - 1;
             eprintln!(rt;
-                "reuse-undo: note: a header at the top may break {count} files: {path} ({word}) and {more} more; {KEPT}"
+                "reuse-undo: note: a header at the top may break {count} files: {path} ({word}) and {more} more; {way}"
             )
         }
     };
 }
+
+/// How files that begin with markup get another style.
+const RULED: &str = "rules in .reuse/comments.toml give such files another style, or a neighbour: \
+    see reuse-undo styles";
 
 /// How lines are kept in front of a header.
 const KEPT: &str = "first-lines and front-matter in .reuse/comments.toml keep such lines in front: \

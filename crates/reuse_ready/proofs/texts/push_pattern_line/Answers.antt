@@ -1,5 +1,5 @@
-use Rattle.std.proofs.Common.{◌≡◌, ◌∙◌, ◌++◌, ℕ, List, Result, Ok, Err, OnOk, ap, append_assoc, codes}
-use Rattle.reuse_ready.proofs.texts.push_rule_line.Goals as goal
+use Rattle.std.proofs.Common.{◌∙◌, ◌++◌, ℕ, List, Result, Ok, Err, OnOk, ap, append_assoc, codes}
+use Rattle.reuse_ready.proofs.texts.push_pattern_line.Goals as goal
 
 weaker : {A E P Q : Type 0} (result : Result A E) → OnOk result P → (P → Q) → OnOk result Q
 weaker (Ok done) p f = f p
