@@ -73,10 +73,10 @@ clears_one A folders journal folder path name seen found status look a b old new
       journal = journal;
       is_journal = known;
       path = path;
+      is_at = ap (place_in folder) named;
       folder = folder;
       is_below = below;
       is_mounted = mounted;
-      is_at = ap (place_in folder) named;
     } in
     let here : look ≡ Some (record { place = place; reported = found }) =
     reported ∙ ap (λ n. let one : Look = record { place = place_in folder n; reported = found } in Some one)

@@ -10,4 +10,5 @@ mod DueLemmas
 pub mod EditLemmas
 pub mod LeftLemmas
 pub mod NoteLemmas
+pub mod ReadsOnlyLemmas
 pub mod SyncLemmas

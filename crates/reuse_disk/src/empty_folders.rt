@@ -1,6 +1,7 @@
 //! Removing folders that hold nothing but folders.
 ghost use Rattle.std.specs.Prelude.{◌≡◌, IfOk, string_bytes};
 ghost use Rattle.reuse_disk.specs.OpenFolders.{AreOpenedIf, path_below};
+ghost use Rattle.reuse_disk.specs.ReadsOnly.{EntersOnly};
 
 use crate::disk_system::DiskSystem;
 use crate::listing::{MOST_NAMES, push_text};
@@ -46,12 +47,7 @@ fn push_folders<S: DiskSystem>(
     folder: &str,
     folders: &mut Vec<String>,
 ) -> Result<(), FolderFault>
-    ensures kept { S.holds system.new ≡ S.holds system.old }
-    ensures changes { S.changes system.new ≡ S.changes system.old }
-    ensures still { S.folders system.new ≡ S.folders system.old }
-    ensures earlier { S.honest system.new → S.honest system.old }
-    ensures opened { AreOpenedIf (S.honest system.old) (S.folders system.old) open_folders.old
-        → AreOpenedIf (S.honest system.new) (S.folders system.new) open_folders.new }
+    ensures enters { EntersOnly S.System system.old system.new open_folders.old open_folders.new }
 {
     open_folders.enter_seen(system, alloc, folder)?;
     for entry in fs::read_dir(system.rt(), open_folders.current()?.path())? {
@@ -67,12 +63,7 @@ fn folders_below<S: DiskSystem>(
     open_folders: &mut OpenFolders,
     folder: &str,
 ) -> Result<Vec<String>, FolderFault>
-    ensures kept { S.holds system.new ≡ S.holds system.old }
-    ensures changes { S.changes system.new ≡ S.changes system.old }
-    ensures still { S.folders system.new ≡ S.folders system.old }
-    ensures earlier { S.honest system.new → S.honest system.old }
-    ensures opened { AreOpenedIf (S.honest system.old) (S.folders system.old) open_folders.old
-        → AreOpenedIf (S.honest system.new) (S.folders system.new) open_folders.new }
+    ensures enters { EntersOnly S.System system.old system.new open_folders.old open_folders.new }
 {
     let mut folders = Vec::new(alloc);
     push_text(alloc, &mut folders, folder)?;

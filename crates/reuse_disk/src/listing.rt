@@ -4,7 +4,7 @@ ghost use Rattle.std.specs.List.Sorted.{IsSorted};
 ghost use Rattle.std.specs.Ordering.{nat_cmp};
 ghost use Rattle.std.specs.Cmp.Lexicographic.{slice_cmp};
 ghost use Rattle.reuse_system.specs.Ignored.{is_ignored};
-ghost use Rattle.reuse_disk.specs.OpenFolders.{AreOpenedIf};
+ghost use Rattle.reuse_disk.specs.ReadsOnly.{EntersOnly};
 
 use crate::disk_system::DiskSystem;
 use crate::empty_folders::path_in;
@@ -112,12 +112,7 @@ impl<'a, P: Pruning> Listing<'a, P> {
         open_folders: &mut OpenFolders,
         folder: &str,
     ) -> Result<(), FolderFault>
-        ensures kept { S.holds system.new ≡ S.holds system.old }
-        ensures changes { S.changes system.new ≡ S.changes system.old }
-        ensures still { S.folders system.new ≡ S.folders system.old }
-        ensures earlier { S.honest system.new → S.honest system.old }
-        ensures opened { AreOpenedIf (S.honest system.old) (S.folders system.old) open_folders.old
-            → AreOpenedIf (S.honest system.new) (S.folders system.new) open_folders.new }
+        ensures enters { EntersOnly S.System system.old system.new open_folders.old open_folders.new }
     {
         if !open_folders.enter_listed(system, alloc, folder)? {
             return Ok(());
@@ -137,12 +132,7 @@ impl<'a, P: Pruning> Listing<'a, P> {
         open_folders: &mut OpenFolders,
         last: &mut String,
     ) -> Result<(), FolderFault>
-        ensures kept { S.holds system.new ≡ S.holds system.old }
-        ensures changes { S.changes system.new ≡ S.changes system.old }
-        ensures still { S.folders system.new ≡ S.folders system.old }
-        ensures earlier { S.honest system.new → S.honest system.old }
-        ensures opened { AreOpenedIf (S.honest system.old) (S.folders system.old) open_folders.old
-            → AreOpenedIf (S.honest system.new) (S.folders system.new) open_folders.new }
+        ensures enters { EntersOnly S.System system.old system.new open_folders.old open_folders.new }
     {
         for _ in 0..=MOST_NAMES {
             match self.next_folder() {
@@ -176,12 +166,7 @@ pub fn list_below<S: DiskSystem>(
     folder: &str,
     last: &mut String,
 ) -> Result<Vec<PathText>, FolderFault>
-    ensures kept { S.holds system.new ≡ S.holds system.old }
-    ensures changes { S.changes system.new ≡ S.changes system.old }
-    ensures still { S.folders system.new ≡ S.folders system.old }
-    ensures earlier { S.honest system.new → S.honest system.old }
-    ensures opened { AreOpenedIf (S.honest system.old) (S.folders system.old) open_folders.old
-        → AreOpenedIf (S.honest system.new) (S.folders system.new) open_folders.new }
+    ensures enters { EntersOnly S.System system.old system.new open_folders.old open_folders.new }
 {
     let mut listing = Listing::new(alloc, &NoPruning);
     listing.take_folder(alloc, folder)?;

@@ -1,10 +1,10 @@
 //! Folders on another device than the journal's, as below a mount. No file is renamed to there from
 //! the journal's folder: a new one is written beside the file that it is to be, and a run that is
 //! stopped may leave it. Tested by `odd_folders.sh` in `tests/`.
-ghost use Rattle.std.specs.Prelude.{◌≡◌, IfOk};
+ghost use Rattle.std.specs.Prelude.{IfOk};
 ghost use Rattle.reuse_disk.specs.LeftFiles.{ClearsLeft, IsClearedAt, IsJournalIf};
-ghost use Rattle.reuse_disk.specs.Noted.{StayNoted};
 ghost use Rattle.reuse_disk.specs.OpenFolders.{AreOpenedIf};
+ghost use Rattle.reuse_disk.specs.ReadsOnly.{NotesOnly};
 
 use crate::open_folders::OpenFolders;
 use crate::syncs::Unsynced;
@@ -69,13 +69,8 @@ impl MountedFolders {
         ensures cleared { AreOpenedIf (S.honest system.old) (S.folders system.old) open_folders.old
             → ClearsLeft (S.honest system.new) (S.folders system.new) (S.changes system.old) (S.changes system.new)
             (S.holds system.old) (S.holds system.new) }
-        ensures still { S.folders system.new ≡ S.folders system.old }
-        ensures earlier { S.honest system.new → S.honest system.old }
-        ensures opened { AreOpenedIf (S.honest system.old) (S.folders system.old) open_folders.old
-            → AreOpenedIf (S.honest system.new) (S.folders system.new) open_folders.new }
-        ensures syncs { unsynced.new.syncs ≡ unsynced.old.syncs }
-        ensures noted { StayNoted unsynced.old unsynced.new }
-        ensures no_sync { S.synced system.new ≡ S.synced system.old }
+        ensures notes { NotesOnly S.System system.old system.new open_folders.old open_folders.new unsynced.old
+            unsynced.new }
     {
         if !self.paths.is_empty() {
             let _ = self.clear_each(system, alloc, open_folders, unsynced);
@@ -93,13 +88,8 @@ impl MountedFolders {
         ensures cleared { AreOpenedIf (S.honest system.old) (S.folders system.old) open_folders.old
             → ClearsLeft (S.honest system.new) (S.folders system.new) (S.changes system.old) (S.changes system.new)
             (S.holds system.old) (S.holds system.new) }
-        ensures still { S.folders system.new ≡ S.folders system.old }
-        ensures earlier { S.honest system.new → S.honest system.old }
-        ensures opened { AreOpenedIf (S.honest system.old) (S.folders system.old) open_folders.old
-            → AreOpenedIf (S.honest system.new) (S.folders system.new) open_folders.new }
-        ensures syncs { unsynced.new.syncs ≡ unsynced.old.syncs }
-        ensures noted { StayNoted unsynced.old unsynced.new }
-        ensures no_sync { S.synced system.new ≡ S.synced system.old }
+        ensures notes { NotesOnly S.System system.old system.new open_folders.old open_folders.new unsynced.old
+            unsynced.new }
     {
         open_folders.enter_seen(system, alloc, JOURNAL)?;
         let journal = open_folders.current()?.identity();
@@ -134,13 +124,8 @@ fn clear_folder<S: System>(
     ensures gone { AreOpenedIf (S.honest system.old) (S.folders system.old) open_folders.old
         → S.honest system.new
         → IfOk result (λ _. IsClearedAt (S.folders system.new) (S.holds system.new) journal path.now) }
-    ensures still { S.folders system.new ≡ S.folders system.old }
-    ensures earlier { S.honest system.new → S.honest system.old }
-    ensures opened { AreOpenedIf (S.honest system.old) (S.folders system.old) open_folders.old
-        → AreOpenedIf (S.honest system.new) (S.folders system.new) open_folders.new }
-    ensures syncs { unsynced.new.syncs ≡ unsynced.old.syncs }
-    ensures noted { StayNoted unsynced.old unsynced.new }
-    ensures no_sync { S.synced system.new ≡ S.synced system.old }
+    ensures notes { NotesOnly S.System system.old system.new open_folders.old open_folders.new unsynced.old
+        unsynced.new }
 {
     open_folders.enter_seen(system, alloc, path)?;
     let folder = open_folders.current()?;

@@ -2,10 +2,11 @@
 //! before, and a file that is made takes its name by a link, which takes no name that is there.
 ghost use Rattle.std.specs.Prelude.{◌≡◌, ◌≢◌, Bool, List, ℕ, MatchResult, None, Some, IfOk, IsTrue};
 ghost use Rattle.reuse_system.specs.NameChanges.{IsExpected, IsGuarded};
-ghost use Rattle.reuse_system.specs.NewFiles.{Due, IsAsDue};
-ghost use Rattle.reuse_system.specs.SystemLaws.{IsAlikeBut, IsOneFile, IsRemoved, IsRenamed, MayBeRenamed};
+ghost use Rattle.reuse_system.specs.NewFiles.{Due};
+ghost use Rattle.reuse_system.specs.SystemLaws.{IsAlikeBut, IsOneFile, IsRemoved};
 ghost use Rattle.reuse_system.specs.TempFiles.{name_in, place_of, key_of};
 ghost use Rattle.reuse_system.specs.FileStates.{file};
+ghost use Rattle.reuse_disk.specs.Named.{GivesName, IsNamedAsSeen};
 ghost use Rattle.reuse_disk.specs.Written.{IsMoved, IsWritten, is_named};
 
 use reuse_system::fault::{FolderFault, IoReason};
@@ -57,24 +58,12 @@ fn replace<S: System>(
     target: Target<'_>,
     seen: Option<FileStatus>,
 ) -> Result<(), FolderFault>
-    ensures renamed { MatchResult result
-        (λ _. IsRenamed (place_of temp_file.now) (name_in target.entry.folder.now target.entry.name.now)
-        (S.holds system.old) (S.holds system.new))
-        (λ _. MayBeRenamed (place_of temp_file.now) (name_in target.entry.folder.now target.entry.name.now)
-        (S.holds system.old) (S.holds system.new)) }
-    // If the name wasn't another one of this file, the file has left its old one.
-    ensures gone { S.honest system.new → place_of temp_file.now ≢ name_in target.entry.folder.now target.entry.name.now
-        → ¬ (IsOneFile (S.holds system.old (place_of temp_file.now))
-        (S.holds system.old (name_in target.entry.folder.now target.entry.name.now)))
-        → IfOk result (λ _. S.holds system.new (place_of temp_file.now) ≡ None) }
     ensures free { S.honest system.new → seen ≡ None
         → IfOk result (λ _. S.holds system.old (name_in target.entry.folder.now target.entry.name.now) ≡ None) }
-    ensures guarded { (due : Due) → due.seen ≡ seen → IsAsDue due temp_file.now.status
-        → IsGuarded (λ place. place ≡ place_of temp_file.now)
-        (name_in target.entry.folder.now target.entry.name.now) due
-        (S.changes system.old) (S.changes system.new) (S.holds system.old) (S.holds system.new) }
-    ensures still { S.folders system.new ≡ S.folders system.old }
-    ensures earlier { S.honest system.new → S.honest system.old }
+    ensures gives { GivesName S.System system.old system.new (place_of temp_file.now)
+        (name_in target.entry.folder.now target.entry.name.now) result }
+    ensures guarded { IsNamedAsSeen S.System system.old system.new temp_file.now
+        (name_in target.entry.folder.now target.entry.name.now) seen }
 {
     let found = system.look(target.folder, target.name)?;
     check_found(found, seen)?;
@@ -88,22 +77,10 @@ fn take_name<S: System>(
     temp_file: &TempFile,
     target: Target<'_>,
 ) -> Result<(), FolderFault>
-    ensures renamed { MatchResult result
-        (λ _. IsRenamed (place_of temp_file.now) (name_in target.entry.folder.now target.entry.name.now)
-        (S.holds system.old) (S.holds system.new))
-        (λ _. MayBeRenamed (place_of temp_file.now) (name_in target.entry.folder.now target.entry.name.now)
-        (S.holds system.old) (S.holds system.new)) }
-    // If the name wasn't another one of this file, the file has left its old one.
-    ensures gone { S.honest system.new → place_of temp_file.now ≢ name_in target.entry.folder.now target.entry.name.now
-        → ¬ (IsOneFile (S.holds system.old (place_of temp_file.now))
-        (S.holds system.old (name_in target.entry.folder.now target.entry.name.now)))
-        → IfOk result (λ _. S.holds system.new (place_of temp_file.now) ≡ None) }
-    ensures guarded { (due : Due) → due.seen ≡ None → IsAsDue due temp_file.now.status
-        → IsGuarded (λ place. place ≡ place_of temp_file.now)
-        (name_in target.entry.folder.now target.entry.name.now) due
-        (S.changes system.old) (S.changes system.new) (S.holds system.old) (S.holds system.new) }
-    ensures still { S.folders system.new ≡ S.folders system.old }
-    ensures earlier { S.honest system.new → S.honest system.old }
+    ensures gives { GivesName S.System system.old system.new (place_of temp_file.now)
+        (name_in target.entry.folder.now target.entry.name.now) result }
+    ensures guarded { IsNamedAsSeen S.System system.old system.new temp_file.now
+        (name_in target.entry.folder.now target.entry.name.now) None }
 {
     match system.link(temp_file, target.folder, target.name) {
         Ok(()) => Ok(system.discard(temp_file)?),
@@ -123,22 +100,10 @@ fn give_name<S: System>(
     target: Target<'_>,
     seen: Option<FileStatus>,
 ) -> Result<(), FolderFault>
-    ensures renamed { MatchResult result
-        (λ _. IsRenamed (place_of temp_file.now) (name_in target.entry.folder.now target.entry.name.now)
-        (S.holds system.old) (S.holds system.new))
-        (λ _. MayBeRenamed (place_of temp_file.now) (name_in target.entry.folder.now target.entry.name.now)
-        (S.holds system.old) (S.holds system.new)) }
-    // If the name wasn't another one of this file, the file has left its old one.
-    ensures gone { S.honest system.new → place_of temp_file.now ≢ name_in target.entry.folder.now target.entry.name.now
-        → ¬ (IsOneFile (S.holds system.old (place_of temp_file.now))
-        (S.holds system.old (name_in target.entry.folder.now target.entry.name.now)))
-        → IfOk result (λ _. S.holds system.new (place_of temp_file.now) ≡ None) }
-    ensures guarded { (due : Due) → due.seen ≡ seen → IsAsDue due temp_file.now.status
-        → IsGuarded (λ place. place ≡ place_of temp_file.now)
-        (name_in target.entry.folder.now target.entry.name.now) due
-        (S.changes system.old) (S.changes system.new) (S.holds system.old) (S.holds system.new) }
-    ensures still { S.folders system.new ≡ S.folders system.old }
-    ensures earlier { S.honest system.new → S.honest system.old }
+    ensures gives { GivesName S.System system.old system.new (place_of temp_file.now)
+        (name_in target.entry.folder.now target.entry.name.now) result }
+    ensures guarded { IsNamedAsSeen S.System system.old system.new temp_file.now
+        (name_in target.entry.folder.now target.entry.name.now) seen }
 {
     if seen.is_some() || is_in_journal(target.path) {
         replace(system, temp_file, target, seen)
@@ -188,10 +153,8 @@ pub fn name_temp_file<S: System>(
         → ¬ (IsOneFile (S.holds system.old (place_of temp_file.now))
         (S.holds system.old (name_in target.entry.folder.now target.entry.name.now)))
         → IsTrue (is_named result) → S.holds system.new (place_of temp_file.now) ≡ None }
-    ensures guarded { (due : Due) → due.seen ≡ seen → IsAsDue due temp_file.now.status
-        → IsGuarded (λ place. place ≡ place_of temp_file.now)
-        (name_in target.entry.folder.now target.entry.name.now) due
-        (S.changes system.old) (S.changes system.new) (S.holds system.old) (S.holds system.new) }
+    ensures guarded { IsNamedAsSeen S.System system.old system.new temp_file.now
+        (name_in target.entry.folder.now target.entry.name.now) seen }
     ensures still { S.folders system.new ≡ S.folders system.old }
     ensures earlier { S.honest system.new → S.honest system.old }
 {

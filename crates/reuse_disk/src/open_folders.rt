@@ -48,6 +48,7 @@ pub struct OpenFolders {
 impl OpenFolders {
     ghost use Rattle.reuse_disk.specs.OpenFolders.{current_of, AreOpened, AreOpenedIf, HasNoSlash, IsEntered, IsOnWay};
     ghost use Rattle.reuse_disk.specs.OpenFolders.{IsRootOpened, path_of};
+    ghost use Rattle.reuse_disk.specs.ReadsOnly.{EntersOnly};
 
     /// The open folders of this process, from the root at this path on. Nothing is asked of the
     /// system yet.
@@ -67,12 +68,7 @@ impl OpenFolders {
     /// folders are short, until `come_back`. If the root can't be opened, or handles aren't shown,
     /// the process stays where it is.
     pub fn go_to_handles<S: DiskSystem>(&mut self, system: &mut S, env: &impl Env, alloc: Global)
-        ensures kept { S.holds system.new ≡ S.holds system.old }
-        ensures changes { S.changes system.new ≡ S.changes system.old }
-        ensures still { S.folders system.new ≡ S.folders system.old }
-        ensures earlier { S.honest system.new → S.honest system.old }
-        ensures opened { AreOpenedIf (S.honest system.old) (S.folders system.old) self.old
-            → AreOpenedIf (S.honest system.new) (S.folders system.new) self.new }
+        ensures enters { EntersOnly S.System system.old system.new self.old self.new }
     {
         if self.go_back(system, alloc, "").is_err() || self.is_by_path() {
             return;
@@ -145,13 +141,8 @@ impl OpenFolders {
 
     /// Opens the root, if it isn't open.
     fn open_root<S: System>(&mut self, system: &mut S, alloc: Global) -> Result<(), FolderFault>
-        ensures kept { S.holds system.new ≡ S.holds system.old }
-        ensures changes { S.changes system.new ≡ S.changes system.old }
-        ensures still { S.folders system.new ≡ S.folders system.old }
+        ensures enters { EntersOnly S.System system.old system.new self.old self.new }
         ensures no_sync { S.synced system.new ≡ S.synced system.old }
-        ensures earlier { S.honest system.new → S.honest system.old }
-        ensures opened { AreOpenedIf (S.honest system.old) (S.folders system.old) self.old
-            → AreOpenedIf (S.honest system.new) (S.folders system.new) self.new }
         ensures root { IfOk result (λ _. self.new.root ≢ None) }
     {
         if self.root.is_none() {
@@ -170,13 +161,8 @@ impl OpenFolders {
         alloc: Global,
         folder: &'a str,
     ) -> Result<&'a str, FolderFault>
-        ensures kept { S.holds system.new ≡ S.holds system.old }
-        ensures changes { S.changes system.new ≡ S.changes system.old }
-        ensures still { S.folders system.new ≡ S.folders system.old }
+        ensures enters { EntersOnly S.System system.old system.new self.old self.new }
         ensures no_sync { S.synced system.new ≡ S.synced system.old }
-        ensures earlier { S.honest system.new → S.honest system.old }
-        ensures opened { AreOpenedIf (S.honest system.old) (S.folders system.old) self.old
-            → AreOpenedIf (S.honest system.new) (S.folders system.new) self.new }
         ensures way { AreOpenedIf (S.honest system.old) (S.folders system.old) self.old → S.honest system.new
             → IfOk result
             (λ rest. IsOnWay (S.folders system.new) (S.holds system.new) (current_of self.new) rest.now folder.now) }
@@ -223,14 +209,9 @@ impl OpenFolders {
         alloc: Global,
         folder: &str,
     ) -> Result<Option<Place>, FolderFault>
-        ensures kept { S.holds system.new ≡ S.holds system.old }
-        ensures changes { S.changes system.new ≡ S.changes system.old }
-        ensures still { S.folders system.new ≡ S.folders system.old }
+        ensures enters { EntersOnly S.System system.old system.new self.old self.new }
         ensures no_sync { S.synced system.new ≡ S.synced system.old }
-        ensures earlier { S.honest system.new → S.honest system.old }
         ensures no_file { IfOk result (λ place. IfSome place IsNoFile) }
-        ensures opened { AreOpenedIf (S.honest system.old) (S.folders system.old) self.old
-            → AreOpenedIf (S.honest system.new) (S.folders system.new) self.new }
         ensures entered { AreOpenedIf (S.honest system.old) (S.folders system.old) self.old → S.honest system.new
             → IfOk result (IsEntered (S.folders system.new) (S.holds system.new) folder.now (current_of self.new)) }
     {
@@ -255,13 +236,8 @@ impl OpenFolders {
         alloc: Global,
         folder: &str,
     ) -> Result<(), FolderFault>
-        ensures kept { S.holds system.new ≡ S.holds system.old }
-        ensures changes { S.changes system.new ≡ S.changes system.old }
-        ensures still { S.folders system.new ≡ S.folders system.old }
+        ensures enters { EntersOnly S.System system.old system.new self.old self.new }
         ensures no_sync { S.synced system.new ≡ S.synced system.old }
-        ensures earlier { S.honest system.new → S.honest system.old }
-        ensures opened { AreOpenedIf (S.honest system.old) (S.folders system.old) self.old
-            → AreOpenedIf (S.honest system.new) (S.folders system.new) self.new }
         ensures entered { AreOpenedIf (S.honest system.old) (S.folders system.old) self.old → S.honest system.new
             → IfOk result (λ _. folder_at (S.folders system.new) folder.now ≡ current_of self.new) }
     {
@@ -282,12 +258,7 @@ impl OpenFolders {
         alloc: Global,
         folder: &str,
     ) -> Result<bool, FolderFault>
-        ensures kept { S.holds system.new ≡ S.holds system.old }
-        ensures changes { S.changes system.new ≡ S.changes system.old }
-        ensures still { S.folders system.new ≡ S.folders system.old }
-        ensures earlier { S.honest system.new → S.honest system.old }
-        ensures opened { AreOpenedIf (S.honest system.old) (S.folders system.old) self.old
-            → AreOpenedIf (S.honest system.new) (S.folders system.new) self.new }
+        ensures enters { EntersOnly S.System system.old system.new self.old self.new }
     {
         match self.enter(system, alloc, folder)? {
             None => Ok(true),

@@ -9,6 +9,7 @@ ghost use Rattle.reuse_system.specs.SystemLaws.{IsAlikeButFile};
 ghost use Rattle.reuse_system.specs.TempFiles.{key_of};
 ghost use Rattle.reuse_disk.specs.Noted.{IsNoted, StayNoted};
 ghost use Rattle.reuse_disk.specs.OpenFolders.{AreOpenedIf};
+ghost use Rattle.reuse_disk.specs.ReadsOnly.{EntersOnly};
 ghost use Rattle.reuse_disk.specs.Synced.{AreSynced, HaveFolders};
 ghost use Rattle.reuse_disk.specs.Written.{IsSyncedIf, is_kept};
 ghost use Rattle.reuse_system.specs.declared.fault.FolderFault.TheVariants.{Device};
@@ -154,12 +155,7 @@ impl Unsynced {
         ensures failed { self.old.syncs ≡ Syncs.Kept
             → IfSome self.old.failed (λ obstacle. result ≡ Err (Device obstacle)) }
         ensures fails { (obstacle : IoReason) → result ≡ Err (Device obstacle) → self.new.failed ≡ Some obstacle }
-        ensures kept { S.holds system.new ≡ S.holds system.old }
-        ensures changes { S.changes system.new ≡ S.changes system.old }
-        ensures still { S.folders system.new ≡ S.folders system.old }
-        ensures earlier { S.honest system.new → S.honest system.old }
-        ensures opened { AreOpenedIf (S.honest system.old) (S.folders system.old) open_folders.old
-            → AreOpenedIf (S.honest system.new) (S.folders system.new) open_folders.new }
+        ensures enters { EntersOnly S.System system.old system.new open_folders.old open_folders.new }
         // Each folder that is noted, and there, was synced since.
         ensures synced { self.old.syncs ≡ Syncs.Kept
             → AreOpenedIf (S.honest system.old) (S.folders system.old) open_folders.old → S.honest system.new
@@ -172,7 +168,8 @@ impl Unsynced {
         if let Some(obstacle) = self.failed {
             return Err(FolderFault::Device(obstacle));
         }
-        let synced = self.sync_all(system, alloc, open_folders, changes);
+        self.note_changes(alloc, changes)?;
+        let synced = self.sync_all(system, alloc, open_folders);
         match synced {
             Ok(()) => {
                 self.folders.clear();
@@ -189,22 +186,15 @@ impl Unsynced {
         system: &mut S,
         alloc: Global,
         open_folders: &mut OpenFolders,
-        changes: &[Change],
     ) -> Result<(), FolderFault>
         ensures failed { self.new.failed ≡ self.old.failed }
-        ensures kept { S.holds system.new ≡ S.holds system.old }
-        ensures changes { S.changes system.new ≡ S.changes system.old }
-        ensures still { S.folders system.new ≡ S.folders system.old }
-        ensures earlier { S.honest system.new → S.honest system.old }
-        ensures opened { AreOpenedIf (S.honest system.old) (S.folders system.old) open_folders.old
-            → AreOpenedIf (S.honest system.new) (S.folders system.new) open_folders.new }
+        ensures enters { EntersOnly S.System system.old system.new open_folders.old open_folders.new }
         // Each folder that is noted, and there, was synced since.
         ensures synced { AreOpenedIf (S.honest system.old) (S.folders system.old) open_folders.old
             → S.honest system.new
             → IfOk result (λ _. AreSynced self.old (S.folders system.new) (S.holds system.new) (S.synced system.old)
             (S.synced system.new)) }
     {
-        self.note_changes(alloc, changes)?;
         let there = self.folders_there(system, alloc, open_folders)?;
         for folder in &there {
             self.set_last(folder.as_str());
@@ -237,12 +227,7 @@ impl Unsynced {
         alloc: Global,
         open_folders: &mut OpenFolders,
     ) -> Result<BTreeSet<String>, FolderFault>
-        ensures kept { S.holds system.new ≡ S.holds system.old }
-        ensures changes { S.changes system.new ≡ S.changes system.old }
-        ensures still { S.folders system.new ≡ S.folders system.old }
-        ensures earlier { S.honest system.new → S.honest system.old }
-        ensures opened { AreOpenedIf (S.honest system.old) (S.folders system.old) open_folders.old
-            → AreOpenedIf (S.honest system.new) (S.folders system.new) open_folders.new }
+        ensures enters { EntersOnly S.System system.old system.new open_folders.old open_folders.new }
         ensures no_sync { S.synced system.new ≡ S.synced system.old }
         ensures there { AreOpenedIf (S.honest system.old) (S.folders system.old) open_folders.old
             → S.honest system.new

@@ -174,9 +174,9 @@ of_later old new writes place stay noted =
     record {
       number = noted.number;
       write = noted.write;
+      at = at_later old new noted.write.path.now place stay noted.at;
       short = noted.short;
       is_one = noted.is_one;
-      at = at_later old new noted.write.path.now place stay noted.at;
     }
 
 pub have_later : (old new : Unsynced) (writes : List FileWrite) (a b : List NameChange) → StayNoted old new

@@ -7,13 +7,14 @@ use Rattle.std.proofs.lemmas.List.{drop_all, drop-drop, take_all, take_more}
 use Rattle.reuse_change.specs.Parts.{joined}
 use Rattle.reuse_change.specs.declared.parts.Pieces.{Pieces}
 use Rattle.reuse_store.specs.declared.file_write.FileWrite.{FileWrite}
-use Rattle.reuse_system.specs.TempFiles.{IsNewIn}
+use Rattle.reuse_system.specs.TempFiles.{IsNewIn, IsNewPlace}
 use Rattle.reuse_system.specs.FileStates.{FileState, Holds, Place, place_in}
 use Rattle.reuse_system.specs.Folders.{Folders, folder_above}
 use Rattle.reuse_system.specs.SystemLaws.{IsAlikeUnless}
 use Rattle.reuse_system.specs.declared.place.Identity.{Identity}
+use Rattle.reuse_disk.specs.Written.{IsWritten}
 use Rattle.reuse_folder.specs.Batches.{Disk, AreMade, BeginsWithFile, DisksAfter, IsBegun, IsWriteOn}
-use Rattle.reuse_folder.specs.FolderWrites.{IsPutIn}
+use Rattle.reuse_folder.specs.FolderWrites.{IsPutAt, IsPutIn}
 use Rattle.reuse_folder.proofs.FolderLemmas.{written_after_clearing}
 
 -- ---- new files before and behind one write
@@ -22,6 +23,24 @@ alike_twice : (new_files : Identity) (a b c : FileState) → IsAlikeUnless (IsNe
     → IsAlikeUnless (IsNewIn new_files) b c → IsAlikeUnless (IsNewIn new_files) a c
 alike_twice new_files a b c one two place away = two place away ∙ one place away
 
+-- put at the same name in the same folder
+put_again : (new_files : Identity) (folders also : Folders) (path bytes : List ℕ) (is : Bool) (a b c d : FileState)
+    (was_done is_done : Bool) → also ≡ folders → (put : IsPutAt new_files path bytes is a b was_done)
+    → folder_above folders path ≡ Some put.folder
+    → IsWritten (IsNewPlace new_files put.folder) (place_in put.folder put.name) bytes is c d is_done
+    → IsPutIn new_files also path bytes is c d is_done
+put_again new_files folders also path bytes is a b c d was_done is_done same put above written =
+    inr (
+      record {
+        folder = put.folder;
+        name = put.name;
+        is_named = put.is_named;
+        apart = put.apart;
+        written = written;
+      },
+      ap (λ f. folder_above f path) same ∙ above,
+    )
+
 -- new files came, and then the path was put
 pub put_after : (new_files : Identity) (folders : Folders) (path bytes : List ℕ) (is : Bool) (a b c : FileState)
     (is_done : Bool) → IsAlikeUnless (IsNewIn new_files) a b → IsPutIn new_files folders path bytes is b c is_done
@@ -29,16 +48,8 @@ pub put_after : (new_files : Identity) (folders : Folders) (path bytes : List �
 put_after new_files folders path bytes is a b c is_done alike (inl not) =
     inl (not.0, alike_twice new_files a b c alike not.1)
 put_after new_files folders path bytes is a b c is_done alike (inr (put, above)) =
-    inr (
-      record {
-        folder = put.folder;
-        name = put.name;
-        is_named = put.is_named;
-        apart = put.apart;
-        written = written_after_clearing new_files put.folder put.name bytes is a b c is_done alike put.written;
-      },
-      above,
-    )
+    put_again new_files folders folders path bytes is b c a c is_done is_done refl put above
+    (written_after_clearing new_files put.folder put.name bytes is a b c is_done alike put.written)
 
 -- the path was begun to be put, and then new files went
 pub put_before : (new_files : Identity) (folders also : Folders) (path bytes : List ℕ) (is : Bool) (a b c : FileState)
@@ -47,22 +58,13 @@ pub put_before : (new_files : Identity) (folders also : Folders) (path bytes : L
 put_before new_files folders also path bytes is a b c same (inl not) alike =
     inl (refl, alike_twice new_files a b c not.1 alike)
 put_before new_files folders also path bytes is a b c same (inr (put, above)) alike =
-    let at = place_in put.folder put.name in
-    let here = alike at (λ new. put.apart (inl new)) in
-    inr (
-      record {
-        folder = put.folder;
-        name = put.name;
-        is_named = put.is_named;
-        apart = put.apart;
-        written = record {
-          done = λ bad. absurd (true≢false (sym bad));
-          whole = λ apart. whole here (put.written.whole apart);
-          others = λ place away other. alike place (λ new. away (inl new)) ∙ put.written.others place away other;
-        };
-      },
-      ap (λ f. folder_above f path) same ∙ above,
-    )
+    let here = alike (place_in put.folder put.name) (λ new. put.apart (inl new)) in
+    put_again new_files folders also path bytes is a b a c false false same put above
+    (record {
+      done = λ bad. absurd (true≢false (sym bad));
+      whole = λ apart. whole here (put.written.whole apart);
+      others = λ place away other. alike place (λ new. away (inl new)) ∙ put.written.others place away other;
+    })
   where
     whole : {place : Place} → c place ≡ b place → (b place ≡ a place) ⊎ Holds b place bytes is
         → (c place ≡ a place) ⊎ Holds c place bytes is

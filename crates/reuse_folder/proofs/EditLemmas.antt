@@ -42,6 +42,22 @@ pub as_seen : (seen : Option FileStatus) (due : Due) (status : NewStatus) → du
     → IsAsDue due status → IsAsSeen seen status
 as_seen seen due status is keeps as_due = record { due = due; is_seen = is; keeps = keeps; as_due = as_due }
 
+-- by changes of the path's own name in this folder, and of names of new files
+loses_by : (path name : List ℕ) (one : Expected) (due : Due) (new_files folder : Identity) (a b : List NameChange)
+    (old new : FileState) → IsNameOf path name → IsSeenAs one due.seen → KeepsOwner due
+    → IsGuarded (IsNewPlace new_files folder) (place_in folder name) due a b old new → LosesNoEdit path one a b old new
+loses_by path name one due new_files folder a b old new named is_seen keeps guarded =
+    record {
+      new_files = new_files;
+      folder = folder;
+      name = name;
+      is_named = named;
+      due = due;
+      is_seen = is_seen;
+      keeps = keeps;
+      guarded = guarded;
+    }
+
 -- only new files in a folder changed
 pub loses_only : (path : List ℕ) (one : Expected) (process : Process) (new_files : Identity)
     (before after : List NameChange) (old new : FileState) → OnlyChanges (IsNewIn new_files) before after
@@ -49,18 +65,10 @@ pub loses_only : (path : List ℕ) (one : Expected) (process : Process) (new_fil
 loses_only path one process new_files before after old new only alike =
     let name = some_name path in
     let due = some_due process one in
-    record {
-      new_files = new_files;
-      folder = new_files;
-      name = name.0;
-      is_named = name.1;
-      due = due.0;
-      is_seen = due.1;
-      keeps = due.2;
-      guarded = guarded_only (IsNewPlace new_files new_files) (place_in new_files name.0) due.0 before after old new
-          (only_weaker (IsNewIn new_files) (IsNewPlace new_files new_files) (λ place at. inl at) before after only)
-          (λ no. alike (place_in new_files name.0) (λ at. no (inl at)));
-    }
+    loses_by path name.0 one due.0 new_files new_files before after old new name.1 due.1 due.2
+    (guarded_only (IsNewPlace new_files new_files) (place_in new_files name.0) due.0 before after old new
+    (only_weaker (IsNewIn new_files) (IsNewPlace new_files new_files) (λ place at. inl at) before after only)
+    (λ no. alike (place_in new_files name.0) (λ at. no (inl at))))
 
 -- nothing changed
 pub loses_none : (path : List ℕ) (one : Expected) (process : Process) (before after : List NameChange)
@@ -75,33 +83,17 @@ pub loses_put : (path name : List ℕ) (one : Expected) (due : Due) (new_files f
     → OnlyChanges (IsNewIn new_files) a b → IsAlikeUnless (IsNewIn new_files) old mid
     → IsGuarded (IsNewPlace new_files folder) (place_in folder name) due b c mid new → LosesNoEdit path one a c old new
 loses_put path name one due new_files folder a b c old mid new named is_seen keeps only alike guarded =
-    record {
-      new_files = new_files;
-      folder = folder;
-      name = name;
-      is_named = named;
-      due = due;
-      is_seen = is_seen;
-      keeps = keeps;
-      guarded = guarded_then (IsNewPlace new_files folder) (place_in folder name) due a b c old mid new
-          (guarded_only (IsNewPlace new_files folder) (place_in folder name) due a b old mid
-          (only_weaker (IsNewIn new_files) (IsNewPlace new_files folder) (λ place at. inl at) a b only)
-          (λ no. alike (place_in folder name) (λ at. no (inl at)))) guarded;
-    }
+    loses_by path name one due new_files folder a c old new named is_seen keeps
+    (guarded_then (IsNewPlace new_files folder) (place_in folder name) due a b c old mid new
+    (guarded_only (IsNewPlace new_files folder) (place_in folder name) due a b old mid
+    (only_weaker (IsNewIn new_files) (IsNewPlace new_files folder) (λ place at. inl at) a b only)
+    (λ no. alike (place_in folder name) (λ at. no (inl at)))) guarded)
 
 -- the path's own name was removed
 pub loses_removed : (path name : List ℕ) (one : Expected) (due : Due) (folder : Identity)
     (a c : List NameChange) (old new : FileState) → IsNameOf path name → IsSeenAs one due.seen → KeepsOwner due
     → IsGuarded (λ _. ⊥) (place_in folder name) due a c old new → LosesNoEdit path one a c old new
 loses_removed path name one due folder a c old new named is_seen keeps guarded =
-    record {
-      new_files = folder;
-      folder = folder;
-      name = name;
-      is_named = named;
-      due = due;
-      is_seen = is_seen;
-      keeps = keeps;
-      guarded = guarded_weaker (λ _. ⊥) (IsNewPlace folder folder) (place_in folder name) due
-          (λ place bad. absurd bad) a c old new guarded;
-    }
+    loses_by path name one due folder folder a c old new named is_seen keeps
+    (guarded_weaker (λ _. ⊥) (IsNewPlace folder folder) (place_in folder name) due (λ place bad. absurd bad) a c old new
+    guarded)

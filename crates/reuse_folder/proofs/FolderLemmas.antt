@@ -32,14 +32,8 @@ pub cleared_at_error : {E : Type 0} (folder : Identity) (before after : List Nam
     (answer : Result NewFile E) → IsErr answer → OnlyChanges (IsNewIn folder) before after
     → IsAlikeUnless (IsNewIn folder) a b → IsCleared before after None a b answer
 cleared_at_error folder before after a b (Ok new_file) bad changed alike = absurd (true≢false (sym bad))
-cleared_at_error folder before after a b (Err error) bad changed alike = record {
-  folder = folder;
-  was = tt;
-  others = alike;
-  none_left = tt;
-  is_folder = tt;
-  changed = changed;
-}
+cleared_at_error folder before after a b (Err error) bad changed alike =
+    record { folder = folder; was = tt; others = alike; none_left = tt; is_folder = tt; changed = changed }
 
 pub nothing_cleared : {E : Type 0} (before after : List NameChange) (held : FileState) (answer : Result NewFile E)
     → IsErr answer → after ≡ before → IsCleared before after None held held answer

@@ -26,88 +26,32 @@ module _ {S : Type 0} (calls_of : S → StoreCalls) where
   record_of : (path : List ℕ) (file : Option Pieces) (old new : S) (answer : Result (Unit {0}) StoreFault)
       → IsWrite (noted calls_of) path file old new answer
       → IsWrite (noted (λ calls. calls)) path file (calls_of old) (calls_of new) answer
-  record_of path None old new answer write =
-      let r = write.0 in
-      let l = write.1 in (
-        record {
-          kept = r.kept;
-          ok = r.ok;
-          err = r.err;
-          may = λ left is. r.may left is;
-          device = r.device;
-          written = r.written;
-          mutations = r.mutations;
-        },
-        record { was_honest = l.was_honest; failures = l.failures; written = l.written; mutations = l.mutations },
-      )
-  record_of path (Some parts) old new answer write =
-      let p = write.0 in
-      let l = write.1 in (
-        record {
-          kept = p.kept;
-          ok = p.ok;
-          err = p.err;
-          may = λ left is. p.may left is;
-          device = p.device;
-          written = p.written;
-          mutations = p.mutations;
-        },
-        record { was_honest = l.was_honest; failures = l.failures; written = l.written; mutations = l.mutations },
-      )
+  record_of path None old new answer write = assumption write
+  record_of path (Some parts) old new answer write = assumption write
 
   of_record : (path : List ℕ) (file : Option Pieces) (old new : S) (answer : Result (Unit {0}) StoreFault)
       → IsWrite (noted (λ calls. calls)) path file (calls_of old) (calls_of new) answer
       → IsWrite (noted calls_of) path file old new answer
-  of_record path None old new answer write =
-      let r = write.0 in
-      let l = write.1 in (
-        record {
-          kept = r.kept;
-          ok = r.ok;
-          err = r.err;
-          may = λ left is. r.may left is;
-          device = r.device;
-          written = r.written;
-          mutations = r.mutations;
-        },
-        record { was_honest = l.was_honest; failures = l.failures; written = l.written; mutations = l.mutations },
-      )
-  of_record path (Some parts) old new answer write =
-      let p = write.0 in
-      let l = write.1 in (
-        record {
-          kept = p.kept;
-          ok = p.ok;
-          err = p.err;
-          may = λ left is. p.may left is;
-          device = p.device;
-          written = p.written;
-          mutations = p.mutations;
-        },
-        record { was_honest = l.was_honest; failures = l.failures; written = l.written; mutations = l.mutations },
-      )
+  of_record path None old new answer write = assumption write
+  of_record path (Some parts) old new answer write = assumption write
 
-  -- writes that begin at a store with one record begin at each store that has it
+  -- a write at a store with one record is one at each store that has it
+  at_other : (path : List ℕ) (file : Option Pieces) (old other new : S) (answer : Result (Unit {0}) StoreFault)
+      → calls_of other ≡ calls_of old → IsWrite (noted calls_of) path file other new answer
+      → IsWrite (noted calls_of) path file old new answer
+  at_other path file old other new answer same write = of_record path file old new answer
+      (subst (λ calls. IsWrite (noted (λ calls. calls)) path file calls (calls_of new) answer) same
+      (record_of path file other new answer write))
+
+  -- so it is of writes that begin there
   pub begin_at : (write : FileWrite) (writes : List FileWrite) (old other new : S)
       (answer : Result (Unit {0}) StoreFault) → calls_of other ≡ calls_of old
       → AreWrites (noted calls_of) (write ∷ writes) other new answer
       → AreWrites (noted calls_of) (write ∷ writes) old new answer
-  begin_at write writes old other new answer same (inl failed) = inl (at_old new answer failed.0, failed.1, failed.2)
-    where
-      at_old : (next : S) (r : Result (Unit {0}) StoreFault)
-          → IsWrite (noted calls_of) write.path.now write.file other next r
-          → IsWrite (noted calls_of) write.path.now write.file old next r
-      at_old next r w = of_record write.path.now write.file old next r
-          (subst (λ calls. IsWrite (noted (λ calls. calls)) write.path.now write.file calls (calls_of next) r) same
-          (record_of write.path.now write.file other next r w))
-  begin_at write writes old other new answer same (inr made) = inr (made.0, at_old made.0 (Ok tt) made.1, made.2)
-    where
-      at_old : (next : S) (r : Result (Unit {0}) StoreFault)
-          → IsWrite (noted calls_of) write.path.now write.file other next r
-          → IsWrite (noted calls_of) write.path.now write.file old next r
-      at_old next r w = of_record write.path.now write.file old next r
-          (subst (λ calls. IsWrite (noted (λ calls. calls)) write.path.now write.file calls (calls_of next) r) same
-          (record_of write.path.now write.file other next r w))
+  begin_at write writes old other new answer same (inl failed) =
+      inl (at_other write.path.now write.file old other new answer same failed.0, failed.1, failed.2)
+  begin_at write writes old other new answer same (inr made) =
+      inr (made.0, at_other write.path.now write.file old other made.0 (Ok tt) same made.1, made.2)
 
   pub begin_any : (writes : List FileWrite) (old other new : S) (answer : Result (Unit {0}) StoreFault)
       → (length writes == 0) ≡ false → calls_of other ≡ calls_of old

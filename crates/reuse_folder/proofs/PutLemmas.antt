@@ -4,7 +4,7 @@ use Rattle.std.proofs.Common.{Ok, Err, IfOk, MatchResult, is_ok, true≢false, r
 use Rattle.reuse_system.specs.TempFiles.{IsNewIn, IsNewPlace, beside_name}
 use Rattle.reuse_system.specs.FileStates.{FileState, Place, place_in}
 use Rattle.reuse_system.specs.Folders.{Folders, file_in, folder_above, folder_at}
-use Rattle.reuse_folder.specs.FolderWrites.{IsNewOf, IsPutBy, IsPutIn, IsStoredAt, IsTidy}
+use Rattle.reuse_folder.specs.FolderWrites.{IsNewOf, IsPutBy, IsPutIn, IsPutTidily, IsStoredAt}
 use Rattle.reuse_system.specs.Names.{IsNameOf, IsSplit}
 use Rattle.reuse_system.specs.SystemLaws.{IsAlikeBut, IsAlikeUnless, IsRemoved}
 use Rattle.reuse_disk.specs.Written.{IsWritten, LeavesNone}
@@ -30,13 +30,13 @@ not_put_by new_files path bytes is a b is_done failed alike = (new_files, inl (f
 
 pub not_put_in : (folders : Folders) (path bytes : List ℕ) (is : Bool) (a b : FileState) (is_done : Bool)
     (new_files : Identity) → is_done ≡ false → IsAlikeUnless (IsNewIn new_files) a b
-    → (one : Identity) × IsPutIn one folders path bytes is a b is_done × IsTidy one a b is_done
+    → IsPutTidily folders path bytes is a b is_done
 not_put_in folders path bytes is a b is_done new_files failed alike =
     (new_files, inl (failed, alike), λ done. absurd (true≢false (sym done ∙ failed)))
 
 pub nothing_put_in : (folders : Folders) (path bytes : List ℕ) (is : Bool) (held : FileState) (is_done : Bool)
     → is_done ≡ false
-    → (one : Identity) × IsPutIn one folders path bytes is held held is_done × IsTidy one held held is_done
+    → IsPutTidily folders path bytes is held held is_done
 nothing_put_in folders path bytes is held is_done failed =
     not_put_in folders path bytes is held held is_done (record { device = 0; number = 0 }) failed (λ place apart. refl)
 
@@ -113,7 +113,7 @@ pub put_in : (folders entered : Folders) (path above name : List ℕ) (current :
     → ((is_done ≡ false) × (d ≡ b)) ⊎ ¬ (IsNewPlace new_files folder (place_in folder name))
     → IsWritten (IsNewPlace new_files folder) (place_in folder name) bytes is b d is_done
     → (IsTrue is_done → LeavesNone (IsNewPlace new_files folder) b d)
-    → (one : Identity) × IsPutIn one folders path bytes is a d is_done × IsTidy one a d is_done
+    → IsPutTidily folders path bytes is a d is_done
 put_in folders entered path above name current new_files folder bytes is a b d is_done same split at here alike cleared
     (inl (failed, kept)) written none =
     (new_files, inl (failed, alike_then new_files a b d kept alike), λ done. absurd (true≢false (sym done ∙ failed)))

@@ -218,12 +218,14 @@ known_more reads (first ∷ writes) [] one write known short here = (here, tt)
 known_more reads (first ∷ writes) (other ∷ temp_files) one write known short here =
     (known.0, known_more reads writes temp_files one write known.1 (omega (arith, short)) here)
 
-named_change : (reads : List ReadPath) (write : FileWrite) (name : List ℕ) (folder : Identity) (from : Place)
-    (due : Due) → IsNameOf write.path.now name → IsKnown reads write.path.now due.seen → KeepsOwner due → IsNewFile from
-    → (change : NameChange) → IsChangeOf (λ place. place ≡ from) (place_in folder name) due change
+name_changed : (reads : List ReadPath) (write : FileWrite) (name : List ℕ) (folder : Identity)
+    (IsTempFile : Place → Type 0) (due : Due) → ((place : Place) → IsTempFile place → IsNewFile place)
+    → IsNameOf write.path.now name → IsKnown reads write.path.now due.seen → KeepsOwner due → (change : NameChange)
+    → IsChangeOf IsTempFile (place_in folder name) due change
     → IsNewFile change.place ⊎ IsChangeOfSome reads (write ∷ []) change
-named_change reads write name folder from due named known keeps new change (inl at) = inl (subst IsNewFile (sym at) new)
-named_change reads write name folder from due named known keeps new change (inr at) =
+name_changed reads write name folder IsTempFile due new named known keeps change (inl at) =
+    inl (new change.place at)
+name_changed reads write name folder IsTempFile due new named known keeps change (inr at) =
     inr (inl (record {
       folder = folder;
       name = name;
@@ -235,6 +237,22 @@ named_change reads write name folder from due named known keeps new change (inr 
       is_expected = at.1;
       is_given = at.2;
     }))
+
+-- the file was given the path's own name, or wasn't, by way of such temporary files
+lose_guarded : (reads : List ReadPath) (write : FileWrite) (name : List ℕ) (folder : Identity)
+    (IsTempFile : Place → Type 0) (due : Due) (before after : List NameChange) (old new : FileState)
+    → ((place : Place) → IsTempFile place → IsNewFile place) → IsNameOf write.path.now name
+    → IsKnown reads write.path.now due.seen → KeepsOwner due
+    → IsGuarded IsTempFile (place_in folder name) due before after old new
+    → LoseNoEdits reads (write ∷ []) before after
+lose_guarded reads write name folder IsTempFile due before after old new is_new named known keeps guarded =
+    record {
+      changes = guarded.changes;
+      grown = guarded.grown;
+      each = each_weaker (IsChangeOf IsTempFile (place_in folder name) due)
+          (λ change. IsNewFile change.place ⊎ IsChangeOfSome reads (write ∷ []) change)
+          (name_changed reads write name folder IsTempFile due is_new named known keeps) guarded.changes guarded.each;
+    }
 
 -- a temporary file was given its name, or wasn't
 pub lose_named : (reads : List ReadPath) (write : FileWrite) (name : List ℕ) (folder : Identity) (from : Place)
@@ -242,31 +260,8 @@ pub lose_named : (reads : List ReadPath) (write : FileWrite) (name : List ℕ) (
     → IsKnown reads write.path.now due.seen → KeepsOwner due → IsNewFile from → IsGuarded (λ place. place ≡ from)
     (place_in folder name) due before after old new → LoseNoEdits reads (write ∷ []) before after
 lose_named reads write name folder from due before after old new named known keeps is_new guarded =
-    record {
-      changes = guarded.changes;
-      grown = guarded.grown;
-      each = each_weaker (IsChangeOf (λ place. place ≡ from) (place_in folder name) due)
-          (λ change. IsNewFile change.place ⊎ IsChangeOfSome reads (write ∷ []) change)
-          (named_change reads write name folder from due named known keeps is_new) guarded.changes guarded.each;
-    }
-
-again_change : (reads : List ReadPath) (write : FileWrite) (new_files folder : Identity) (name : List ℕ)
-    (due : Due) → IsNameOf write.path.now name → IsKnown reads write.path.now due.seen → KeepsOwner due
-    → (change : NameChange) → IsChangeOf (IsNewPlace new_files folder) (place_in folder name) due change
-    → IsNewFile change.place ⊎ IsChangeOfSome reads (write ∷ []) change
-again_change reads write new_files folder name due named known keeps change (inl at) = inl (new_files, folder, at)
-again_change reads write new_files folder name due named known keeps change (inr at) =
-    inr (inl (record {
-      folder = folder;
-      name = name;
-      is_named = named;
-      at = at.0;
-      due = due;
-      is_known = known;
-      keeps = keeps;
-      is_expected = at.1;
-      is_given = at.2;
-    }))
+    lose_guarded reads write name folder (λ place. place ≡ from) due before after old new
+    (λ place at. subst IsNewFile (sym at) is_new) named known keeps guarded
 
 -- the file was written beside, where it was seen so
 pub lose_beside : (reads : List ReadPath) (write : FileWrite) (new_files folder : Identity) (name : List ℕ)
@@ -274,13 +269,8 @@ pub lose_beside : (reads : List ReadPath) (write : FileWrite) (new_files folder 
     → IsKnown reads write.path.now due.seen → KeepsOwner due → IsGuarded (IsNewPlace new_files folder)
     (place_in folder name) due before after old new → LoseNoEdits reads (write ∷ []) before after
 lose_beside reads write new_files folder name due before after old new named known keeps guarded =
-    record {
-      changes = guarded.changes;
-      grown = guarded.grown;
-      each = each_weaker (IsChangeOf (IsNewPlace new_files folder) (place_in folder name) due)
-          (λ change. IsNewFile change.place ⊎ IsChangeOfSome reads (write ∷ []) change)
-          (again_change reads write new_files folder name due named known keeps) guarded.changes guarded.each;
-    }
+    lose_guarded reads write name folder (IsNewPlace new_files folder) due before after old new
+    (λ place at. (new_files, folder, at)) named known keeps guarded
 
 -- names of new files in a folder are names of new files
 pub only_new : (folder : Identity) (before after : List NameChange) → OnlyChanges (IsNewIn folder) before after

@@ -46,6 +46,12 @@ IsNewOf new_files place = (folder : Identity) × IsNewPlace new_files folder pla
 abbrev pub IsTidy : (new_files : Identity) → FileState → FileState → (is_done : Bool) → Type 0
 IsTidy new_files old new is_done = IsTrue is_done → LeavesNone (IsNewOf new_files) old new
 
+-- the path was put by way of some folder of new files, and if it is done, none of them is left
+abbrev pub IsPutTidily : Folders → (path bytes : List ℕ) → Bool → FileState → FileState → Bool → Type 0
+IsPutTidily folders path bytes is_durable old new is_done =
+    (new_files : Identity) × IsPutIn new_files folders path bytes is_durable old new is_done
+    × IsTidy new_files old new is_done
+
 -- this is the folder that is open for new files, if one is
 abbrev pub IsFolderOf : Option NewFile → Identity → Type 0
 IsFolderOf open_for folder = IfSome open_for (λ new_file. new_file.folder.identity ≡ folder)

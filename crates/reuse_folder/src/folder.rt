@@ -59,6 +59,7 @@ impl<S: DiskSystem + Drop> RootFolder<S> {
     ghost use Rattle.reuse_folder.specs.FolderReads.{IsPlaceAt, LiesIn};
     ghost use Rattle.reuse_disk.specs.LeftFiles.{ClearsLeft};
     ghost use Rattle.reuse_disk.specs.Noted.{StayNoted};
+    ghost use Rattle.reuse_disk.specs.ReadsOnly.{ReadsOnly};
     ghost use Rattle.reuse_disk.specs.Synced.{AreSynced};
     ghost use Rattle.reuse_system.specs.declared.syncs.Syncs.TheVariants.{Kept};
     ghost use Rattle.reuse_disk.specs.OpenFolders.{current_of};
@@ -146,10 +147,7 @@ impl<S: DiskSystem + Drop> RootFolder<S> {
 
     /// What stands at the path. The folder that it lies in is entered, if it is there.
     fn look(&mut self, alloc: Global, path: &PathText) -> Result<Place, FolderFault>
-        ensures kept { S.holds self.new.system ≡ S.holds self.old.system }
-        ensures changes { S.changes self.new.system ≡ S.changes self.old.system }
-        ensures still { S.folders self.new.system ≡ S.folders self.old.system }
-        ensures earlier { S.honest self.new.system → S.honest self.old.system }
+        ensures reads { ReadsOnly S.System self.old.system self.new.system }
         ensures remembered { self.new.remembered ≡ self.old.remembered }
         ensures lies { S.honest self.new.system
             → IfOk result (LiesIn (S.folders self.new.system) path.now (current_of self.new.open_folders)) }
@@ -168,10 +166,7 @@ impl<S: DiskSystem + Drop> RootFolder<S> {
         path: &PathText,
         seen: Option<FileStatus>,
     ) -> Result<Place, FolderFault>
-        ensures kept { S.holds self.new.system ≡ S.holds self.old.system }
-        ensures changes { S.changes self.new.system ≡ S.changes self.old.system }
-        ensures still { S.folders self.new.system ≡ S.folders self.old.system }
-        ensures earlier { S.honest self.new.system → S.honest self.old.system }
+        ensures reads { ReadsOnly S.System self.old.system self.new.system }
         ensures unsynced { self.new.unsynced ≡ self.old.unsynced }
         ensures new_file { self.new.new_file ≡ self.old.new_file }
         ensures remembered { self.new.remembered ≡ self.old.remembered }

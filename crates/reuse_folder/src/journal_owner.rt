@@ -2,7 +2,7 @@
 //! of a pending step, and `undo` those of a step. So a journal of another user is not opened.
 ghost use Rattle.std.specs.Prelude.{◌≡◌};
 ghost use Rattle.reuse_folder.specs.JournalOwners.{is_of_other, is_journal_of_other};
-ghost use Rattle.reuse_disk.specs.OpenFolders.{AreOpenedIf};
+ghost use Rattle.reuse_disk.specs.ReadsOnly.{EntersOnly};
 
 use reuse_change::layout::{ABOVE_JOURNAL, HEAD_NAME, JOURNAL};
 use reuse_disk::{DiskSystem, OpenFolders};
@@ -50,12 +50,7 @@ pub fn journal_owners<S: DiskSystem>(
     alloc: Global,
     open_folders: &mut OpenFolders,
 ) -> Result<JournalOwners, FolderFault>
-    ensures kept { S.holds system.new ≡ S.holds system.old }
-    ensures changes { S.changes system.new ≡ S.changes system.old }
-    ensures still { S.folders system.new ≡ S.folders system.old }
-    ensures earlier { S.honest system.new → S.honest system.old }
-    ensures opened { AreOpenedIf (S.honest system.old) (S.folders system.old) open_folders.old
-        → AreOpenedIf (S.honest system.new) (S.folders system.new) open_folders.new }
+    ensures enters { EntersOnly S.System system.old system.new open_folders.old open_folders.new }
 {
     let above = folder_owner(system, alloc, open_folders, ABOVE_JOURNAL)?;
     let folder = folder_owner(system, alloc, open_folders, JOURNAL)?;
@@ -79,12 +74,7 @@ fn folder_owner<S: System>(
     open_folders: &mut OpenFolders,
     folder: &str,
 ) -> Result<Option<u32>, FolderFault>
-    ensures kept { S.holds system.new ≡ S.holds system.old }
-    ensures changes { S.changes system.new ≡ S.changes system.old }
-    ensures still { S.folders system.new ≡ S.folders system.old }
-    ensures earlier { S.honest system.new → S.honest system.old }
-    ensures opened { AreOpenedIf (S.honest system.old) (S.folders system.old) open_folders.old
-        → AreOpenedIf (S.honest system.new) (S.folders system.new) open_folders.new }
+    ensures enters { EntersOnly S.System system.old system.new open_folders.old open_folders.new }
 {
     match open_folders.enter(system, alloc, folder)? {
         None => Ok(Some(open_folders.current()?.owner().user)),

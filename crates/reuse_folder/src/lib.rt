@@ -13,7 +13,7 @@ ghost use Rattle.reuse_store.specs.Store.{reading_of};
 ghost use Rattle.reuse_folder.specs.FolderReads.{IsReadWith};
 ghost use Rattle.reuse_folder.specs.Barriers.{HasNoted, HaveNoted};
 ghost use Rattle.reuse_folder.specs.Batches.{disk_of, IsBatch};
-ghost use Rattle.reuse_folder.specs.FolderWrites.{IsGone, IsPutIn, IsRemovedIn, IsStoredAt, IsTidy};
+ghost use Rattle.reuse_folder.specs.FolderWrites.{IsGone, IsPutTidily, IsRemovedIn, IsStoredAt};
 ghost use Rattle.reuse_system.specs.declared.place.Identity.{Identity};
 ghost use Rattle.reuse_folder.specs.RolledBack.{foreign_of};
 ghost use Rattle.reuse_folder.specs.Seen.{LoseNoEdits, LosesNoEditAfter};
@@ -253,10 +253,9 @@ impl<S: DiskSystem + Drop> Store for DiskStore<S> {
             → IfOk result (λ _. IsStoredAt (S.folders self.new.folder.system) (S.holds self.new.folder.system)
             path.now (joined parts.entry) (is_kept self.old.folder.unsynced.syncs)) }
         ensures place { S.honest self.new.folder.system
-            → (new_files : Identity) × IsPutIn new_files (S.folders self.new.folder.system) path.now
-            (joined parts.entry) (is_kept self.old.folder.unsynced.syncs) (S.holds self.old.folder.system)
-            (S.holds self.new.folder.system) (is_ok result)
-            × IsTidy new_files (S.holds self.old.folder.system) (S.holds self.new.folder.system) (is_ok result) }
+            → IsPutTidily (S.folders self.new.folder.system) path.now (joined parts.entry)
+            (is_kept self.old.folder.unsynced.syncs) (S.holds self.old.folder.system)
+            (S.holds self.new.folder.system) (is_ok result) }
         // The folder above the path is noted for the next barrier, if that got or lost a file.
         ensures noted { self.old.folder.unsynced.syncs ≡ Syncs.Kept
             → HasNoted self.new.folder.unsynced path.now (S.changes self.old.folder.system)

@@ -6,6 +6,7 @@ ghost use Rattle.reuse_system.specs.NewFiles.{IsAsDue};
 ghost use Rattle.reuse_system.specs.SystemLaws.{IsAlikeBut, IsAlikeUnless};
 ghost use Rattle.reuse_system.specs.TempFiles.{name_in, place_of, key_of, new_name, IsNewIn};
 ghost use Rattle.reuse_disk.specs.Due.{due_of};
+ghost use Rattle.reuse_disk.specs.ReadsOnly.{ReadsOnly};
 ghost use Rattle.reuse_disk.specs.Written.{StandsAlone, LeavesNone};
 
 use super::{Content, NewFile, make};
@@ -51,12 +52,9 @@ impl NewFile {
         alloc: Global,
         number: usize,
     ) -> Result<(), FolderFault>
-        ensures kept { S.holds system.new ≡ S.holds system.old }
+        ensures reads { ReadsOnly S.System system.old system.new }
         ensures free { S.honest system.new
             → IfOk result (λ _. S.holds system.new (name_in self.now.folder (new_name number)) ≡ None) }
-        ensures still { S.folders system.new ≡ S.folders system.old }
-        ensures earlier { S.honest system.new → S.honest system.old }
-        ensures changes { S.changes system.new ≡ S.changes system.old }
     {
         let name = NewName::of_number(alloc, number)?;
         match system.look(&self.folder, name.as_str())? {

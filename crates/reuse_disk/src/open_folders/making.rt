@@ -3,6 +3,7 @@ ghost use Rattle.std.specs.Prelude.{◌≡◌, ◌⊎◌, Some};
 ghost use Rattle.reuse_system.specs.Folders.{IsGrown};
 ghost use Rattle.reuse_system.specs.declared.syncs.Syncs.TheVariants.{Kept};
 ghost use Rattle.reuse_system.specs.SystemLaws.{IsOpenedBelow};
+ghost use Rattle.reuse_disk.specs.ReadsOnly.{ReadsOnly};
 
 use super::{OpenFolders, next_name};
 use crate::disk_system::DiskSystem;
@@ -94,10 +95,7 @@ fn open_made_by_root<S: DiskSystem>(
     above: &OpenFolder,
     name: &str,
 ) -> Result<Below, FolderFault>
-    ensures kept { S.holds system.new ≡ S.holds system.old }
-    ensures changes { S.changes system.new ≡ S.changes system.old }
-    ensures still { S.folders system.new ≡ S.folders system.old }
-    ensures earlier { S.honest system.new → S.honest system.old }
+    ensures reads { ReadsOnly S.System system.old system.new }
     ensures opened { S.honest system.new
         → IsOpenedBelow (S.folders system.new) (S.holds system.new) above.now.identity name.now result }
 {

@@ -6,11 +6,11 @@ ghost use Rattle.reuse_system.specs.TempFiles.{key_of};
 ghost use Rattle.reuse_system.specs.SystemLaws.{IsAlikeButFile, IsAlikeUnless};
 ghost use Rattle.reuse_system.specs.declared.place.Identity.{Identity};
 ghost use Rattle.reuse_disk.specs.Written.{is_kept, IsSyncedIf};
-ghost use Rattle.reuse_folder.specs.Barriers.{AreNotedAbove, HasNoted, HaveNoted, IsNotedAbove};
+ghost use Rattle.reuse_folder.specs.Barriers.{HasNoted, IsNotedAbove, NamesKnown};
 ghost use Rattle.reuse_folder.specs.Batches.{disk_of};
 ghost use Rattle.reuse_folder.specs.Rounds.{AreApart, AreTempFile, AreNamed, HavePlaces};
 ghost use Rattle.reuse_folder.specs.Rounds.{IsNamed, IsNumbered, StandsTempFile};
-ghost use Rattle.reuse_folder.specs.Seen.{AreKnown, IsKnownTempFile, LoseNoEdits};
+ghost use Rattle.reuse_folder.specs.Seen.{IsKnownTempFile, LoseNoEdits};
 ghost use Rattle.reuse_folder.specs.declared.folder.seen.ReadPath.{ReadPath};
 
 use super::RootFolder;
@@ -44,14 +44,8 @@ impl<S: DiskSystem + Drop> RootFolder<S> {
             writes.now temp_files.now
             → AreNamed new_file.old.folder.identity (is_kept self.old.unsynced.syncs) writes.now temp_files.now
             (disk_of S.System self.old.system) (disk_of S.System self.new.system) result }
-        ensures syncs { self.new.unsynced.syncs ≡ self.old.unsynced.syncs }
-        ensures folders { self.new.unsynced.folders ≡ self.old.unsynced.folders }
-        ensures noted { (reads : List ReadPath) → AreKnown reads writes.now temp_files.now
-            → AreNotedAbove self.old.unsynced writes.now (length temp_files.now)
-            → HaveNoted self.new.unsynced writes.now (S.changes self.old.system) (S.changes self.new.system) }
-        ensures earlier { S.honest self.new.system → S.honest self.old.system }
-        ensures keeps_edits { (reads : List ReadPath) → AreKnown reads writes.now temp_files.now
-            → LoseNoEdits reads writes.now (S.changes self.old.system) (S.changes self.new.system) }
+        ensures names { NamesKnown S.System self.old.system self.new.system self.old.unsynced self.new.unsynced
+            writes.now temp_files.now }
     {
         if let Err(fault) = self.sync_all(writes, temp_files) {
             remove_all(&mut self.system, temp_files);
@@ -120,14 +114,8 @@ impl<S: DiskSystem + Drop> RootFolder<S> {
             (length temp_files.now) writes.now temp_files.now
             → AreNamed new_file.old.folder.identity (is_kept self.old.unsynced.syncs) writes.now temp_files.now
             (disk_of S.System self.old.system) (disk_of S.System self.new.system) result }
-        ensures syncs { self.new.unsynced.syncs ≡ self.old.unsynced.syncs }
-        ensures folders { self.new.unsynced.folders ≡ self.old.unsynced.folders }
-        ensures noted { (reads : List ReadPath) → AreKnown reads writes.now temp_files.now
-            → AreNotedAbove self.old.unsynced writes.now (length temp_files.now)
-            → HaveNoted self.new.unsynced writes.now (S.changes self.old.system) (S.changes self.new.system) }
-        ensures earlier { S.honest self.new.system → S.honest self.old.system }
-        ensures keeps_edits { (reads : List ReadPath) → AreKnown reads writes.now temp_files.now
-            → LoseNoEdits reads writes.now (S.changes self.old.system) (S.changes self.new.system) }
+        ensures names { NamesKnown S.System self.old.system self.new.system self.old.unsynced self.new.unsynced
+            writes.now temp_files.now }
     {
         for (made, write) in writes.iter().enumerate() {
             let Some(new) = temp_files.get(made) else {

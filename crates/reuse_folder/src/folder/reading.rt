@@ -23,6 +23,7 @@ const MOST_SEEN: usize = 1_024;
 impl<S: DiskSystem + Drop> RootFolder<S> {
     ghost use Rattle.reuse_folder.specs.FolderReads.{IsPlaceAt, IsReadAt, IsReadIn, IsReadWith, LiesIn};
     ghost use Rattle.reuse_disk.specs.OpenFolders.{current_of};
+    ghost use Rattle.reuse_disk.specs.ReadsOnly.{ReadsOnly};
 
     /// The bytes of the regular file at the path, where they are at most `limit`. One that is
     /// longer isn't opened, so it needn't be readable.
@@ -34,10 +35,7 @@ impl<S: DiskSystem + Drop> RootFolder<S> {
     ) -> Result<Reading, FolderFault>
         ensures within { IfOk result (IsWithin limit) }
         ensures ignored { IsTrue (is_ignored path.now) → IfOk result (λ reading. reading ≡ Reading.Absent) }
-        ensures kept { S.holds self.new.system ≡ S.holds self.old.system }
-        ensures changes { S.changes self.new.system ≡ S.changes self.old.system }
-        ensures still { S.folders self.new.system ≡ S.folders self.old.system }
-        ensures earlier { S.honest self.new.system → S.honest self.old.system }
+        ensures reads { ReadsOnly S.System self.old.system self.new.system }
         // Of a file that is remembered the bytes aren't read again.
         ensures read { S.honest self.new.system → self.old.remembered.files.items ≡ []
             → IfOk result (IsReadAt (S.folders self.new.system) (S.holds self.new.system) path.now limit) }
@@ -64,10 +62,7 @@ impl<S: DiskSystem + Drop> RootFolder<S> {
         foreign: Foreign,
     ) -> Result<Reading, FolderFault>
         ensures within { IfOk result (IsWithin limit) }
-        ensures kept { S.holds self.new.system ≡ S.holds self.old.system }
-        ensures changes { S.changes self.new.system ≡ S.changes self.old.system }
-        ensures still { S.folders self.new.system ≡ S.folders self.old.system }
-        ensures earlier { S.honest self.new.system → S.honest self.old.system }
+        ensures reads { ReadsOnly S.System self.old.system self.new.system }
         ensures read { S.honest self.new.system → self.old.remembered.files.items ≡ []
             → IfOk result (IsReadWith foreign (S.folders self.new.system) (S.holds self.new.system) path.now limit) }
     {
@@ -90,10 +85,7 @@ impl<S: DiskSystem + Drop> RootFolder<S> {
         reading: Reading,
     ) -> Result<Reading, FolderFault>
         ensures within { (limit : ℕ) → IsWithin limit reading → IfOk result (IsWithin limit) }
-        ensures kept { S.holds self.new.system ≡ S.holds self.old.system }
-        ensures changes { S.changes self.new.system ≡ S.changes self.old.system }
-        ensures still { S.folders self.new.system ≡ S.folders self.old.system }
-        ensures earlier { S.honest self.new.system → S.honest self.old.system }
+        ensures reads { ReadsOnly S.System self.old.system self.new.system }
         ensures reported { S.honest self.new.system
             → IfOk result (λ reported. (reported ≡ reading) ⊎ ((reported ≡ Reading.TooLong)
             × IsPlaceAt (S.folders self.new.system) (S.holds self.new.system) path.now
@@ -139,10 +131,7 @@ impl<S: DiskSystem + Drop> RootFolder<S> {
         status: FileStatus,
     ) -> Result<Reading, FolderFault>
         ensures within { IfOk result (IsWithin limit) }
-        ensures kept { S.holds self.new.system ≡ S.holds self.old.system }
-        ensures changes { S.changes self.new.system ≡ S.changes self.old.system }
-        ensures still { S.folders self.new.system ≡ S.folders self.old.system }
-        ensures earlier { S.honest self.new.system → S.honest self.old.system }
+        ensures reads { ReadsOnly S.System self.old.system self.new.system }
         ensures read { S.honest self.new.system
             → LiesIn (S.folders self.old.system) path.now (current_of self.old.open_folders) (Place.File status)
             → IsPlaceAt (S.folders self.old.system) (S.holds self.old.system) path.now
@@ -164,10 +153,7 @@ impl<S: DiskSystem + Drop> RootFolder<S> {
         limit: usize,
     ) -> Result<Reading, FolderFault>
         ensures within { IfOk result (IsWithin limit) }
-        ensures kept { S.holds self.new.system ≡ S.holds self.old.system }
-        ensures changes { S.changes self.new.system ≡ S.changes self.old.system }
-        ensures still { S.folders self.new.system ≡ S.folders self.old.system }
-        ensures earlier { S.honest self.new.system → S.honest self.old.system }
+        ensures reads { ReadsOnly S.System self.old.system self.new.system }
         ensures read { S.honest self.new.system
             → IfOk result (IsReadAt (S.folders self.new.system) (S.holds self.new.system) path.now limit) }
         ensures noted { IfOk result (λ _. IsNoted self.new.reads.items path.now) }
@@ -193,10 +179,7 @@ impl<S: DiskSystem + Drop> RootFolder<S> {
         status: FileStatus,
     ) -> Result<Option<Reading>, FolderFault>
         ensures within { IfOk result (λ read. IfSome read (IsWithin limit)) }
-        ensures kept { S.holds self.new.system ≡ S.holds self.old.system }
-        ensures changes { S.changes self.new.system ≡ S.changes self.old.system }
-        ensures still { S.folders self.new.system ≡ S.folders self.old.system }
-        ensures earlier { S.honest self.new.system → S.honest self.old.system }
+        ensures reads { ReadsOnly S.System self.old.system self.new.system }
         ensures open_folders { self.new.open_folders ≡ self.old.open_folders }
         ensures read { S.honest self.new.system
             → IsPlaceAt (S.folders self.old.system) (S.holds self.old.system) path.now

@@ -15,8 +15,8 @@ use reuse_system::place::{FileStatus, Place, folder_and_name};
 use std::alloc::Global;
 
 impl<S: DiskSystem + Drop> RootFolder<S> {
-    ghost use Rattle.reuse_folder.specs.FolderWrites.{IsCleared, IsGone, IsPutBy, IsPutIn, IsRemovedAt, IsRemovedIn};
-    ghost use Rattle.reuse_folder.specs.FolderWrites.{IsStoredAt, IsTidy};
+    ghost use Rattle.reuse_folder.specs.FolderWrites.{IsCleared, IsGone, IsPutBy, IsRemovedAt, IsRemovedIn};
+    ghost use Rattle.reuse_folder.specs.FolderWrites.{IsPutTidily, IsStoredAt};
     ghost use Rattle.reuse_disk.specs.Noted.{StayNoted};
     ghost use Rattle.reuse_disk.specs.Written.{is_kept, LeavesNone};
     ghost use Rattle.reuse_folder.specs.Barriers.{HasNoted};
@@ -43,9 +43,8 @@ impl<S: DiskSystem + Drop> RootFolder<S> {
             × IsPutBy new_files path.now (joined parts.entry) (is_kept self.old.unsynced.syncs)
             (S.holds self.old.system) (S.holds self.new.system) (is_ok result) }
         ensures place { S.honest self.new.system
-            → (new_files : Identity) × IsPutIn new_files (S.folders self.new.system) path.now (joined parts.entry)
-            (is_kept self.old.unsynced.syncs) (S.holds self.old.system) (S.holds self.new.system) (is_ok result)
-            × IsTidy new_files (S.holds self.old.system) (S.holds self.new.system) (is_ok result) }
+            → IsPutTidily (S.folders self.new.system) path.now (joined parts.entry) (is_kept self.old.unsynced.syncs)
+            (S.holds self.old.system) (S.holds self.new.system) (is_ok result) }
         ensures stands { S.honest self.new.system
             → IfOk result (λ _. IsStoredAt (S.folders self.new.system) (S.holds self.new.system) path.now
             (joined parts.entry) (is_kept self.old.unsynced.syncs)) }
@@ -59,35 +58,6 @@ impl<S: DiskSystem + Drop> RootFolder<S> {
             (S.changes self.new.system) (S.holds self.old.system) (S.holds self.new.system) }
     {
         let expected = self.take_expected(path);
-        self.put_expected(alloc, path, parts, expected)
-    }
-
-    /// Does so if what is expected stands at the path.
-    fn put_expected(
-        &mut self,
-        alloc: Global,
-        path: &PathText,
-        parts: Pieces,
-        expected: Expected,
-    ) -> Result<(), FolderFault>
-        ensures written { (new_files : Identity)
-            × IsPutBy new_files path.now (joined parts.entry) (is_kept self.old.unsynced.syncs)
-            (S.holds self.old.system) (S.holds self.new.system) (is_ok result) }
-        ensures place { S.honest self.new.system
-            → (new_files : Identity) × IsPutIn new_files (S.folders self.new.system) path.now (joined parts.entry)
-            (is_kept self.old.unsynced.syncs) (S.holds self.old.system) (S.holds self.new.system) (is_ok result)
-            × IsTidy new_files (S.holds self.old.system) (S.holds self.new.system) (is_ok result) }
-        ensures stands { S.honest self.new.system
-            → IfOk result (λ _. IsStoredAt (S.folders self.new.system) (S.holds self.new.system) path.now
-            (joined parts.entry) (is_kept self.old.unsynced.syncs)) }
-        // The folder above the path is noted for the next barrier, if that got or lost a file.
-        ensures noted { self.old.unsynced.syncs ≡ Kept
-            → HasNoted self.new.unsynced path.now (S.changes self.old.system) (S.changes self.new.system) }
-        ensures earlier { S.honest self.new.system → S.honest self.old.system }
-        ensures ignored { IsTrue (is_ignored path.now) → IsErr result }
-        ensures keeps_edits { LosesNoEdit path.now expected (S.changes self.old.system) (S.changes self.new.system)
-            (S.holds self.old.system) (S.holds self.new.system) }
-    {
         let found = self.make_room(alloc, path, expected)?;
         self.write(alloc, path, parts, found)
     }
@@ -142,13 +112,12 @@ impl<S: DiskSystem + Drop> RootFolder<S> {
         ensures written { (new_files : Identity)
             × IsPutBy new_files path.now (joined parts.entry) (is_kept self.old.unsynced.syncs)
             (S.holds self.old.system) (S.holds self.new.system) (is_ok result) }
-        ensures place { S.honest self.new.system
-            → (new_files : Identity) × IsPutIn new_files (S.folders self.new.system) path.now (joined parts.entry)
-            (is_kept self.old.unsynced.syncs) (S.holds self.old.system) (S.holds self.new.system) (is_ok result)
-            × IsTidy new_files (S.holds self.old.system) (S.holds self.new.system) (is_ok result) }
         // The folder above the path is noted for the next barrier, if that got or lost a file.
         ensures noted { self.old.unsynced.syncs ≡ Kept
             → HasNoted self.new.unsynced path.now (S.changes self.old.system) (S.changes self.new.system) }
+        ensures place { S.honest self.new.system
+            → IsPutTidily (S.folders self.new.system) path.now (joined parts.entry) (is_kept self.old.unsynced.syncs)
+            (S.holds self.old.system) (S.holds self.new.system) (is_ok result) }
         ensures earlier { S.honest self.new.system → S.honest self.old.system }
         ensures keeps_edits { (expected : Expected) → IsSeenAs expected found
             → LosesNoEdit path.now expected (S.changes self.old.system) (S.changes self.new.system)

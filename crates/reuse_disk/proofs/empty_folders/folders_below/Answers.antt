@@ -1,11 +1,12 @@
-use Rattle.std.proofs.Common.{◌∙◌}
+use Rattle.reuse_disk.proofs.ReadsOnlyLemmas.{enters_none, enters_then}
 use Rattle.reuse_disk.proofs.empty_folders.folders_below.Goals as goal
 
+pub loop-index-init : goal.loop-index-init
+loop-index-init g c = enters_none g.S.System _ _
+
+pub returns-in_err-push_folders : goal.returns-in_err-push_folders
+returns-in_err-push_folders g c =
+    record { enters = enters_then g.S.System _ _ _ _ _ _ c.loop-index.invariant c.push_folders.ensures.enters }
+
 pub loop-index-preserved : goal.loop-index-preserved
-loop-index-preserved g c = (
-  c.push_folders.ensures.kept ∙ c.loop-index.invariant.0,
-  c.push_folders.ensures.still ∙ c.loop-index.invariant.1,
-  (λ honest. c.loop-index.invariant.2 (c.push_folders.ensures.earlier honest)),
-  (λ right. c.push_folders.ensures.opened (c.loop-index.invariant.3 right)),
-  c.push_folders.ensures.changes ∙ c.loop-index.invariant.4,
-)
+loop-index-preserved g c = enters_then g.S.System _ _ _ _ _ _ c.loop-index.invariant c.push_folders.ensures.enters

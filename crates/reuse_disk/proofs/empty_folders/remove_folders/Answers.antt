@@ -10,15 +10,15 @@ loop-folder-preserved g c =
     let folders = s.folders now in (
       tt,
       tt,
-      c.remove_folder-removed.ensures.kept ∙ c.enter_seen.ensures.kept ∙ c.loop-folder.invariant.2,
+      c.remove_folder-removed.ensures.kept ∙ c.enter_seen.ensures.enters.reads.kept ∙ c.loop-folder.invariant.2,
       (λ honest. c.loop-folder.invariant.3
-          (c.enter_seen.ensures.earlier (c.remove_folder-removed.ensures.earlier honest))),
+          (c.enter_seen.ensures.enters.reads.earlier (c.remove_folder-removed.ensures.earlier honest))),
       (λ right honest. c.close.ensures folders
           (root_stays (s.folders before) folders c.enter_seen.new.self _
           c.remove_folder-removed.ensures.removed.others
-          (c.enter_seen.ensures.opened (c.loop-folder.invariant.4 right)
+          (c.enter_seen.ensures.enters.opened (c.loop-folder.invariant.4 right)
           (c.remove_folder-removed.ensures.earlier honest)).0)),
-      c.remove_folder-removed.ensures.changes ∙ c.enter_seen.ensures.changes ∙ c.loop-folder.invariant.5,
+      c.remove_folder-removed.ensures.changes ∙ c.enter_seen.ensures.enters.reads.changes ∙ c.loop-folder.invariant.5,
     )
 
 pub returns-in_err-removed-clause-opened : goal.returns-in_err-removed-clause-opened
@@ -30,4 +30,4 @@ returns-in_err-removed-clause-opened g c right honest =
     c.close.ensures folders
     (root_stays (s.folders before) folders c.enter_seen.new.self _
     c.remove_folder-removed.ensures.removed.others
-    (c.enter_seen.ensures.opened (c.loop-folder.invariant.4 right) (c.remove_folder-removed.ensures.earlier honest)).0)
+    (c.enter_seen.ensures.enters.opened (c.loop-folder.invariant.4 right) (c.remove_folder-removed.ensures.earlier honest)).0)

@@ -1,11 +1,12 @@
-use Rattle.std.proofs.Common.{◌∙◌}
+use Rattle.reuse_disk.proofs.ReadsOnlyLemmas.{enters_none, enters_then}
 use Rattle.reuse_disk.proofs.listing.Listing.walk.Goals as goal
 
+pub loop-init : goal.loop-init
+loop-init g c = enters_none g.S.System _ _
+
+pub returns-in_err-look_into-in-Some : goal.returns-in_err-look_into-in-Some
+returns-in_err-look_into-in-Some g c =
+    record { enters = enters_then g.S.System _ _ _ _ _ _ c.loop.invariant c.look_into.ensures.enters }
+
 pub loop-preserved : goal.loop-preserved
-loop-preserved g c = (
-  c.look_into.ensures.kept ∙ c.loop.invariant.0,
-  c.look_into.ensures.still ∙ c.loop.invariant.1,
-  (λ honest. c.loop.invariant.2 (c.look_into.ensures.earlier honest)),
-  (λ right. c.look_into.ensures.opened (c.loop.invariant.3 right)),
-  c.look_into.ensures.changes ∙ c.loop.invariant.4,
-)
+loop-preserved g c = enters_then g.S.System _ _ _ _ _ _ c.loop.invariant c.look_into.ensures.enters

@@ -4,6 +4,7 @@ use Rattle.reuse_change.specs.Layout.{journal_folder}
 use Rattle.reuse_disk.specs.LeftFiles.{ClearsLeft, IsJournalIf}
 use Rattle.reuse_disk.specs.OpenFolders.{AreOpenedIf}
 use Rattle.reuse_disk.proofs.LeftLemmas.{clears_later, clears_then}
+use Rattle.reuse_disk.proofs.ReadsOnlyLemmas.{notes_then}
 use Rattle.reuse_disk.proofs.mounted_folders.MountedFolders.clear_each.Goals as goal
 
 pub loop-path-preserved : goal.loop-path-preserved
@@ -15,20 +16,16 @@ loop-path-preserved g c =
     let known : AreOpenedIf (s.honest first) (s.folders first) c.args.open_folders.now
     → IsJournalIf (s.honest before) (s.folders before) c.identity-journal.result =
     λ opened honest. ap (λ folders. folder_at folders journal_folder)
-    (c.loop-path.invariant.1 ∙ sym c.enter_seen.ensures.still)
+    (c.loop-path.invariant.1.still ∙ sym c.enter_seen.ensures.enters.reads.still)
     ∙ c.in_ok-enter_seen.ensures.entered opened (c.loop-path.invariant.2 honest) ∙ c.in_ok-current.ensures
     ∙ ap (λ one. Some one) (sym c.identity-journal.ensures) in (
       (λ opened. clears_then (s.honest after) (s.folders after) (s.changes first) (s.changes before) (s.changes after)
           (s.holds first) (s.holds before) (s.holds after)
           (clears_later (s.honest before) (s.honest after) (s.folders after) (s.changes first) (s.changes before)
-          (s.holds first) (s.holds before) c.clear_folder.ensures.earlier
+          (s.holds first) (s.holds before) c.clear_folder.ensures.notes.earlier
           (subst (λ folders. ClearsLeft (s.honest before) folders (s.changes first) (s.changes before) (s.holds first)
-          (s.holds before)) (sym c.clear_folder.ensures.still) (c.loop-path.invariant.0 opened)))
-          (c.clear_folder.ensures.cleared (c.loop-path.invariant.3 opened) (known opened))),
-      c.clear_folder.ensures.still ∙ c.loop-path.invariant.1,
-      (λ honest. c.loop-path.invariant.2 (c.clear_folder.ensures.earlier honest)),
-      (λ opened. c.clear_folder.ensures.opened (c.loop-path.invariant.3 opened)),
-      c.clear_folder.ensures.syncs ∙ c.loop-path.invariant.4,
-      (λ folder noted. c.clear_folder.ensures.noted folder (c.loop-path.invariant.5 folder noted)),
-      c.clear_folder.ensures.no_sync ∙ c.loop-path.invariant.6,
+          (s.holds before)) (sym c.clear_folder.ensures.notes.still) (c.loop-path.invariant.0 opened)))
+          (c.clear_folder.ensures.cleared (c.loop-path.invariant.1.opened opened) (known opened))),
+      notes_then s _ _ _ _ _ _ _ _ _ c.loop-path.invariant.1 c.clear_folder.ensures.notes,
+      (λ honest. c.loop-path.invariant.2 (c.clear_folder.ensures.notes.earlier honest)),
     )

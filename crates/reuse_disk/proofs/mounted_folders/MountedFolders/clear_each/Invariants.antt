@@ -1,7 +1,6 @@
-use Rattle.std.proofs.Common.{◌≡◌}
 use Rattle.reuse_disk.specs.LeftFiles.{ClearsLeft}
-use Rattle.reuse_disk.specs.Noted.{StayNoted}
 use Rattle.reuse_disk.specs.OpenFolders.{AreOpenedIf}
+use Rattle.reuse_disk.specs.ReadsOnly.{NotesOnly}
 use Rattle.reuse_disk.proofs.mounted_folders.MountedFolders.clear_each.Given as goal
 
 -- so far nothing differs but new files that were left
@@ -11,10 +10,5 @@ invariant-loop-path g l =
     (AreOpenedIf (s.honest l.fn.system) (s.folders l.fn.system) l.fn.open_folders
     → ClearsLeft (s.honest l.system) (s.folders l.system) (s.changes l.fn.system) (s.changes l.system)
     (s.holds l.fn.system) (s.holds l.system)) ×
-    (s.folders l.system ≡ s.folders l.fn.system) ×
-    (s.honest l.system → s.honest l.initial.system) ×
-    (AreOpenedIf (s.honest l.fn.system) (s.folders l.fn.system) l.fn.open_folders
-    → AreOpenedIf (s.honest l.system) (s.folders l.system) l.open_folders) ×
-    (l.unsynced.syncs ≡ l.fn.unsynced.syncs) ×
-    StayNoted l.fn.unsynced l.unsynced ×
-    (s.synced l.system ≡ s.synced l.fn.system)
+    NotesOnly s l.fn.system l.system l.fn.open_folders l.open_folders l.fn.unsynced l.unsynced ×
+    (s.honest l.system → s.honest l.initial.system)

@@ -1,7 +1,8 @@
 use Rattle.std.proofs.Common.{◌≡◌, length}
 use denote.Text.{Utf8}
 use denote.Shadow.{shadow}
-use Rattle.reuse_disk.specs.OpenFolders.{current_of, AreOpened, IsOnWay}
+use Rattle.reuse_disk.specs.OpenFolders.{current_of, AreOpenedIf, IsOnWay}
+use Rattle.reuse_disk.specs.ReadsOnly.{EntersOnly}
 use Rattle.reuse_disk.proofs.open_folders.OpenFolders.enter.Given as goal
 
 -- the rest leads from the folder that was entered last to where the path leads
@@ -9,14 +10,9 @@ abbrev pub invariant-loop-name : goal.invariant-loop-name
 invariant-loop-name g l =
     let s = g.S.System in
     shadow (Utf8 l.rest) ×
-    (s.holds l.system ≡ s.holds l.fn.system) ×
-    (s.folders l.system ≡ s.folders l.fn.system) ×
-    (s.honest l.system → s.honest l.fn.system) ×
-    ((s.honest l.fn.system → AreOpened (s.folders l.fn.system) l.fn.self) → s.honest l.system
-    → AreOpened (s.folders l.system) l.self) ×
-    ((s.honest l.fn.system → AreOpened (s.folders l.fn.system) l.fn.self) → s.honest l.system
+    EntersOnly s l.fn.system l.system l.fn.self l.self ×
+    (AreOpenedIf (s.honest l.fn.system) (s.folders l.fn.system) l.fn.self → s.honest l.system
     → IsOnWay (s.folders l.system) (s.holds l.system) (current_of l.self) l.rest l.fn.folder) ×
-    (s.changes l.system ≡ s.changes l.fn.system) ×
     (s.synced l.system ≡ s.synced l.fn.system)
 
 abbrev pub decreases-loop-name : goal.decreases-loop-name

@@ -15,7 +15,7 @@ returns-in-Some-clause-way g c right honest =
     let root = c.loop-self.self.root in
     let steps = c.loop-self.self.steps.items in
     let some : 0 < length steps = search rules in
-    let opened = c.open_root.ensures.opened right honest in
+    let opened = c.open_root.ensures.enters.opened right honest in
     way_back folders
     (g.S.System.holds c.open_root.new.system) root steps c.path.result.now c.args.folder.now c.in-Some.rest.now some
     (subst (IsRoot folders) (sym c.loop-self.invariant.0) opened.0)
@@ -25,7 +25,7 @@ pub returns-clause-way : goal.returns-clause-way
 returns-clause-way g c right honest =
     let folders = g.S.System.folders c.open_root.new.system in
     let root = c.loop-self.self.root in
-    let opened = c.open_root.ensures.opened right honest in
+    let opened = c.open_root.ensures.enters.opened right honest in
     way_from_root folders
     (g.S.System.holds c.open_root.new.system) root c.loop-self.self.steps.items c.args.folder.now (search rules)
     (rw c.loop-self.invariant.0 c.in_ok-open_root.ensures.root)

@@ -4,17 +4,13 @@ use Rattle.std.specs.Map.Iter.{deref}
 use Rattle.reuse_disk.specs.Synced.{IsFoundAmong}
 use Rattle.reuse_disk.proofs.SyncLemmas.{EachText}
 use Rattle.reuse_disk.specs.OpenFolders.{AreOpenedIf}
+use Rattle.reuse_disk.specs.ReadsOnly.{EntersOnly}
 use Rattle.reuse_disk.proofs.syncs.Unsynced.folders_there.Given as goal
 
 abbrev pub invariant-loop-folder : goal.invariant-loop-folder
 invariant-loop-folder g l =
     let s = g.S.System in
-    (s.holds l.system ≡ s.holds l.fn.system) ×
-    (s.folders l.system ≡ s.folders l.fn.system) ×
-    (s.honest l.system → s.honest l.fn.system) ×
-    (AreOpenedIf (s.honest l.fn.system) (s.folders l.fn.system) l.fn.open_folders
-    → AreOpenedIf (s.honest l.system) (s.folders l.system) l.open_folders) ×
-    (s.changes l.system ≡ s.changes l.fn.system) ×
+    EntersOnly s l.fn.system l.system l.fn.open_folders l.open_folders ×
     (s.synced l.system ≡ s.synced l.fn.system) ×
     (l.fn.self.folders.keys ≡ map deref l.yielded ++ l.folder-iterator) ×
     (AreOpenedIf (s.honest l.fn.system) (s.folders l.fn.system) l.fn.open_folders → s.honest l.system

@@ -34,7 +34,7 @@ returns-then-number-eq0-clause-changes g c =
 pub returns-in-Err-clause-changes : goal.returns-in-Err-clause-changes
 returns-in-Err-clause-changes g c =
     only_then IsNewFile _ _ _ c.loop-write.invariant.changes
-    (rw c.check_free.ensures.changes c.add_temp_file.ensures.changes)
+    (rw c.check_free.ensures.reads.changes c.add_temp_file.ensures.changes)
 
 pub returns-in-Err-clause-begun : goal.returns-in-Err-clause-begun
 returns-in-Err-clause-begun g c =
@@ -56,7 +56,7 @@ returns-in-Err-clause-begun g c =
     subst (λ (f : OpenFolder). IsAlikeBut (new_place f.identity (length temp_files)) before
     (s.holds c.add_temp_file.new.self.system)) so_far.folder c.add_temp_file.ensures.others in
     let alike : IsAlikeBut place before (s.holds last) =
-    subst (IsAlikeBut place before) (sym c.check_free.ensures.kept) others in
+    subst (IsAlikeBut place before) (sym c.check_free.ensures.reads.kept) others in
     let few : length temp_files ≤ length writes = omega (arith, so_far.count, c.loop-write-test.true) in
     subst (λ l. AreBegun (s.honest last × IsTrue (is_ok c.check_free.result)) new_files writes l first (s.holds last))
     (sym same)

@@ -1,4 +1,4 @@
 use Rattle.reuse_folder.proofs.folder.RootFolder.list.Goals as goal
 
 pub invariant_of-self-2 : goal.invariant_of-self-2
-invariant_of-self-2 g c = record { opened = c.walk.ensures.opened c.loop-index.self.opened }
+invariant_of-self-2 g c = record { opened = c.walk.ensures.enters.opened c.loop-index.self.opened }

@@ -1,70 +1,79 @@
-use Rattle.std.proofs.Common.{false, length}
+use Rattle.std.proofs.Common.{◌∙◌, List, false, length}
 use Rattle.reuse_disk.specs.Written.{is_kept}
 use Rattle.reuse_folder.specs.Rounds.{AreTempFile, AreNamed}
 use Rattle.reuse_folder.proofs.BatchLemmas.{none_made}
 use Rattle.reuse_folder.proofs.RoundEnds.{alike_then, all_new, temp_file_begins, named_behind, numbered_alike}
 use Rattle.reuse_folder.proofs.SeenLemmas.{lose_none, lose_only, lose_then, new_at}
-use Rattle.reuse_folder.proofs.BarrierLemmas.{have_none, have_only, have_then}
+use Rattle.reuse_folder.proofs.BarrierLemmas.{above_same, have_none, have_only, have_then}
 use Rattle.reuse_folder.specs.Batches.{disk_of}
+use Rattle.reuse_folder.specs.Seen.{AreKnown}
+use Rattle.reuse_folder.specs.declared.folder.seen.ReadPath.{ReadPath}
 use Rattle.reuse_folder.proofs.folder.RootFolder.name_all.Goals as goal
 
 pub returns-in-Err-clause-named : goal.returns-in-Err-clause-named
 returns-in-Err-clause-named g c honest some few places apart temp_file =
     let s = g.S.System in
     let new_files = c.args.new_file.now.folder.identity in
-    let is = is_kept c.args.self.now.unsynced.syncs in
-    let writes = c.args.writes.now in
     let temp_files = c.args.temp_files.now in
-    let first = c.args.self.now.system in
-    let synced = c.sync_all.new.self.system in
-    let last = c.remove_all.new.system in
-    let alike = alike_then new_files (s.holds first) (s.holds synced) (s.holds last)
-    (numbered_alike new_files (length temp_files) (s.holds first) (s.holds synced)
+    let writes = c.args.writes.now in
+    let first = disk_of s c.args.self.now.system in
+    let last = disk_of s c.remove_all.new.system in
+    let synced = s.holds c.sync_all.new.self.system in
+    let alike = alike_then new_files first.files synced last.files
+    (numbered_alike new_files (length temp_files) first.files synced
     (c.sync_all.ensures.synced new_files few apart temp_file).1)
     (c.remove_all.ensures.others new_files (all_new new_files temp_files places)) in
-    rw c.at_first.ensures (none_made new_files is writes (disk_of s first) (disk_of s last)
-    (temp_file_begins new_files false (s.holds first) writes temp_files some few temp_file) alike)
-
-pub returns-in-Err-clause-keeps_edits : goal.returns-in-Err-clause-keeps_edits
-returns-in-Err-clause-keeps_edits g c reads known =
-    let s = g.S.System in
-    let writes = c.args.writes.now in
-    let temp_files = c.args.temp_files.now in
-    let a = s.changes c.args.self.now.system in
-    let b = s.changes c.sync_all.new.self.system in
-    let d = s.changes c.remove_all.new.system in
-    lose_then reads writes a b d (lose_none reads writes a b c.sync_all.ensures.changes) (lose_only reads writes b d
-    (c.remove_all.ensures.changes (λ k one short. new_at reads writes temp_files k one known short)))
+    rw c.at_first.ensures (none_made new_files (is_kept c.args.self.now.unsynced.syncs) writes first last
+    (temp_file_begins new_files false first.files writes temp_files some few temp_file) alike)
 
 pub returns-clause-named : goal.returns-clause-named
 returns-clause-named g c honest some few places apart temp_file =
     let s = g.S.System in
-    let new_files = c.args.new_file.now.folder.identity in
     let is = is_kept c.args.self.now.unsynced.syncs in
+    let new_files = c.args.new_file.now.folder.identity in
     let writes = c.args.writes.now in
     let temp_files = c.args.temp_files.now in
-    let first = c.args.self.now.system in
-    let synced = c.sync_all.new.self.system in
-    let last = c.name_each.new.self.system in
-    let all : AreTempFile new_files is (s.holds synced) 0 (length temp_files) writes temp_files =
+    let first = disk_of s c.args.self.now.system in
+    let synced = disk_of s c.sync_all.new.self.system in
+    let last = disk_of s c.name_each.new.self.system in
+    let all : AreTempFile new_files is synced.files 0 (length temp_files) writes temp_files =
     (c.in_default.ensures.synced new_files few apart temp_file).0 in
     let alike = (c.sync_all.ensures.synced new_files few apart temp_file).1 in
-    let named : AreTempFile new_files is (s.holds synced) 0 (length temp_files) writes temp_files
-    → AreNamed new_files is writes temp_files (disk_of s synced) (disk_of s last) c.name_each.result =
+    let named : AreTempFile new_files is synced.files 0 (length temp_files) writes temp_files
+    → AreNamed new_files is writes temp_files synced last c.name_each.result =
     rw c.sync_all.ensures.syncs at (c.name_each.ensures.named honest few places apart) in
-    named_behind new_files is writes temp_files (disk_of s first) (disk_of s synced)
-    (disk_of s last) c.name_each.result
-    (temp_file_begins new_files false (s.holds first) writes temp_files some few temp_file) some alike (named all)
+    named_behind new_files is writes temp_files first synced last c.name_each.result
+    (temp_file_begins new_files false first.files writes temp_files some few temp_file) some alike (named all)
 
-pub returns-in-Err-clause-noted : goal.returns-in-Err-clause-noted
-returns-in-Err-clause-noted g c reads known above =
-    let s = g.S.System in
+pub returns-in-Err-clause-names : goal.returns-in-Err-clause-names
+returns-in-Err-clause-names g c =
     let writes = c.args.writes.now in
-    let temp_files = c.args.temp_files.now in
-    let a = s.changes c.args.self.now.system in
-    let b = s.changes c.sync_all.new.self.system in
-    let d = s.changes c.remove_all.new.system in
+    let b = g.S.System.changes c.sync_all.new.self.system in
+    let d = g.S.System.changes c.remove_all.new.system in
     let unsynced = c.sync_all.new.self.unsynced in
-    have_then unsynced writes a b d (have_none unsynced writes a b c.sync_all.ensures.changes)
-    (have_only unsynced writes b d
-    (c.remove_all.ensures.changes (λ k one short. new_at reads writes temp_files k one known short)))
+    let only = λ (reads : List ReadPath) (known : AreKnown reads writes c.args.temp_files.now).
+    c.remove_all.ensures.changes (λ k one short. new_at reads writes c.args.temp_files.now k one known short) in
+    record {
+      syncs = c.sync_all.ensures.syncs;
+      folders = c.sync_all.ensures.folders;
+      noted = λ reads known above.
+          have_then unsynced writes _ b d (have_none unsynced writes _ b c.sync_all.ensures.changes)
+          (have_only unsynced writes b d (only reads known));
+      keeps_edits = λ reads known.
+          lose_then reads writes _ b d (lose_none reads writes _ b c.sync_all.ensures.changes)
+          (lose_only reads writes b d (only reads known));
+      earlier = λ honest. c.sync_all.ensures.earlier (c.remove_all.ensures.earlier honest);
+    }
+
+pub returns-clause-names : goal.returns-clause-names
+returns-clause-names g c =
+    let names = c.name_each.ensures.names in
+    record {
+      syncs = names.syncs ∙ c.sync_all.ensures.syncs;
+      folders = names.folders ∙ c.sync_all.ensures.folders;
+      noted = λ reads known above. rw c.sync_all.ensures.changes at (names.noted reads known
+          (λ k write short at. above_same c.args.self.now.unsynced c.sync_all.new.self.unsynced write.path.now
+          c.sync_all.ensures.folders (above k write short at)));
+      keeps_edits = λ reads known. rw c.sync_all.ensures.changes at (names.keeps_edits reads known);
+      earlier = λ honest. c.sync_all.ensures.earlier (names.earlier honest);
+    }

@@ -1,10 +1,8 @@
-use Rattle.std.proofs.Common.{◌≡◌, ◌≤◌, List, length, take}
+use Rattle.std.proofs.Common.{◌≡◌, ◌≤◌, length, take}
 use Rattle.reuse_disk.specs.Written.{is_kept}
-use Rattle.reuse_folder.specs.Barriers.{AreNotedAbove, HaveNoted}
+use Rattle.reuse_folder.specs.Barriers.{NamesKnown}
 use Rattle.reuse_folder.specs.Batches.{disk_of, DisksAfter}
 use Rattle.reuse_folder.specs.Rounds.{AreApart, AreTempFile, AreGone, HavePlaces}
-use Rattle.reuse_folder.specs.Seen.{AreKnown, LoseNoEdits}
-use Rattle.reuse_folder.specs.declared.folder.seen.ReadPath.{ReadPath}
 use Rattle.reuse_folder.proofs.folder.RootFolder.name_each.Given as goal
 
 -- so far the writes before this one are made, the new files behind it still stand aside, no edit is lost, and the
@@ -25,12 +23,5 @@ invariant-loop-made g l =
           → DisksAfter new_files is (take l.made l.writes) (disk_of s first) (disk_of s now)
           × AreTempFile new_files is (s.holds now) l.made (length l.temp_files) l.writes l.temp_files
           × AreGone new_files l.made (s.holds first) (s.holds now);
-      syncs : l.self.unsynced.syncs ≡ l.fn.self.unsynced.syncs;
-      folders : l.self.unsynced.folders ≡ l.fn.self.unsynced.folders;
-      noted : (reads : List ReadPath) → AreKnown reads l.writes l.temp_files
-          → AreNotedAbove l.fn.self.unsynced l.writes (length l.temp_files)
-          → HaveNoted l.self.unsynced l.writes (s.changes first) (s.changes now);
-      earlier : s.honest now → s.honest first;
-      keeps_edits : (reads : List ReadPath) → AreKnown reads l.writes l.temp_files
-          → LoseNoEdits reads l.writes (s.changes first) (s.changes now);
+      names : NamesKnown s first now l.fn.self.unsynced l.self.unsynced l.writes l.temp_files;
     }

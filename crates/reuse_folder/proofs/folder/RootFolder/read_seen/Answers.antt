@@ -11,5 +11,5 @@ returns-in-Some-clause-read g c honest lies at =
     (s.folders first) (s.holds second)
     (s.holds first)
     c.args.path.now c.args.limit (current_of c.args.self.now.open_folders) c.in_ok-reading.field-0 c.in-Some.reading
-    c.read_anew.ensures.still c.read_anew.ensures.kept c.in-Some.is lies
+    c.read_anew.ensures.reads.still c.read_anew.ensures.reads.kept c.in-Some.is lies
     (c.in_ok-reading.ensures.read honest at)

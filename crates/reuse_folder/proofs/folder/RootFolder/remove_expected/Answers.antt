@@ -1,7 +1,9 @@
-use Rattle.std.proofs.Common.{rules, inl, refl, ap, subst, sym, Some, ◌∙◌}
+use Rattle.std.proofs.Common.{rules, ◌≡◌, inl, refl, ap, subst, sym, Some, ◌∙◌}
 use Rattle.reuse_folder.specs.FolderReads.{LiesIn}
 use Rattle.reuse_disk.specs.OpenFolders.{current_of}
+use Rattle.reuse_folder.specs.Seen.{LosesNoEdit}
 use Rattle.reuse_folder.specs.FolderWrites.{IsGone, IsRemovedIn}
+use Rattle.reuse_system.specs.Folders.{folder_above}
 use Rattle.reuse_system.specs.Names.{IsNameOf}
 use Rattle.reuse_folder.proofs.FolderLemmas.{nothing_removed, removed_at}
 use Rattle.reuse_folder.proofs.ReadLemmas.{always, gone_if, gone_reported, no_file_of, removed_in}
@@ -12,45 +14,60 @@ use Rattle.reuse_folder.proofs.PutLemmas.{none_by_removal}
 use Rattle.reuse_system.specs.Names.{IsSplit}
 use Rattle.reuse_disk.specs.Noted.{IsNoted}
 use Rattle.reuse_folder.proofs.BarrierLemmas.{above_of, has_none, has_noted}
+use Rattle.reuse_folder.proofs.folder.RootFolder.remove_expected.Given.{Over}
+use Rattle.reuse_folder.proofs.folder.RootFolder.remove_expected.Goals.{After-look_unless_seen, After-remove_seen}
 use Rattle.reuse_folder.proofs.folder.RootFolder.remove_expected.Goals as goal
 
-pub returns-in_err-status-clause-removed : goal.returns-in_err-status-clause-removed
-returns-in_err-status-clause-removed g c = rw c.look_unless_seen.ensures.kept (nothing_removed _ _)
+-- it was only looked at
+lose_nothing : (g : Over) (c : After-look_unless_seen g)
+    → LosesNoEdit c.args.path.now c.args.expected (g.S.System.changes c.args.self.now.system)
+    (g.S.System.changes c.look_unless_seen.new.self.system) (g.S.System.holds c.args.self.now.system)
+    (g.S.System.holds c.look_unless_seen.new.self.system)
+lose_nothing g c = loses_none c.args.path.now c.args.expected c.args.self.now.ownership.process _ _ _ _
+    c.look_unless_seen.ensures.reads.changes c.look_unless_seen.ensures.reads.kept
 
-pub returns-in_err-seen-in-File-clause-removed : goal.returns-in_err-seen-in-File-clause-removed
-returns-in_err-seen-in-File-clause-removed g c = rw c.look_unless_seen.ensures.kept (nothing_removed _ _)
-
-pub returns-in_err-note-in-File-clause-removed : goal.returns-in_err-note-in-File-clause-removed
-returns-in_err-note-in-File-clause-removed g c = rw c.look_unless_seen.ensures.kept (nothing_removed _ _)
-
-pub returns-in_err-current-in-File-clause-removed : goal.returns-in_err-current-in-File-clause-removed
-returns-in_err-current-in-File-clause-removed g c = rw c.look_unless_seen.ensures.kept (nothing_removed _ _)
+-- the path lies in the folder that was entered
+lies : (g : Over) (c : After-remove_seen g) → g.S.System.honest c.remove_seen.new.system
+    → folder_above (g.S.System.folders c.look_unless_seen.new.self.system) c.args.path.now
+    ≡ current_of c.look_unless_seen.new.self.open_folders
+lies g c honest =
+    subst (LiesIn (g.S.System.folders c.look_unless_seen.new.self.system) c.args.path.now
+    (current_of c.look_unless_seen.new.self.open_folders)) c.in-File.is
+    (c.in_ok-status.ensures.lies (c.remove_seen.ensures.earlier honest))
 
 pub returns-in_err-status-clause-keeps_edits : goal.returns-in_err-status-clause-keeps_edits
 returns-in_err-status-clause-keeps_edits g c =
-    loses_none c.args.path.now c.args.expected c.args.self.now.ownership.process _ _ _ _
-    c.look_unless_seen.ensures.changes c.look_unless_seen.ensures.kept
+    lose_nothing g (goal.at.returns-in_err-status-clause-keeps_edits g c).After-look_unless_seen
 
 pub returns-in_err-seen-in-File-clause-keeps_edits : goal.returns-in_err-seen-in-File-clause-keeps_edits
 returns-in_err-seen-in-File-clause-keeps_edits g c =
-    loses_none c.args.path.now c.args.expected c.args.self.now.ownership.process _ _ _ _
-    c.look_unless_seen.ensures.changes c.look_unless_seen.ensures.kept
+    lose_nothing g (goal.at.returns-in_err-seen-in-File-clause-keeps_edits g c).After-look_unless_seen
 
 pub returns-in_err-note-in-File-clause-keeps_edits : goal.returns-in_err-note-in-File-clause-keeps_edits
 returns-in_err-note-in-File-clause-keeps_edits g c =
-    loses_none c.args.path.now c.args.expected c.args.self.now.ownership.process _ _ _ _
-    c.look_unless_seen.ensures.changes c.look_unless_seen.ensures.kept
+    lose_nothing g (goal.at.returns-in_err-note-in-File-clause-keeps_edits g c).After-look_unless_seen
 
 pub returns-in_err-current-in-File-clause-keeps_edits : goal.returns-in_err-current-in-File-clause-keeps_edits
 returns-in_err-current-in-File-clause-keeps_edits g c =
-    loses_none c.args.path.now c.args.expected c.args.self.now.ownership.process _ _ _ _
-    c.look_unless_seen.ensures.changes c.look_unless_seen.ensures.kept
+    lose_nothing g (goal.at.returns-in_err-current-in-File-clause-keeps_edits g c).After-look_unless_seen
+
+pub returns-in_err-status-clause-removed : goal.returns-in_err-status-clause-removed
+returns-in_err-status-clause-removed g c = rw c.look_unless_seen.ensures.reads.kept (nothing_removed _ _)
+
+pub returns-in_err-seen-in-File-clause-removed : goal.returns-in_err-seen-in-File-clause-removed
+returns-in_err-seen-in-File-clause-removed g c = rw c.look_unless_seen.ensures.reads.kept (nothing_removed _ _)
+
+pub returns-in_err-note-in-File-clause-removed : goal.returns-in_err-note-in-File-clause-removed
+returns-in_err-note-in-File-clause-removed g c = rw c.look_unless_seen.ensures.reads.kept (nothing_removed _ _)
+
+pub returns-in_err-current-in-File-clause-removed : goal.returns-in_err-current-in-File-clause-removed
+returns-in_err-current-in-File-clause-removed g c = rw c.look_unless_seen.ensures.reads.kept (nothing_removed _ _)
 
 pub returns-in_ok-current-in-File-clause-removed : goal.returns-in_ok-current-in-File-clause-removed
 returns-in_ok-current-in-File-clause-removed g c =
     let name = c.folder_and_name.result.1.now in
     let named : IsNameOf c.args.path.now name = search rules in
-    rw (← c.look_unless_seen.ensures.kept)
+    rw (← c.look_unless_seen.ensures.reads.kept)
     (removed_at c.args.path.now name c.in_ok-current-in-File.field-0.now.identity
     _ _ c.remove_seen.result named c.remove_seen.ensures.removed)
 
@@ -58,40 +75,30 @@ pub returns-in_ok-current-in-File-clause-place : goal.returns-in_ok-current-in-F
 returns-in_ok-current-in-File-clause-place g c honest =
     let s = g.S.System in
     let path = c.args.path.now in
-    let name = c.folder_and_name.result.1.now in
-    let named : IsNameOf path name = search rules in
+    let named : IsNameOf path c.folder_and_name.result.1.now = search rules in
     let seen = c.look_unless_seen.new.self.system in
-    let now = c.remove_seen.new.system in
-    let folders = s.folders seen in
-    let current = current_of c.look_unless_seen.new.self.open_folders in
-    let folder = c.in_ok-current-in-File.field-0.now.identity in
-    let lies = subst (LiesIn folders path current) c.in-File.is
-    (c.in_ok-status.ensures.lies (c.remove_seen.ensures.earlier honest)) in
-    let a = s.holds seen in
-    let b = s.holds now in
-    let removed = removed_in folders path name current folder a b c.remove_seen.result named lies
+    let b = s.holds c.remove_seen.new.system in
+    let removed = removed_in (s.folders seen) path c.folder_and_name.result.1.now
+    (current_of c.look_unless_seen.new.self.open_folders) c.in_ok-current-in-File.field-0.now.identity (s.holds seen) b
+    c.remove_seen.result named
+    (lies g (goal.at.returns-in_ok-current-in-File-clause-place g c).After-remove_seen honest)
     c.in_ok-current-in-File.ensures c.remove_seen.ensures.removed in
     subst
-    (λ held. IsRemovedIn (s.folders now) path held b) c.look_unless_seen.ensures.kept
-    (subst (λ reported. IsRemovedIn reported path a b) (sym c.remove_seen.ensures.still) removed)
+    (λ held. IsRemovedIn (s.folders c.remove_seen.new.system) path held b) c.look_unless_seen.ensures.reads.kept
+    (subst (λ reported. IsRemovedIn reported path (s.holds seen) b) (sym c.remove_seen.ensures.still) removed)
 
 pub returns-in_ok-current-in-File-clause-gone : goal.returns-in_ok-current-in-File-clause-gone
 returns-in_ok-current-in-File-clause-gone g c honest =
-    let s = g.S.System in
     let path = c.args.path.now in
-    let name = c.folder_and_name.result.1.now in
-    let named : IsNameOf path name = search rules in
+    let s = g.S.System in
     let seen = c.look_unless_seen.new.self.system in
+    let named : IsNameOf path c.folder_and_name.result.1.now = search rules in
     let now = c.remove_seen.new.system in
-    let folders = s.folders seen in
-    let current = current_of c.look_unless_seen.new.self.open_folders in
-    let folder = c.in_ok-current-in-File.field-0.now.identity in
-    let lies = subst (LiesIn folders path current) c.in-File.is
-    (c.in_ok-status.ensures.lies (c.remove_seen.ensures.earlier honest)) in
-    let a = s.holds seen in
-    let b = s.holds now in
-    gone_if (s.folders now) folders path name current folder a b c.remove_seen.result
-    c.remove_seen.ensures.still named lies c.in_ok-current-in-File.ensures c.remove_seen.ensures.removed
+    gone_if (s.folders now) (s.folders seen) path c.folder_and_name.result.1.now
+    (current_of c.look_unless_seen.new.self.open_folders) c.in_ok-current-in-File.field-0.now.identity (s.holds seen)
+    (s.holds now) c.remove_seen.result c.remove_seen.ensures.still named
+    (lies g (goal.at.returns-in_ok-current-in-File-clause-gone g c).After-remove_seen honest)
+    c.in_ok-current-in-File.ensures c.remove_seen.ensures.removed
 
 pub returns-in_ok-current-in-File-clause-keeps_edits : goal.returns-in_ok-current-in-File-clause-keeps_edits
 returns-in_ok-current-in-File-clause-keeps_edits g c =
@@ -101,7 +108,7 @@ returns-in_ok-current-in-File-clause-keeps_edits g c =
     let due = any_due c.args.self.now.ownership.process (Some c.in_ok-seen-in-File.seen) in
     loses_removed path name c.args.expected due
     c.in_ok-current-in-File.field-0.now.identity _ _ _ _ named c.in_ok-seen-in-File.ensures refl
-    (rw (c.look_unless_seen.ensures.changes, c.look_unless_seen.ensures.kept) at
+    (rw (c.look_unless_seen.ensures.reads.changes, c.look_unless_seen.ensures.reads.kept) at
     (c.remove_seen.ensures.guarded due refl))
 
 pub returns-in_default : goal.returns-in_default
@@ -115,29 +122,27 @@ returns-in_default g c =
     let place = c.in_ok-status.field-0 in
     let free = no_file_of place c.in_default.not-File in
     record {
-      removed = rw c.look_unless_seen.ensures.kept (nothing_removed _ _);
-      still = c.look_unless_seen.ensures.still;
-      place = λ honest. rw c.look_unless_seen.ensures.kept (inl (λ at. refl));
+      removed = rw c.look_unless_seen.ensures.reads.kept (nothing_removed _ _);
+      still = c.look_unless_seen.ensures.reads.still;
+      place = λ honest. rw c.look_unless_seen.ensures.reads.kept (inl (λ at. refl));
       gone = λ honest. always c.nothing.result (IsGone folders held path)
           (gone_reported folders held path current place free (c.in_ok-status.ensures.apart honest free));
       none_left = always c.nothing.result (LeavesNone (λ at. Unit {0}) (s.holds c.args.self.now.system) held)
-          (λ at any. inl (ap (λ f. f at) c.look_unless_seen.ensures.kept));
-      earlier = c.look_unless_seen.ensures.earlier;
+          (λ at any. inl (ap (λ f. f at) c.look_unless_seen.ensures.reads.kept));
+      earlier = c.look_unless_seen.ensures.reads.earlier;
       syncs = ap (λ unsynced. unsynced.syncs) c.look_unless_seen.ensures.unsynced;
       stay_noted = λ folder noted.
           subst (λ unsynced. IsNoted unsynced folder) (sym c.look_unless_seen.ensures.unsynced) noted;
-      noted = λ kept. has_none _ path _ _ c.look_unless_seen.ensures.changes;
+      noted = λ kept. has_none _ path _ _ c.look_unless_seen.ensures.reads.changes;
       new_file = c.look_unless_seen.ensures.new_file;
-      keeps_edits =
-          loses_none path c.args.expected c.args.self.now.ownership.process _ _ _ _
-          c.look_unless_seen.ensures.changes c.look_unless_seen.ensures.kept;
+      keeps_edits = lose_nothing g (goal.at.returns-in_default g c).After-look_unless_seen;
     }
 
 pub returns-in_ok-current-in-File-clause-none_left : goal.returns-in_ok-current-in-File-clause-none_left
 returns-in_ok-current-in-File-clause-none_left g c =
     let s = g.S.System in
     let name = c.folder_and_name.result.1.now in
-    rw (← c.look_unless_seen.ensures.kept)
+    rw (← c.look_unless_seen.ensures.reads.kept)
     (none_by_removal (place_in c.in_ok-current-in-File.field-0.now.identity name)
     (s.holds c.look_unless_seen.new.self.system)
     (s.holds c.remove_seen.new.system) c.remove_seen.result c.remove_seen.ensures.removed)

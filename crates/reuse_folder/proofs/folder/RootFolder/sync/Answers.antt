@@ -12,7 +12,7 @@ returns-clause-clears g c =
     let last = c.sync.new.system in
     clears_kept (s.honest mid) (s.honest last) (s.folders mid) (s.folders last) (s.changes first) (s.changes mid)
     (s.changes last) (s.holds first) (s.holds mid) (s.holds last)
-    c.sync.ensures.earlier c.sync.ensures.still c.sync.ensures.changes c.sync.ensures.kept c.clear_left.ensures.clears
+    c.sync.ensures.enters.reads.earlier c.sync.ensures.enters.reads.still c.sync.ensures.enters.reads.changes c.sync.ensures.enters.reads.kept c.clear_left.ensures.clears
 
 pub returns-clause-synced : goal.returns-clause-synced
 returns-clause-synced g c kept honest =

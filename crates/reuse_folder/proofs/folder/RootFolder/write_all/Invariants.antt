@@ -13,8 +13,8 @@ use Rattle.reuse_folder.proofs.folder.RootFolder.write_all.Given as goal
 abbrev pub invariant-loop-made : goal.invariant-loop-made
 invariant-loop-made g l =
     let s = g.S.System in
-    let first = l.fn.self.system in
     let now = l.self.system in
+    let first = l.fn.self.system in
     record {
       few : l.made ≤ length l.writes;
       reads : l.seen.reads ≡ l.fn.self.reads;
