@@ -8,6 +8,7 @@ use Rattle.reuse_system.specs.FileStates.{StateFile, FileState, place_in}
 use Rattle.reuse_system.specs.Folders.{Folders, folder_above, file_at, IsBarred}
 use Rattle.reuse_system.specs.Ignored.{is_ignored}
 use Rattle.reuse_system.specs.Names.{IsNameOf}
+use Rattle.reuse_system.specs.declared.place.FileStatus.{FileStatus}
 use Rattle.reuse_system.specs.declared.place.Identity.{Identity}
 use Rattle.reuse_system.specs.declared.place.Place.{Place}
 use Rattle.reuse_system.specs.declared.place.Place.TheVariants as place
@@ -49,6 +50,12 @@ abbrev pub IsReadAt : Folders → FileState → List ℕ → ℕ → Reading →
 IsReadAt folders held path limit answer =
     (answer ≡ reading_of (option_map (λ one. one.bytes) (file_at folders held path)) limit)
     ⊎ (IsHidden folders held path × (answer ≡ reading.Absent))
+
+-- where a regular file was found at the path, it stands in this folder; else there is none to be read
+abbrev pub IsFoundAt : Folders → FileState → List ℕ → Option Identity → Option FileStatus → Type 0
+IsFoundAt folders held path folder (Some status) =
+    LiesIn folders path folder (place.File status) × IsPlaceAt folders held path folder (place.File status)
+IsFoundAt folders held path folder None = (limit : ℕ) → IsReadAt folders held path limit reading.Absent
 
 -- so it is; but what stands there and is neither a file nor a folder may be reported as a file that is too long
 abbrev pub IsReadWith : Foreign → Folders → FileState → List ℕ → ℕ → Reading → Type 0

@@ -1,9 +1,9 @@
 //! Notes of the writes that a store was asked for, each with its answer.
 ghost use Rattle.std.specs.Prelude.{◌≡◌, ◌<◌, ◌+◌, IfErr, is_ok, length, min};
 ghost use Rattle.reuse_folder.specs.Batches.{made_of};
+ghost use Rattle.reuse_folder.specs.Reported.{IsReported};
 ghost use Rattle.reuse_store.specs.Asked.{IsLater, IsPut, IsRemoval, IsWrite, AreWrites};
 ghost use Rattle.reuse_change.specs.Parts.{joined};
-ghost use Rattle.reuse_system.specs.FolderFault.{fault_of_store};
 
 use crate::DiskStore;
 use crate::folder::Stop;
@@ -26,15 +26,10 @@ impl<S: DiskSystem + Drop> DiskStore<S> {
         ensures puts { IsPut ⟦<DiskStore<S> as Store>⟧ path.now (joined parts.entry) self.old self.new result }
         ensures later { IsLater ⟦<DiskStore<S> as Store>⟧ self.old self.new }
         ensures folder { self.new.folder ≡ self.old.folder }
-        ensures done { is_ok result ≡ is_ok answer }
-        ensures ok { answer ≡ Ok tt → result ≡ Ok tt }
-        ensures fails { IfErr answer (λ fault. result ≡ Err (fault_of_store fault)) }
+        ensures answers { IsReported answer result }
     {
         files_stay_good();
-        self.rolled_back.note(path.text(), answer.is_ok());
-        self.failure
-            .note(alloc, StoreRequest::Write, path.text(), &answer);
-        let answer = answer.map_err(StoreFault::from);
+        let answer = self.note_answer(alloc, StoreRequest::Write, path.text(), answer);
         self.calls.note_put_parts(path, parts, &answer);
         answer
     }
@@ -49,17 +44,29 @@ impl<S: DiskSystem + Drop> DiskStore<S> {
         ensures removes { IsRemoval ⟦<DiskStore<S> as Store>⟧ path.now self.old self.new result }
         ensures later { IsLater ⟦<DiskStore<S> as Store>⟧ self.old self.new }
         ensures folder { self.new.folder ≡ self.old.folder }
-        ensures done { is_ok result ≡ is_ok answer }
-        ensures ok { answer ≡ Ok tt → result ≡ Ok tt }
-        ensures fails { IfErr answer (λ fault. result ≡ Err (fault_of_store fault)) }
+        ensures answers { IsReported answer result }
     {
         files_stay_good();
-        self.rolled_back.note(path.text(), answer.is_ok());
-        self.failure
-            .note(alloc, StoreRequest::Remove, path.text(), &answer);
-        let answer = answer.map_err(StoreFault::from);
+        let answer = self.note_answer(alloc, StoreRequest::Remove, path.text(), answer);
         self.calls.note_remove(path, &answer);
         answer
+    }
+
+    /// Notes the answer of a write or a removal at this path, and gives it as a store reports it.
+    fn note_answer(
+        &mut self,
+        alloc: Global,
+        request: StoreRequest,
+        path: &str,
+        answer: Result<(), FolderFault>,
+    ) -> Result<(), StoreFault>
+        ensures calls { self.new.calls ≡ self.old.calls }
+        ensures folder { self.new.folder ≡ self.old.folder }
+        ensures answers { IsReported answer result }
+    {
+        self.rolled_back.note(path, answer.is_ok());
+        self.failure.note(alloc, request, path, &answer);
+        answer.map_err(StoreFault::from)
     }
 
     /// Notes one write and the answer.
@@ -74,8 +81,7 @@ impl<S: DiskSystem + Drop> DiskStore<S> {
         ensures mutations { ⟦<DiskStore<S> as Store>⟧.mutations self.new ≡ ⟦<DiskStore<S> as Store>⟧.mutations
             self.old + 1 }
         ensures folder { self.new.folder ≡ self.old.folder }
-        ensures ok { answer ≡ Ok tt → result ≡ Ok tt }
-        ensures fails { IfErr answer (λ fault. result ≡ Err (fault_of_store fault)) }
+        ensures answers { IsReported answer result }
     {
         match write.file {
             Some(parts) => self.note_put(alloc, write.path, parts, answer),

@@ -21,7 +21,7 @@ use std::alloc::{AllocError, Global};
 const MOST_SEEN: usize = 1_024;
 
 impl<S: DiskSystem + Drop> RootFolder<S> {
-    ghost use Rattle.reuse_folder.specs.FolderReads.{IsPlaceAt, IsReadAt, IsReadIn, IsReadWith, LiesIn};
+    ghost use Rattle.reuse_folder.specs.FolderReads.{IsFoundAt, IsPlaceAt, IsReadAt, IsReadIn, IsReadWith, LiesIn};
     ghost use Rattle.reuse_disk.specs.OpenFolders.{current_of};
     ghost use Rattle.reuse_disk.specs.ReadsOnly.{ReadsOnly};
 
@@ -41,16 +41,43 @@ impl<S: DiskSystem + Drop> RootFolder<S> {
             → IfOk result (IsReadAt (S.folders self.new.system) (S.holds self.new.system) path.now limit) }
         ensures noted { IfOk result (λ _. IsNoted self.new.reads.items path.now) }
     {
-        let Place::File(status) = self.look(alloc, path)? else {
-            self.note_read(alloc, path, None)?;
-            return Ok(Reading::Absent);
-        };
-        self.ownership.note_read(path.text(), status);
-        if let Some(bytes) = self.take_remembered(path, status, limit) {
-            self.note_read(alloc, path, Some(status))?;
-            return Ok(Reading::Found(bytes));
+        match self.find_file(alloc, path)? {
+            Some(status) => match self.take_remembered(path, status, limit) {
+                Some(bytes) => {
+                    self.note_read(alloc, path, Some(status))?;
+                    Ok(Reading::Found(bytes))
+                }
+                None => self.read_seen(alloc, path, limit, status),
+            },
+            None => Ok(Reading::Absent),
         }
-        self.read_seen(alloc, path, limit, status)
+    }
+
+    /// The regular file that is seen at the path. If there is none, that is what was read there.
+    fn find_file(
+        &mut self,
+        alloc: Global,
+        path: &PathText,
+    ) -> Result<Option<FileStatus>, FolderFault>
+        ensures ignored { IsTrue (is_ignored path.now) → IfOk result (λ seen. seen ≡ None) }
+        ensures reads { ReadsOnly S.System self.old.system self.new.system }
+        ensures remembered { IfOk result
+            (λ seen. IfSome seen (λ _. self.new.remembered ≡ self.old.remembered)) }
+        ensures found { S.honest self.new.system
+            → IfOk result (IsFoundAt (S.folders self.new.system) (S.holds self.new.system) path.now
+            (current_of self.new.open_folders)) }
+        ensures noted { IfOk result (λ seen. seen ≡ None → IsNoted self.new.reads.items path.now) }
+    {
+        match self.look(alloc, path)? {
+            Place::File(status) => {
+                self.ownership.note_read(path.text(), status);
+                Ok(Some(status))
+            }
+            _ => {
+                self.note_read(alloc, path, None)?;
+                Ok(None)
+            }
+        }
     }
 
     /// The same; what stands at the path and is neither a file nor a folder is reported so.
@@ -158,14 +185,12 @@ impl<S: DiskSystem + Drop> RootFolder<S> {
             → IfOk result (IsReadAt (S.folders self.new.system) (S.holds self.new.system) path.now limit) }
         ensures noted { IfOk result (λ _. IsNoted self.new.reads.items path.now) }
     {
-        let Place::File(status) = self.look(alloc, path)? else {
-            self.note_read(alloc, path, None)?;
-            return Ok(Reading::Absent);
-        };
-        self.ownership.note_read(path.text(), status);
-        match self.read_anew(alloc, path, limit, status)? {
-            Some(reading) => Ok(reading),
-            None => Err(FolderFault::Device(IoReason::Changing)),
+        match self.find_file(alloc, path)? {
+            Some(status) => match self.read_anew(alloc, path, limit, status)? {
+                Some(reading) => Ok(reading),
+                None => Err(FolderFault::Device(IoReason::Changing)),
+            },
+            None => Ok(Reading::Absent),
         }
     }
 

@@ -30,4 +30,5 @@ returns-in_err-removed-clause-opened g c right honest =
     c.close.ensures folders
     (root_stays (s.folders before) folders c.enter_seen.new.self _
     c.remove_folder-removed.ensures.removed.others
-    (c.enter_seen.ensures.enters.opened (c.loop-folder.invariant.4 right) (c.remove_folder-removed.ensures.earlier honest)).0)
+    (c.enter_seen.ensures.enters.opened (c.loop-folder.invariant.4 right)
+    (c.remove_folder-removed.ensures.earlier honest)).0)

@@ -60,7 +60,8 @@ returns-clause-cleared g c opened known =
     let looked = c.look.new.self in
     clears_none (s.honest looked) (s.folders looked) (s.changes first) (s.changes looked) (s.holds first)
     (s.holds looked)
-    (c.look.ensures.changes ∙ c.enter_seen.ensures.enters.reads.changes) (c.look.ensures.kept ∙ c.enter_seen.ensures.enters.reads.kept)
+    (c.look.ensures.changes ∙ c.enter_seen.ensures.enters.reads.changes)
+    (c.look.ensures.kept ∙ c.enter_seen.ensures.enters.reads.kept)
 
 pub returns-clause-gone : goal.returns-clause-gone
 returns-clause-gone g c opened honest =

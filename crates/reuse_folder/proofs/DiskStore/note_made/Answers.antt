@@ -10,7 +10,7 @@ loop-write-preserved g c = (
       c.write-item.result c.write-item.is c.args.self.now c.loop-write.self c.note_write.new.self
       c.loop-write.invariant.0
       (subst (λ r. IsWrite (noted (λ store. store.calls)) c.write-item.result.path.now c.write-item.result.file
-      c.loop-write.self c.note_write.new.self r) (c.note_write.ensures.ok refl) c.note_write.ensures.write),
+      c.loop-write.self c.note_write.new.self r) (c.note_write.ensures.answers.ok refl) c.note_write.ensures.write),
   c.note_write.ensures.folder ∙ c.loop-write.invariant.1,
   grind (arith, c.note_write.ensures.mutations, c.loop-write.invariant.2),
 )

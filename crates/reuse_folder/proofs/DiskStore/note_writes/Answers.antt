@@ -9,7 +9,7 @@ pub returns-in-Err-clause-writes : goal.returns-in-Err-clause-writes
 returns-in-Err-clause-writes g c =
     let store = noted (λ s. s.calls) in
     let lt = subst (λ answer. IfErr answer (λ stop. stop.made < length c.args.writes.now)) c.in-Err.is c.requires in
-    let failed = c.note_write.ensures.fails in
+    let failed = c.note_write.ensures.answers.fails in
     subst (λ r. AreWrites store c.args.writes.now c.args.self.now c.note_write.new.self r) (sym failed)
     (next_fails store c.args.writes.now c.in-Err.stop.made lt c.index-writes-stop.result c.index-writes-stop.is
     c.args.self.now c.note_made-in-Err.new.self c.note_write.new.self c.note_made-in-Err.ensures.writes

@@ -19,7 +19,8 @@ module _ (g : Over) (c : After-make g) where
       (IsNewIn c.args.self.now.folder.identity) is_new _ _ c.make.ensures.changes
 
 pub returns-in_err-temp_file-clause-changes : goal.returns-in_err-temp_file-clause-changes
-returns-in_err-temp_file-clause-changes g c = only_made g (goal.at.returns-in_err-temp_file-clause-changes g c).After-make
+returns-in_err-temp_file-clause-changes g c =
+    only_made g (goal.at.returns-in_err-temp_file-clause-changes g c).After-make
 
 pub returns-in-Err-clause-changes : goal.returns-in-Err-clause-changes
 returns-in-Err-clause-changes g c =

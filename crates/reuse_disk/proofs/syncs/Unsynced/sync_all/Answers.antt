@@ -20,7 +20,8 @@ loop-folder-preserved g c =
     let still = c.sync_folder.ensures.still ∙ c.enter_seen.ensures.enters.reads.still in
     let synced : s.synced after ≡ one ∷ s.synced before =
     c.in_ok-sync_folder.ensures.synced ∙ ap (λ l. one ∷ l) c.enter_seen.ensures.no_sync in
-    let early = λ (honest : s.honest after). c.enter_seen.ensures.enters.reads.earlier (c.sync_folder.ensures.earlier honest) in (
+    let early =
+    λ (honest : s.honest after). c.enter_seen.ensures.enters.reads.earlier (c.sync_folder.ensures.earlier honest) in (
       c.set_last.ensures.failed ∙ was.0,
       enters_looked s _ c.enter_seen.new.system _ _ _ (enters_then s _ before _ _ _ _ was.1 c.enter_seen.ensures.enters)
           (record {

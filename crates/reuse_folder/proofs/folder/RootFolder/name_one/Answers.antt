@@ -1,7 +1,7 @@
 use Rattle.std.proofs.Common.{rules, ◌≡◌, ◌∙◌, ◌∷◌, [], ℕ, Bool, List, Some, false, true, is_ok, Ok, Err, ap}
 use Rattle.std.proofs.Common.{refl, subst, sym}
 use Rattle.reuse_system.specs.TempFiles.{key_of, place_of, IsNewPlace}
-use Rattle.reuse_system.specs.FileStates.{FileState, Place, file, place_in}
+use Rattle.reuse_system.specs.FileStates.{file, place_in}
 use Rattle.reuse_system.specs.Folders.{Folders, folder_above}
 use Rattle.reuse_system.specs.NameChanges.{change_at}
 use Rattle.reuse_system.specs.Names.{IsNameOf, IsSplit}
@@ -232,7 +232,8 @@ returns-clause-keeps_edits g c reads known =
     let at = goal.at.returns-clause-keeps_edits g c in
     let e = s.changes c.discard.new.self in
     let f = s.changes c.write_beside.new.system in
-    lose_then reads (write ∷ []) _ e f (lose_discarded g at.After-discard reads known (lose_naming g at.After-name_temp_file reads known))
+    lose_then reads (write ∷ []) _ e f
+    (lose_discarded g at.After-discard reads known (lose_naming g at.After-name_temp_file reads known))
     (lose_beside reads write c.args.new_file.now.folder.identity c.in_ok-current.field-0.now.identity
     c.folder_and_name.result.1.now _ e f _ _ (named g at.After-name_temp_file) known.1
     (owner_kept c.args.self.now.ownership.process c.args.new.now.seen c.in_ok-current.field-0.now.owner

@@ -31,19 +31,27 @@ returns-in_err-found-clause-keeps_edits g c = (
 
 pub returns-clause-written : goal.returns-clause-written
 returns-clause-written g c =
-    rw (c.make_room.ensures.kept, c.make_room.ensures.syncs, c.take_expected-expected.ensures.kept,
-    c.take_expected-expected.ensures.unsynced) at c.write.ensures.written
+    rw (
+      c.make_room.ensures.kept,
+      c.make_room.ensures.syncs,
+      c.take_expected-expected.ensures.kept,
+      c.take_expected-expected.ensures.unsynced,
+    ) at c.write.ensures.written
 
 pub returns-clause-place : goal.returns-clause-place
 returns-clause-place g c honest =
-    rw (c.make_room.ensures.kept, c.make_room.ensures.syncs, c.take_expected-expected.ensures.kept,
-    c.take_expected-expected.ensures.unsynced) at (c.write.ensures.place honest)
+    rw (
+      c.make_room.ensures.kept,
+      c.make_room.ensures.syncs,
+      c.take_expected-expected.ensures.kept,
+      c.take_expected-expected.ensures.unsynced,
+    ) at (c.write.ensures.place honest)
 
 pub returns-clause-stands : goal.returns-clause-stands
 returns-clause-stands g c honest =
     let s = g.S.System in
-    let put = rw (c.make_room.ensures.syncs, c.take_expected-expected.ensures.unsynced) at (c.write.ensures.place honest)
-    in
+    let put =
+    rw (c.make_room.ensures.syncs, c.take_expected-expected.ensures.unsynced) at (c.write.ensures.place honest) in
     let last = c.write.new.self.system in
     stored_if put.0 (s.folders last) c.args.path.now (joined c.args.parts) (is_kept c.args.self.now.unsynced.syncs)
     (s.holds c.make_room.new.self.system) (s.holds last) c.write.result put.1

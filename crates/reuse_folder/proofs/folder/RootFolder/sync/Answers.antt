@@ -10,9 +10,10 @@ returns-clause-clears g c =
     let first = c.args.self.now.system in
     let mid = c.clear_left.new.self.system in
     let last = c.sync.new.system in
+    let reads = c.sync.ensures.enters.reads in
     clears_kept (s.honest mid) (s.honest last) (s.folders mid) (s.folders last) (s.changes first) (s.changes mid)
     (s.changes last) (s.holds first) (s.holds mid) (s.holds last)
-    c.sync.ensures.enters.reads.earlier c.sync.ensures.enters.reads.still c.sync.ensures.enters.reads.changes c.sync.ensures.enters.reads.kept c.clear_left.ensures.clears
+    reads.earlier reads.still reads.changes reads.kept c.clear_left.ensures.clears
 
 pub returns-clause-synced : goal.returns-clause-synced
 returns-clause-synced g c kept honest =

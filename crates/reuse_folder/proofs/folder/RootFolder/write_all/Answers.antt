@@ -67,7 +67,8 @@ loop-made-preserved g c =
           let all = so_far.made (c.write_some.ensures.earlier honest) new_files one.0 in (
             all.0,
             disks_add new_files is writes k count (disk_of s c.args.self.now.system) before now all.1 one.1,
-            λ done. tidy_twice new_files (s.holds c.args.self.now.system) before.files now.files (all.2 refl) (one.2 refl),
+            λ done.
+                tidy_twice new_files (s.holds c.args.self.now.system) before.files now.files (all.2 refl) (one.2 refl),
           );
       noted = λ kept. noted_so_far g at kept;
       keeps_edits = lose_so_far g at;
