@@ -24,7 +24,7 @@ use Rattle.reuse_amend.proofs.WrittenLemmas.{until_reaches}
 
 -- ---- notices that stay
 
-notice-stays : (a : Amendments) (text : List ℕ) → IsOtherNotice a text → Amending.notice_amended a text ≡ Some text
+pub notice-stays : (a : Amendments) (text : List ℕ) → IsOtherNotice a text → Amending.notice_amended a text ≡ Some text
 notice-stays a text other =
     let p = other.parts in
     ap (λ o. option_map_or (λ q. Amending.holder_amended a q (Amending.text_amended a.replaced_holders q.holder)) o

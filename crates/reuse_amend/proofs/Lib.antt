@@ -35,3 +35,4 @@ pub mod AdditionLemmas
 pub mod AddedLemmas
 pub mod AmendedAdditionLemmas
 pub mod InPlaceLemmas
+pub mod NamedLemmas

@@ -61,7 +61,7 @@ pieces-join text = pieces_from-join 0 text
 
 -- ---- licences
 
-pieces-stay : (r : Replacement) (behind : Bool) (pieces : List (List ℕ × Token))
+pub pieces-stay : (r : Replacement) (behind : Bool) (pieces : List (List ℕ × Token))
     → AllByRecursion (λ p. p.0 ≢ r.old) pieces → Amending.pieces_replaced r behind pieces ≡ together pieces
 unfolding Amending.pieces_replaced
 pieces-stay r behind [] h = refl

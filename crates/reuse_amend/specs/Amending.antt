@@ -93,6 +93,10 @@ concerns a holder = option_map_or (λ only. bytes_eq holder only) a.holder true
 abbrev pub if_concerned : {X : Type 0} → Amendments → List ℕ → Option X → Option X
 if_concerned a holder o = if concerns a holder then o else None
 
+-- what becomes of one contributor: none where it is removed
+abbrev pub contributor_alone : Amendments → List ℕ → Option (List ℕ)
+contributor_alone a value = unless_removed a.removed_contributors (text_amended a.replaced_contributors value)
+
 -- ---- notices
 
 -- years from one to another, as an addition writes them

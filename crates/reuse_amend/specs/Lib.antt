@@ -6,6 +6,7 @@ pub mod Amending
 pub mod AmendmentViews
 pub mod Unnamed
 pub mod InPlace
+pub mod Named
 pub mod Searched
 pub mod Settled
 pub mod Meanings

@@ -11,7 +11,8 @@ ghost use Rattle.reuse_notice.specs.Expressions.{IsExpressionText};
 ghost use Rattle.reuse_amend.specs.Pieces.{pieces_of, is_identifier};
 ghost use Rattle.reuse_amend.specs.Meanings.{Meaning, Means, meaning_replaced};
 ghost use Rattle.reuse_amend.specs.Amending.{amended, licence_replaced, licence_amended, text_amended, notice_amended};
-ghost use Rattle.reuse_amend.specs.Amending.{parts_amended};
+ghost use Rattle.reuse_amend.specs.Amending.{parts_amended, licence_alone, contributor_alone};
+ghost use Rattle.reuse_amend.specs.Named.{names_licence, names_contributor, names_notice};
 ghost use Rattle.reuse_amend.specs.YearSpans.{spans_of};
 ghost use Rattle.reuse_amend.specs.NoticeParts.{Parts, parts_text, parts_of};
 ghost use Rattle.reuse_amend.specs.InPlace.{IsChangedInPlace, EachIncludes, goes_on, IsReadAlike, addition_amended};
@@ -40,6 +41,17 @@ pub fn unnamed_information_stays()
     ensures notices { (a : Amendments) (info new : Info) (text : List ℕ) → amended a info ≡ Some new
         → IsOtherNotice a text → Contains info.notices text → Contains new.notices text }
     ensures free { (a : Amendments) (info new : Info) → amended a info ≡ Some new → new.free ≡ info.free }
+{}
+
+/// A value that the amendments don't name stays. So does a notice, if they set neither years nor a
+/// prefix.
+pub fn unnamed_values_stay()
+    ensures licences { (a : Amendments) (value : List ℕ) → names_licence a value ≡ false
+        → licence_alone a value ≡ Some (Some value) }
+    ensures contributors { (a : Amendments) (value : List ℕ) → names_contributor a value ≡ false
+        → contributor_alone a value ≡ Some value }
+    ensures notices { (a : Amendments) (notice : List ℕ) → names_notice a notice ≡ false → a.until ≡ None
+        → a.prefix ≡ None → notice_amended a notice ≡ Some notice }
 {}
 
 /// The parts of a notice, put together, are its text. Amendments change them in place: the holder,

@@ -7,6 +7,7 @@ ghost use Rattle.reuse_amend.specs.Amending.{amended, each_made, licence_amended
 ghost use Rattle.reuse_amend.specs.Amending.{range_text, is_before, span_until, years_until, is_front, front_with};
 ghost use Rattle.reuse_amend.specs.Amending.{parts_amended, holder_amended, notice_amended, notices_amended};
 ghost use Rattle.reuse_amend.specs.Amending.{contributors_amended, licences_amended, licence_alone, unless_removed};
+ghost use Rattle.reuse_amend.specs.Amending.{contributor_alone};
 ghost use Rattle.reuse_amend.specs.AmendmentViews.{IsAnswer};
 
 use crate::amendments::{AmendRefusal, Amendments};
@@ -115,6 +116,22 @@ fn amend_contributors(
     }
     let removed = amendments.removed_contributors.as_slice();
     Ok(Texts::new(texts).without(removed).into_set())
+}
+
+/// What the amendments make of one contributor: none where it is removed.
+///
+/// # Errors
+/// There was no memory.
+pub fn amend_one_contributor(
+    alloc: Global,
+    value: &[u8],
+    amendments: &Amendments,
+) -> Result<Option<Bytes>, AllocError>
+    ensures { IfOk result (λ amended. amended ≡ contributor_alone amendments.now value.now) }
+{
+    let text = amend_text(value, amendments.replaced_contributors.as_slice());
+    let removed = amendments.removed_contributors.as_slice();
+    Ok(unless_removed(Bytes::from_slice(alloc, text)?, removed))
 }
 
 // A whole text replaced by one replacement after the other.

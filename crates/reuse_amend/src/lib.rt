@@ -6,6 +6,7 @@
 mod amend_laws;
 mod amending;
 mod amendments;
+mod named;
 mod notice_parts;
 mod replacements;
 mod replacing;
@@ -16,9 +17,10 @@ pub use amend_laws::{
     additions_stay_additions, amended_years_include_the_old, expressions_have_one_meaning,
     licences_are_their_pieces, notices_are_changed_in_place, replaced_licences_keep_their_meaning,
     replacing_texts_are_plain, second_amendments_change_nothing, the_same_is_said_by_the_same,
-    unnamed_information_stays, written_notices_are_read, years_are_read_alike,
+    unnamed_information_stays, unnamed_values_stay, written_notices_are_read, years_are_read_alike,
 };
-pub use amending::{amend_info, amend_one_licence, amend_one_notice};
+pub use amending::{amend_info, amend_one_contributor, amend_one_licence, amend_one_notice};
 pub use amendments::{AmendRefusal, Amendments};
+pub use named::{names_contributor, names_licence, names_notice};
 pub use replacements::{Replacement, Replacements};
-pub use searched::may_change;
+pub use searched::{holds_named, may_change};

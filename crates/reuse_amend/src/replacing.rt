@@ -16,7 +16,7 @@ use reuse_text::Bytes;
 use std::alloc::{AllocError, Global};
 
 // The bytes of the token, or of the stray byte, at the front.
-fn front_token(bytes: &[u8]) -> &[u8]
+pub(crate) fn front_token(bytes: &[u8]) -> &[u8]
     requires { 0 < length bytes.now }
     ensures { result.now ≡ take (token_len bytes.now) bytes.now }
 {
@@ -24,7 +24,7 @@ fn front_token(bytes: &[u8]) -> &[u8]
 }
 
 // The bytes behind it.
-fn after_token(bytes: &[u8]) -> &[u8]
+pub(crate) fn after_token(bytes: &[u8]) -> &[u8]
     requires { 0 < length bytes.now }
     ensures rest { result.now ≡ drop (token_len bytes.now) bytes.now }
     ensures some { 0 < token_len bytes.now }
@@ -34,7 +34,7 @@ fn after_token(bytes: &[u8]) -> &[u8]
 }
 
 // Whether a whole text is one identifier.
-fn is_identifier(text: &[u8]) -> bool
+pub(crate) fn is_identifier(text: &[u8]) -> bool
     ensures { result ≡ is_identifier text.now }
 {
     if text.is_empty() {

@@ -1,7 +1,7 @@
 //! Whether amendments may change a file, by the bytes of the file alone, so that most files need
 //! not be read further.
 ghost use Rattle.std.specs.Prelude.{◌≡◌};
-ghost use Rattle.reuse_amend.specs.Searched.{holds_any, holds_old, may_change};
+ghost use Rattle.reuse_amend.specs.Searched.{holds_any, holds_old, holds_named, may_change};
 
 use crate::amendments::Amendments;
 use crate::replacements::Replacement;
@@ -13,9 +13,14 @@ use reuse_text::Bytes;
 pub fn may_change(amendments: &Amendments, bytes: &[u8]) -> bool
     ensures { result ≡ may_change amendments.now bytes.now }
 {
-    amendments.until.is_some()
-        || amendments.prefix.is_some()
-        || holds_old(amendments.replaced_licences.as_slice(), bytes)
+    amendments.until.is_some() || amendments.prefix.is_some() || holds_named(amendments, bytes)
+}
+
+/// Whether the bytes hold a text that the amendments replace or remove.
+pub fn holds_named(amendments: &Amendments, bytes: &[u8]) -> bool
+    ensures { result ≡ holds_named amendments.now bytes.now }
+{
+    holds_old(amendments.replaced_licences.as_slice(), bytes)
         || holds_any(amendments.removed_licences.as_slice(), bytes)
         || holds_old(amendments.replaced_holders.as_slice(), bytes)
         || holds_any(amendments.removed_holders.as_slice(), bytes)
