@@ -85,7 +85,7 @@ nothing_recovered = record { number = None; changed = []; skipped = [] }
 
 -- no step is made, and none was begun: nothing changes, or a refusal is no failure
 abbrev pub IsNoStep : Result Response Refusal → Type 0
-IsNoStep (Ok NothingChanged) = Unit {0}
+IsNoStep (Ok (NothingChanged left)) = Unit {0}
 IsNoStep (Ok reply) = ⊥
 IsNoStep (Err refusal) = DidNotFail {A = Response} (Err refusal)
 
@@ -102,14 +102,20 @@ IsOfPlan refusal = Unit {0}
 
 -- what a run can answer: some paths that changed, or that none would; or a refusal that is not of another call
 abbrev pub IsRunAnswer : Result Response Refusal → Type 0
-IsRunAnswer (Ok NothingChanged) = Unit {0}
-IsRunAnswer (Ok (Changed (path ∷ paths))) = Unit {0}
+IsRunAnswer (Ok (NothingChanged left)) = Unit {0}
+IsRunAnswer (Ok (Changed (path ∷ paths) left)) = Unit {0}
 IsRunAnswer (Ok reply) = ⊥
 IsRunAnswer (Err NothingToUndo) = ⊥
 IsRunAnswer (Err NothingToRedo) = ⊥
 IsRunAnswer (Err (NoSuchStep number)) = ⊥
 IsRunAnswer (Err (BadJournal path)) = ⊥
 IsRunAnswer (Err refusal) = Unit {0}
+
+-- a run leaves no path
+abbrev pub LeavesNone : Result Response Refusal → Type 0
+LeavesNone (Ok (NothingChanged left)) = left ≡ []
+LeavesNone (Ok (Changed paths left)) = left ≡ []
+LeavesNone answer = Unit {0}
 
 -- the refusals of the test before an undo or a redo
 abbrev pub IsTestRefusal : Refusal → Type 0

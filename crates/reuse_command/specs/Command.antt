@@ -20,6 +20,11 @@ name_of (Download ids texts) = names.Download
 name_of (AddStyles additions) = names.AddStyles
 name_of (Revert changes touched skip_moved) = names.Revert
 
+-- an amendment, which may leave what it names
+abbrev pub is_amend : Command → Bool
+is_amend (Amend places amendments scope) = true
+is_amend command = false
+
 -- the changes that a revert takes back are those of an entry
 abbrev pub HoldsEntry : Command → Type 0
 HoldsEntry (Revert changes touched skip_moved) = IsEntry changes × HavePaths changes

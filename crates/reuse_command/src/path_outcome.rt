@@ -19,6 +19,8 @@ pub enum PathOutcome {
     Skipped(PathText),
     /// The call is refused so.
     Refused(Refusal),
+    /// The path is left: what tells its licensing would still hold what the call names.
+    Left(PathText),
 }
 
 /// The outcomes of the paths that a call goes through, in their order.

@@ -89,10 +89,11 @@ impl Recovered {
 pub enum Response {
     /// A session was opened.
     Opened,
-    /// A command changed these paths.
-    Changed(Paths),
-    /// A command would have changed nothing.
-    NothingChanged,
+    /// A command changed these paths, and an amendment left those: what tells their licensing still
+    /// holds what it names.
+    Changed { paths: Paths, left: Paths },
+    /// A command would have changed nothing, and an amendment left these paths.
+    NothingChanged { left: Paths },
     /// These paths were taken back.
     Undone(Paths),
     /// These paths were changed again.

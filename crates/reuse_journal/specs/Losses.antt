@@ -91,7 +91,7 @@ AreBetweenStates store earlier held next new =
 -- all that may be left; and else it is safe on the committed state, as it was before.
 abbrev pub Survives : {S : Type 0} → Ghosts S → (State → Type 0) → Earlier → State → Result Response Refusal → S
     → Type 0
-Survives store IsNext earlier held (Ok NothingChanged) new = AllRecoverToTree store earlier held new
+Survives store IsNext earlier held (Ok (NothingChanged left)) new = AllRecoverToTree store earlier held new
 Survives store IsNext earlier held (Ok reply) new = IsSynced store new
 Survives store IsNext earlier held (Err (Failed (Interrupted cause))) new =
     (next : State) × IsNext next × AreBetweenStates store earlier held next new

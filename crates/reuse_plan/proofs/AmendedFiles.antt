@@ -21,7 +21,7 @@ use Rattle.reuse_header.specs.Annotation as header
 use Rattle.reuse_header.specs.Header.{HeaderSpan, header_of, span_in}
 use Rattle.reuse_header.specs.Neighbour.{is_text, neighbour_end}
 use Rattle.reuse_change.specs.Listing.{is_folder}
-use Rattle.reuse_plan.specs.Amend.{style_or_named, style_for, amendment_edit, amend_neighbour, amend_inside}
+use Rattle.reuse_plan.specs.Amend.{style_or_named, style_for, amendment_edit, amend_neighbour}
 use Rattle.reuse_plan.specs.Amend.{amend_covered, table_edit, table_amendment, amended_table, amend_table}
 use Rattle.reuse_plan.specs.Amend.{amended_where, amended_at}
 use Rattle.reuse_plan.specs.Amended.{KeepsOutsideBlock, IsNeighbourAmended, IsFileAmended, HasNoPlace, IsTableAmended}

@@ -1,6 +1,7 @@
 -- The change of a place, by what an amendment makes of its bytes.
-use Rattle.std.proofs.Common.{◌≡◌, ℕ, ◌+◌, ◌≤◌, Bool, true, false, cond, not, List, length, nat_lt, Option, Some, None}
-use Rattle.std.proofs.Common.{IsSome, Result, Ok, Err, refl, ap, ◌∙◌}
+use Rattle.std.proofs.Common.{◌≡◌, ℕ, ◌+◌, ◌≤◌, Bool, true, false, cond, not, List, length, take, drop, nat_lt, Option}
+use Rattle.std.proofs.Common.{Some, None, IsSome, Result, Ok, Err, refl, ap, ◌∙◌}
+use Rattle.std.specs.Str.{bytes_eq}
 use Rattle.reuse_command.specs.Reading.{get, Files}
 use Rattle.std.proofs.lemmas.Bool.{false≢true}
 use Rattle.reuse_toml.specs.TomlAmending.{toml_amendment_of}
@@ -9,8 +10,7 @@ use Rattle.reuse_header.specs.declared.amendment.AmendHeaderRefusal.TheVariants.
 use Rattle.reuse_header.specs.declared.annotation.HeaderRefusal.TheVariants.{NotText, NoSuchForm, HoldsCloser, TooLong}
 use Rattle.reuse_header.specs.declared.annotation.HeaderRefusal.TheVariants.{Unsettled, Memory}
 use Rattle.reuse_header.specs.declared.annotation.Splice.{Splice}
-use Rattle.reuse_style.specs.declared.style.Style.{Style}
-use Rattle.reuse_header.specs.Amendment.{amendment_of, neighbour_amendment_of, amendment_answer, IsExpectedAmendment}
+use Rattle.reuse_header.specs.Amendment.{neighbour_amendment_of, amendment_answer, IsExpectedAmendment}
 use Rattle.reuse_header.specs.Annotation as header
 use Rattle.reuse_header.specs.Neighbour.{is_text}
 use Rattle.reuse_text.specs.declared.TheConstants.{LONGEST_FILE}
@@ -42,6 +42,26 @@ fits_amendment bytes (Err refusal) each = tt
 
 abbrev answered : Option Splice → Result (Option Splice) AmendHeaderRefusal
 answered splice = Ok splice
+
+-- where it answers none, none is made
+pub none_made : (path at file : List ℕ) (expected : Expected) → amendment_answer file expected ≡ answered None
+    → amendment_edit path at file expected ≡ edited_to None
+none_made path at file (Ok None) e = refl
+none_made path at file (Err refusal) e = absurd (cc)
+none_made path at file (Ok (Some edit)) e = by_test (bytes_eq (header.edited file edit) file) e
+  where
+    by_test : (b : Bool) → answered (cond b None (Some (record {
+      at = edit.start;
+      old = take edit.old_len (drop edit.start file);
+      new = header.new_bytes edit;
+    }))) ≡ answered None → cond b (edited_to None) (edited_to (Some (record {
+      path = at;
+      removed = take edit.old_len (drop edit.start file);
+      written = header.new_bytes edit;
+      file = Some (header.edited file edit);
+    }))) ≡ edited_to None
+    by_test true e = refl
+    by_test false e = absurd (cc)
 
 -- where it answers one, that is the one of an edit
 pub some_made : (file : List ℕ) (expected : Expected) (splice : Splice)

@@ -1,7 +1,7 @@
 -- What an annotation gives on a whole tree, and path by path.
 use Rattle.std.proofs.Common.{◌≡◌, inl, inr, ℕ, not, ◌&&◌, List, Option, Some, Result, Ok, Err, refl, sym, ap₂, subst}
 use Rattle.std.proofs.Common.{◌∙◌, ◌↔◌, Bool, true, false, cond, [], ◌∷◌, None, ap, ◌⊎◌, nat_lt, length, zero, suc, map}
-use Rattle.std.proofs.Common.{is_some, arith, Contains}
+use Rattle.std.proofs.Common.{◌++◌, is_some, arith, Contains}
 use Rattle.reuse_notice.specs.declared.adding.Additions.{Additions}
 use Rattle.reuse_notice.proofs.SetLemmas.{In, In-from_contains, Contains-from_in}
 use Rattle.reuse_header.specs.declared.annotation.How.{How}
@@ -45,6 +45,7 @@ use Rattle.reuse_command.specs.Covered.{is_covered}
 use Rattle.reuse_header.specs.declared.harm.Harm.{Harm}
 use Rattle.reuse_plan.specs.Harmed.{harm_in}
 use Rattle.reuse_plan.specs.PathOutcomes.{path_outcome_by, path_outcome_of, limit_path_outcomes, path_outcomes_of}
+use Rattle.reuse_plan.specs.PathOutcomes.{left_paths}
 use Rattle.reuse_command.specs.declared.path_outcome.PathOutcome.{PathOutcome}
 use Rattle.reuse_command.specs.declared.path_outcome.PathOutcome.TheVariants as path_outcome
 use Rattle.reuse_plan.specs.declared.target.Target.{Target}
@@ -335,9 +336,14 @@ to_map report [] p there = absurd there
 to_map report (first ∷ paths) p (inl same) = (zero, omega arith, ap report (sym same))
 to_map report (first ∷ paths) p (inr later) = let c = to_map report paths p later in (suc c.0, omega (arith, c.1), c.2)
 
--- the path outcome reports no refusal
+-- the path outcome reports no refusal, nor that its path is left
 abbrev ReportsNone : PathOutcome → Type 0
-ReportsNone reported = (refusal : Refusal) → path_outcome.Refused refusal ≡ reported → ⊥
+ReportsNone reported = ((refusal : Refusal) → path_outcome.Refused refusal ≡ reported → ⊥)
+    × ((path : List ℕ) → path_outcome.Left path ≡ reported → ⊥)
+
+no_left : (paths : List (List ℕ)) (reported : PathOutcome) → ReportsNone reported
+    → Contains (map path_outcome.Left paths) reported → ⊥
+no_left paths reported none c = let found = from_map path_outcome.Left paths reported c in none.1 found.0 found.2
 
 no_limit : (given : Result (List Edit) Refusal) (reported : PathOutcome) → ReportsNone reported
     → Contains (limit_path_outcomes given) reported → ⊥
@@ -345,7 +351,7 @@ no_limit (Err refusal) reported none c = none_in reported c
 no_limit (Ok edits) reported none c = by_size (is_too_many edits) c
   where
     by_size : (b : Bool) → Contains (cond b (path_outcome.Refused refusals.TooMany ∷ []) []) reported → ⊥
-    by_size true c = none refusals.TooMany (in_one (path_outcome.Refused refusals.TooMany) reported c)
+    by_size true c = none.0 refusals.TooMany (in_one (path_outcome.Refused refusals.TooMany) reported c)
     by_size false c = none_in reported c
 
 module _ (places : List Place) (additions : Additions) (how : How) (scope : Scope) (own : OwnKinds) (tree : Files)
@@ -374,29 +380,37 @@ module _ (places : List Place) (additions : Additions) (how : How) (scope : Scop
   abbrev limit : List PathOutcome
   limit = limit_path_outcomes (edits_of (Annotate places additions how scope) tree)
 
+  abbrev of_paths : List PathOutcome
+  of_paths = map path_outcome_of (annotations_by places additions how scope tree (styles_in tree))
+
+  abbrev left : List PathOutcome
+  left = map path_outcome.Left (left_paths (Annotate places additions how scope) tree)
+
   reported_at : (reported : PathOutcome) → ReportsNone reported
       → Contains (path_outcomes_of (Annotate places additions how scope) tree) reported
       → (p : List ℕ) × In p (selected_paths scope places tree) × (report p ≡ reported)
   unfolding path_outcomes_of
   reported_at reported none c =
-      elim (Contains-append_cases
-      (map path_outcome_of (annotations_by places additions how scope tree (styles_in tree))) limit reported c) [
-        | inl here ↦
-            by_root (not scope.recursive && has_root places) (subst (λ fs. Contains fs reported) path_outcomes_are here)
-        | inr over ↦ absurd (no_limit (edits_of (Annotate places additions how scope) tree) reported none over)
+      elim (Contains-append_cases (of_paths ++ limit) left reported c) [
+        | inl front ↦ elim (Contains-append_cases of_paths limit reported front) [
+          | inl here ↦ by_root (not scope.recursive && has_root places)
+              (subst (λ fs. Contains fs reported) path_outcomes_are here)
+          | inr over ↦ absurd (no_limit (edits_of (Annotate places additions how scope) tree) reported none over)
+        ]
+        | inr over ↦ absurd (no_left (left_paths (Annotate places additions how scope) tree) reported none over)
       ]
     where
       by_root : (b : Bool) → Contains (cond b (path_outcome.Refused (refusals.IsFolder place.Root) ∷ [])
           (map report (selected_paths scope places tree))) reported
           → (p : List ℕ) × In p (selected_paths scope places tree) × (report p ≡ reported)
-      by_root true h = absurd (none (refusals.IsFolder place.Root)
+      by_root true h = absurd (none.0 (refusals.IsFolder place.Root)
           (in_one (path_outcome.Refused (refusals.IsFolder place.Root)) reported h))
       by_root false h = from_map report (selected_paths scope places tree) reported h
 
   pub skipped_reported : (path : List ℕ) → Contains (path_outcomes_of (Annotate places additions how scope) tree)
       (path_outcome.Skipped path) → Contains (selected_paths scope places tree) path × IsSkippedAt scope own tree path
   skipped_reported path c =
-      let found = reported_at (path_outcome.Skipped path) (λ refusal e. cc) c in
+      let found = reported_at (path_outcome.Skipped path) (λ refusal e. cc, λ other e. cc) c in
       let parts = reported_skipped found.0 path (is_skipped scope own tree found.0)
       (harm_in scope own tree found.0) (annotated_at how scope additions own tree found.0) found.2 in
       subst (λ p. Contains (selected_paths scope places tree) p × IsSkippedAt scope own tree p) parts.0 (
@@ -409,13 +423,13 @@ module _ (places : List Place) (additions : Additions) (how : How) (scope : Scop
       ⊎ Contains (path_outcomes_of (Annotate places additions how scope) tree) (path_outcome.Skipped path)
       → In path (selected_paths scope places tree) × (annotated_at how scope additions own tree path ≡ Ok None)
   left_reported path (inl c) =
-      let found = reported_at (path_outcome.Unchanged path) (λ refusal e. cc) c in
+      let found = reported_at (path_outcome.Unchanged path) (λ refusal e. cc, λ other e. cc) c in
       let parts = reported_unchanged found.0 path (is_skipped scope own tree found.0)
       (harm_in scope own tree found.0) (annotated_at how scope additions own tree found.0) found.2 in
       subst (λ p. In p (selected_paths scope places tree) × (annotated_at how scope additions own tree p ≡ Ok None))
       parts.0 (found.1, parts.1)
   left_reported path (inr c) =
-      let found = reported_at (path_outcome.Skipped path) (λ refusal e. cc) c in
+      let found = reported_at (path_outcome.Skipped path) (λ refusal e. cc, λ other e. cc) c in
       let parts = reported_skipped found.0 path (is_skipped scope own tree found.0)
       (harm_in scope own tree found.0) (annotated_at how scope additions own tree found.0) found.2 in
       subst (λ p. In p (selected_paths scope places tree) × (annotated_at how scope additions own tree p ≡ Ok None))
@@ -449,11 +463,11 @@ module _ (places : List Place) (additions : Additions) (how : How) (scope : Scop
         let reported = to_map report (selected_paths scope places tree) path there in
         let path_outcomes = ap (λ b. cond b (path_outcome.Refused (refusals.IsFolder place.Root) ∷ [])
         (map report (selected_paths scope places tree))) edits.3 in
-        Contains-append_left (map path_outcome_of (annotations_by places additions how scope tree (styles_in tree)))
-        limit (path_outcome.Skipped path)
+        Contains-append_left (of_paths ++ limit) left (path_outcome.Skipped path)
+        (Contains-append_left of_paths limit (path_outcome.Skipped path)
         (subst (λ fs. Contains fs (path_outcome.Skipped path)) (sym (path_outcomes_are ∙ path_outcomes))
         (subst (Contains (map report (selected_paths scope places tree)))
-        (is_reported how scope additions own tree path given.0 given.1 skipped) reported))
+        (is_reported how scope additions own tree path given.0 given.1 skipped) reported)))
 
     pub left_stays : Contains (path_outcomes_of (Annotate places additions how scope) tree)
         (path_outcome.Unchanged path)

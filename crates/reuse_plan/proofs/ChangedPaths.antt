@@ -57,10 +57,11 @@ use Rattle.reuse_plan.proofs.StyleAdding.{addition_is, edits_of_lines, IsMadeOfL
 use Rattle.std.proofs.lemmas.Bool.{false≢true}
 use Rattle.std.proofs.lemmas.List.{append-nil}
 use Rattle.std.proofs.lemmas.List.Elements.{All-contains, Contains-get_or, recursion_from_All, All-from_recursion}
-use Rattle.std.proofs.lemmas.List.Folds.{list_any_at, Any-from_list_any}
+use Rattle.std.proofs.lemmas.List.Folds.{list_any-append, list_any_at, Any-from_list_any}
 use Rattle.std.proofs.lemmas.Slice.Eq.{bytes_eq-Decides}
 use Rattle.reuse_header.specs.declared.harm.Harm.{Harm}
 use Rattle.reuse_plan.specs.PathOutcomes.{path_outcome_by, path_outcome_of, limit_path_outcomes, path_outcomes_of}
+use Rattle.reuse_plan.specs.PathOutcomes.{left_paths}
 use Rattle.reuse_plan.specs.PathEdits.{PathEdit, edits_in}
 use Rattle.reuse_command.specs.declared.path_outcome.PathOutcome.{PathOutcome}
 use Rattle.reuse_command.specs.declared.path_outcome.PathOutcome.TheVariants as path_outcome
@@ -219,6 +220,16 @@ module _
 is_change : List ℕ → PathOutcome → Bool
 is_change path (path_outcome.Changes other harm) = bytes_eq path other
 is_change path reported = false
+
+-- no path that is left changes by that
+none_left : (path : List ℕ) (paths : List (List ℕ)) → list_any (is_change path) (map path_outcome.Left paths) ≡ false
+unfolding is_change
+none_left path [] = refl
+none_left path (other ∷ paths) = none_left path paths
+
+or_false : (b : Bool) → (b || false) ≡ b
+or_false true = refl
+or_false false = refl
 
 is_that : (path : List ℕ) (reported : PathOutcome) → is_change path reported ≡ true
     → (harm : Option Harm) × (reported ≡ path_outcome.Changes path harm)
@@ -389,9 +400,14 @@ of_all command tree after path holds h =
     let limit : limit_path_outcomes (edits_of command tree) ≡ [] =
     ap limit_path_outcomes few.1 ∙ ap (λ b. cond b (path_outcome.Refused refusals.TooMany ∷ []) []) few.3 in
     let reported = map path_outcome_of (path_edits_of command tree) in
-    let same : list_any (is_change path) (reported ++ limit_path_outcomes (edits_of command tree)) ≡ is_among
-    (paths_at few.0) path =
-    ap (λ fs. list_any (is_change path) (reported ++ fs)) limit ∙ ap (list_any (is_change path)) (append-nil reported)
+    let left = map path_outcome.Left (left_paths command tree) in
+    let same : list_any (is_change path) (reported ++ limit_path_outcomes (edits_of command tree) ++ left)
+    ≡ is_among (paths_at few.0) path =
+    ap (λ fs. list_any (is_change path) (reported ++ fs ++ left)) limit
+    ∙ ap (λ fs. list_any (is_change path) (fs ++ left)) (append-nil reported)
+    ∙ list_any-append (is_change path) reported left
+    ∙ ap (λ b. list_any (is_change path) reported || b) (none_left path (left_paths command tree))
+    ∙ or_false (list_any (is_change path) reported)
     ∙ of_paths path (path_edits_of command tree) few.0 few.1 in
     let where_differs = differs_where tree few.0 (each_differs command tree few.0 holds few.1) path in (
       λ e. subst (λ t. get tree path ≢ get t path) few.2 (where_differs.0 (sym same ∙ e)),

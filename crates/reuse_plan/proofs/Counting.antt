@@ -7,15 +7,21 @@ use Rattle.std.proofs.lemmas.List.{take_more}
 use Rattle.std.proofs.lemmas.List.Elements.{filter_map-append}
 use Rattle.reuse_header.specs.declared.harm.Harm.{Harm}
 use Rattle.reuse_change.specs.Files.{Files}
+use Rattle.reuse_change.specs.declared.change.Change.{Change}
 use Rattle.reuse_plan.specs.Counted.{skipped_count, skipped_planned, harmed, harmed_at, harmed_by, harmed_planned}
 use Rattle.reuse_plan.specs.PathOutcomes.{path_outcome_of, path_outcomes_of, limit_path_outcomes}
+use Rattle.reuse_plan.specs.PathOutcomes.{left_at, left_by, left_paths}
 use Rattle.reuse_plan.specs.Outcome.{Edit, edits_of, path_edits_of, is_too_many}
 use Rattle.reuse_plan.specs.PathEdits.{PathEdit}
-use Rattle.reuse_plan.specs.PathPlans.{ArePlansOf, IsPlanOf, path_outcome_planned}
+use Rattle.reuse_plan.specs.PathPlans.{ArePlansOf, IsPlanOf, left_planned, left_planned_by}
+use Rattle.reuse_plan.specs.PathPlans.{path_outcome_planned}
+use Rattle.reuse_command.specs.Command.{is_amend}
 use Rattle.reuse_command.specs.declared.command.Command.{Command}
+use Rattle.reuse_command.specs.declared.command.Command.TheVariants.{Amend}
+use Rattle.std.proofs.lemmas.Bool.{false≢true}
 use Rattle.reuse_command.specs.declared.path_outcome.PathOutcome.{PathOutcome}
 use Rattle.reuse_command.specs.declared.path_outcome.PathOutcome.TheVariants as path_outcome
-use Rattle.reuse_plan.specs.declared.counts.Harmed.{Harmed}
+use Rattle.reuse_plan.specs.Plan.{MakesEdit}
 use Rattle.reuse_plan.specs.declared.path_plan.PathPlan.{PathPlan}
 use Rattle.reuse_plan.specs.declared.path_plan.PathPlan.TheVariants as plan
 use Rattle.reuse_plan.specs.declared.path_plan.Policy.{Policy}
@@ -30,6 +36,8 @@ skips_planned : (plans : List PathPlan) → skipped_planned plans ≡ skipped_co
 skips_planned [] = refl
 skips_planned (plan.Change change harm ∷ plans) = skips_planned plans
 skips_planned (plan.Unchanged path ∷ plans) = skips_planned plans
+skips_planned (plan.Left path None ∷ plans) = skips_planned plans
+skips_planned (plan.Left path (Some change) ∷ plans) = skips_planned plans
 skips_planned (plan.Skipped path ∷ plans) = ap suc (skips_planned plans)
 skips_planned (plan.Refused refusal ∷ plans) = skips_planned plans
 
@@ -49,6 +57,12 @@ none_behind (path_outcome.Changes path harm ∷ path_outcomes) others none = non
 none_behind (path_outcome.Unchanged path ∷ path_outcomes) others none = none_behind path_outcomes others none
 none_behind (path_outcome.Skipped path ∷ path_outcomes) others none = ap suc (none_behind path_outcomes others none)
 none_behind (path_outcome.Refused refusal ∷ path_outcomes) others none = none_behind path_outcomes others none
+none_behind (path_outcome.Left path ∷ path_outcomes) others none = none_behind path_outcomes others none
+
+-- no file is skipped where it is left
+left_alone : (paths : List (List ℕ)) → skipped_count (map path_outcome.Left paths) ≡ 0
+left_alone [] = refl
+left_alone (path ∷ paths) = left_alone paths
 
 -- the plans of a command skip as many files as its path outcomes say
 pub skips_are : (policy : Policy) (command : Command) (tree : Files) (plans : List PathPlan) → ArePlansOf policy tree
@@ -56,9 +70,11 @@ pub skips_are : (policy : Policy) (command : Command) (tree : Files) (plans : Li
 unfolding path_outcomes_of
 skips_are policy command tree plans are =
     let all = path_edits_of command tree in
+    let limit = limit_path_outcomes (edits_of command tree) in
+    let left = left_paths command tree in
     skips_planned plans ∙ ap skipped_count (path_outcomes_are policy tree all plans are)
-    ∙ sym (none_behind (map path_outcome_of all) (limit_path_outcomes (edits_of command tree))
-    (none_at_limit (edits_of command tree)))
+    ∙ sym (none_behind (map path_outcome_of all ++ limit) (map path_outcome.Left left) (left_alone left)
+    ∙ none_behind (map path_outcome_of all) limit (none_at_limit (edits_of command tree)))
 
 -- ---- files into which a header goes that could break something
 
@@ -77,6 +93,7 @@ module _ (policy : Policy) (tree : Files) where
   harm_is here (plan.Change change (Some harm)) is =
       ap (λ p. Some (harmed p harm)) is.2.path ∙ ap₂ harmed_by is.3 (sym is.1)
   harm_is here (plan.Unchanged path) is = unchanged_whole here.harm ∙ ap (harmed_by here.harm) (sym is.1)
+  harm_is here (plan.Left path change) is = ap (λ h. harmed_by h here.edit) (sym is.4)
   harm_is here (plan.Skipped path) is = unchanged_whole here.harm ∙ ap (harmed_by here.harm) (sym is.1)
   harm_is here (plan.Refused refusal) is = refused_whole here.harm refusal ∙ ap (harmed_by here.harm) (sym is.0)
 
@@ -87,17 +104,56 @@ module _ (policy : Policy) (tree : Files) where
   harms_are (here ∷ all) (one ∷ plans) are = ap₂ cons_option (harm_is here one are.0) (harms_are all plans are.1)
   harms_are all plans are = absurd are
 
--- one plan more
-pub harms_more : (plans : List PathPlan) (i : ℕ) (d : PathPlan) (old new : List Harmed) → i < length plans
-    → old ≡ filter_map harmed_planned (take i plans)
-    → new ≡ old ++ option_to_list (harmed_planned (get_or plans i d))
-    → new ≡ filter_map harmed_planned (take (i + 1) plans)
-harms_more plans i d old new low so is =
+-- ---- paths that amend leaves
+
+module _ (policy : Policy) (tree : Files) where
+  -- what stays, or changes as an edit says, isn't refused
+  not_refused : (path : List ℕ) (left : Bool) (given : Result (Option Edit) Refusal) (change : Option Change)
+      → MakesEdit tree given change → left_by path left given ≡ cond left (Some path) None
+  not_refused path left given None made = ap (left_by path left) made
+  not_refused path left given (Some change) made = ap (left_by path left) made.1
+
+  left_is : (here : PathEdit) (one : PathPlan) → IsPlanOf policy tree here one → left_planned one ≡ left_at here
+  left_is here (plan.Change change harm) is = sym (ap₂ (left_by here.path) is.4 is.1)
+  left_is here (plan.Unchanged path) is = sym (ap₂ (left_by here.path) is.3 is.1)
+  left_is here (plan.Skipped path) is = sym (ap₂ (left_by here.path) is.3 is.1)
+  left_is here (plan.Refused refusal) is = sym (ap (left_by here.path here.left) is.0)
+  left_is here (plan.Left path change) is = sym (not_refused here.path here.left here.edit change is.1
+      ∙ ap (λ b. cond b (Some here.path) None) is.3 ∙ ap (λ p. Some p) (sym is.0))
+
+  -- the plans of paths leave the same of them
+  paths_are : (all : List PathEdit) (plans : List PathPlan) → ArePlansOf policy tree all plans
+      → filter_map left_planned plans ≡ filter_map left_at all
+  paths_are [] [] are = refl
+  paths_are (here ∷ all) (one ∷ plans) are = ap₂ cons_option (left_is here one are.0) (paths_are all plans are.1)
+  paths_are all plans are = absurd are
+
+-- the plans of a command leave what it leaves
+pub left_are : (policy : Policy) (command : Command) (tree : Files) (plans : List PathPlan)
+    → ArePlansOf policy tree (path_edits_of command tree) plans
+    → left_planned_by command plans ≡ left_paths command tree
+unfolding left_paths
+left_are policy (Amend places amendments scope) tree plans are =
+    paths_are policy tree (path_edits_of (Amend places amendments scope) tree) plans are
+left_are policy command tree plans are = refl
+
+pub none_left : (command : Command) (plans : List PathPlan) → is_amend command ≡ false
+    → left_planned_by command plans ≡ []
+none_left (Amend places amendments scope) plans none = absurd (false≢true (sym none))
+none_left command plans none = refl
+
+-- ---- one plan more
+
+-- so it is of what is found in each of the plans
+pub found_more : {A : Type 0} (find : PathPlan → Option A) (plans : List PathPlan) (i : ℕ) (d : PathPlan)
+    (old new : List A) → i < length plans → old ≡ filter_map find (take i plans)
+    → new ≡ old ++ option_to_list (find (get_or plans i d)) → new ≡ filter_map find (take (i + 1) plans)
+found_more find plans i d old new low so is =
     let at = get_or plans i d in
-    is ∙ ap (λ hs. hs ++ option_to_list (harmed_planned at)) so
-    ∙ ap (λ hs. filter_map harmed_planned (take i plans) ++ hs) (sym (of_one (harmed_planned at)))
-    ∙ sym (filter_map-append harmed_planned (take i plans) (at ∷ []))
-    ∙ ap (filter_map harmed_planned) (sym (take_more plans i d low))
+    is ∙ ap (λ fs. fs ++ option_to_list (find at)) so
+    ∙ ap (λ fs. filter_map find (take i plans) ++ fs) (sym (of_one (find at)))
+    ∙ sym (filter_map-append find (take i plans) (at ∷ []))
+    ∙ ap (filter_map find) (sym (take_more plans i d low))
 
 -- ---- sessions
 

@@ -272,11 +272,12 @@ module _ (asked : Annotation) (tree : Files) (path : List ℕ) where
   path_is bytes b here covered beside =
       let place = cond b (aimed InNeighbour) (place_by asked path bytes) in
       let harm = harm_in asked.scope.now (own_of asked) tree path in
-      ap₂ (λ s e. record { path = path; skipped = s; harm = harm; edit = e }) (skipped_is bytes b here beside)
-      (covered_is asked tree path bytes b here covered beside) ∙ ap (λ h. record {
+      ap₂ (λ s e. record { path = path; skipped = s; harm = harm; left = false; edit = e })
+      (skipped_is bytes b here beside) (covered_is asked tree path bytes b here covered beside) ∙ ap (λ h. record {
         path = path;
         skipped = is_skipped_at asked.scope.now tree path bytes place;
         harm = h;
+        left = false;
         edit = edit_by_place asked tree path bytes place;
       }) (harm_is bytes b here beside)
 
@@ -284,7 +285,7 @@ module _ (asked : Annotation) (tree : Files) (path : List ℕ) where
   pub path_beside_is : (file : Option (List ℕ)) → nat_lt 4096 (length (neighbour_of path)) ≡ false
       → get tree (neighbour_of path) ≡ file → path_beside_by asked tree path ≡ path_neighbour_by asked tree path file
   path_beside_is file short is =
-      ap₂ (λ s e. record { path = path; skipped = s; harm = None; edit = e })
+      ap₂ (λ s e. record { path = path; skipped = s; harm = None; left = false; edit = e })
       (ap (λ f. asked.scope.now.skip_existing && has_tagged f) is) (beside_is asked tree path file short is)
 
   -- no file is skipped for a neighbour that isn't there
@@ -292,15 +293,16 @@ module _ (asked : Annotation) (tree : Files) (path : List ℕ) where
     path = path;
     skipped = false;
     harm = None;
+    left = false;
     edit = neighbour_by asked tree path None;
   }
   new_is_unskipped =
-      ap (λ s. record { path = path; skipped = s; harm = None; edit = neighbour_by asked tree path None })
+      ap (λ s. record { path = path; skipped = s; harm = None; left = false; edit = neighbour_by asked tree path None })
       (and_right asked.scope.now.skip_existing false refl)
 
 -- a file that isn't skipped
 abbrev pub unskipped : List ℕ → Option Harm → Result (Option Edit) Refusal → PathEdit
-unskipped path harm edit = record { path = path; skipped = false; harm = harm; edit = edit }
+unskipped path harm edit = record { path = path; skipped = false; harm = harm; left = false; edit = edit }
 
 module _ (asked : Annotation) (path : List ℕ) where
   pub inside_unskipped : (bytes : List ℕ) (style : Style)
@@ -308,7 +310,7 @@ module _ (asked : Annotation) (path : List ℕ) where
       → path_inside_by asked path bytes style ≡ unskipped path (harm_inside style bytes)
       (edit_by path path bytes (header.annotation_of style asked.how.now asked.additions.now bytes))
   inside_unskipped bytes style kept =
-      ap₂ (λ s e. record { path = path; skipped = s; harm = harm_inside style bytes; edit = e }) kept
+      ap₂ (λ s e. record { path = path; skipped = s; harm = harm_inside style bytes; left = false; edit = e }) kept
       (inside_is asked path bytes style kept)
 
   pub beside_unskipped : (tree : Files) (bytes : List ℕ) → nat_lt LONGEST_FILE (length bytes) ≡ false
@@ -316,5 +318,5 @@ module _ (asked : Annotation) (path : List ℕ) where
       → path_neighbour_by asked tree path (Some bytes) ≡ unskipped path None
       (edit_by path (neighbour_of path) bytes (neighbour_annotation_of asked.how.now asked.additions.now bytes))
   beside_unskipped tree bytes short kept =
-      ap₂ (λ s e. record { path = path; skipped = s; harm = None; edit = e }) kept
+      ap₂ (λ s e. record { path = path; skipped = s; harm = None; left = false; edit = e }) kept
       (neighbour_is asked tree path bytes short kept)

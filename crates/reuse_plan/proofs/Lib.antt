@@ -20,6 +20,7 @@ pub mod EditLemmas
 pub mod EditOrder
 pub mod Fitting
 pub mod FoldersAbove
+pub mod LeftLemmas
 pub mod LicenceLemmas
 pub mod Members
 pub mod OneAmendment

@@ -6,7 +6,7 @@ use Rattle.std.specs.Option.{option_or, option_to_list}
 use Rattle.reuse_change.specs.Files.{Files}
 use Rattle.reuse_header.specs.declared.harm.Harm.{Harm}
 use Rattle.reuse_plan.specs.PathOutcomes.{path_outcome_by, path_outcome_of, limit_path_outcomes, path_outcomes_of}
-use Rattle.reuse_plan.specs.PathOutcomes.{first_refusal}
+use Rattle.reuse_plan.specs.PathOutcomes.{first_refusal, left_paths}
 use Rattle.reuse_plan.specs.Outcome.{Edit, edited, is_too_many, path_edits_of, edits_of, tree_after, outcome_of}
 use Rattle.reuse_plan.specs.PathEdits.{PathEdit, or_first, edits_in, edited_at, refused_alone, all_or_none}
 use Rattle.reuse_command.specs.declared.command.Command.{Command}
@@ -44,6 +44,21 @@ first_append (path_outcome.Refused refusal ∷ xs) ys = refl
 first_append (path_outcome.Changes path harm ∷ xs) ys = first_append xs ys
 first_append (path_outcome.Unchanged path ∷ xs) ys = first_append xs ys
 first_append (path_outcome.Skipped path ∷ xs) ys = first_append xs ys
+first_append (path_outcome.Left path ∷ xs) ys = first_append xs ys
+
+-- no path that is left is refused
+none_left : (paths : List (List ℕ)) → first_refusal (map path_outcome.Left paths) ≡ None
+none_left [] = refl
+none_left (path ∷ paths) = none_left paths
+
+or_none : (refusal : Option Refusal) → option_or refusal None ≡ refusal
+or_none None = refl
+or_none (Some refusal) = refl
+
+first_in_front : (path_outcomes : List PathOutcome) (paths : List (List ℕ))
+    → first_refusal (path_outcomes ++ map path_outcome.Left paths) ≡ first_refusal path_outcomes
+first_in_front path_outcomes paths = first_append path_outcomes (map path_outcome.Left paths)
+    ∙ ap (option_or (first_refusal path_outcomes)) (none_left paths) ∙ or_none (first_refusal path_outcomes)
 
 first_one : (path : List ℕ) (skipped : Bool) (harm : Option Harm) (edit : Result (Option Edit) Refusal)
     (path_outcomes : List PathOutcome) (rest : Result (List Edit) Refusal)
@@ -76,9 +91,11 @@ first_of_all : (command : Command) (tree : Files)
     → first_refusal (path_outcomes_of command tree) ≡ refusal_in (outcome_of command tree)
 unfolding path_outcomes_of outcome_of
 first_of_all command tree =
-    first_append (map path_outcome_of (path_edits_of command tree)) (limit_path_outcomes (edits_of command tree))
-    ∙ ap (λ o. option_or o (first_refusal (limit_path_outcomes (edits_of command tree))))
-    (first_of_paths (path_edits_of command tree))
+    let limit = limit_path_outcomes (edits_of command tree) in
+    let left = left_paths command tree in
+    let reported = map path_outcome_of (path_edits_of command tree) in
+    first_in_front (reported ++ limit) left ∙ first_append reported limit
+    ∙ ap (λ o. option_or o (first_refusal limit)) (first_of_paths (path_edits_of command tree))
     ∙ first_of_limit tree (edits_of command tree)
 
 is_err : (given : Result Files Refusal) (refusal : Refusal) → refusal_in given ≡ Some refusal → given ≡ Err refusal
@@ -130,6 +147,10 @@ stops_at : (tree : Files) (done : List PathEdit) (plans : List PathPlan) (here :
     → edits_in (done ++ here ∷ rest) ≡ Err refusal
 stops_at tree [] [] here rest refusal are e = ap (λ r. or_first r (edits_in rest)) e
 stops_at tree (first ∷ done) (plan.Refused other ∷ plans) here rest refusal are e = absurd (cc are.0.2)
+stops_at tree (first ∷ done) (plan.Left path None ∷ plans) here rest refusal are e =
+    ap₂ or_first are.0.1 (stops_at tree done plans here rest refusal are.1 e)
+stops_at tree (first ∷ done) (plan.Left path (Some change) ∷ plans) here rest refusal are e =
+    ap₂ or_first are.0.1.1 (stops_at tree done plans here rest refusal are.1 e)
 stops_at tree (first ∷ done) (one ∷ plans) here rest refusal are e =
     ap₂ or_first are.0.1 (stops_at tree done plans here rest refusal are.1 e)
 stops_at tree done plans here rest refusal are e = absurd are
@@ -199,7 +220,8 @@ alone_as policy tree given all refusal (Err ended) is alone reported (inr same) 
 pub all_are : (policy : Policy) (tree : Files) (changes : List Change) (edits : List Edit)
     → MakesEach tree changes edits → ArePlansOf policy tree (map edited_at edits) (map plain_change changes)
 all_are policy tree [] [] each = tt
-all_are policy tree (c ∷ changes) (e ∷ edits) each = ((e, refl, each.0, refl), all_are policy tree changes edits each.1)
+all_are policy tree (c ∷ changes) (e ∷ edits) each =
+    ((e, refl, each.0, refl, refl), all_are policy tree changes edits each.1)
 all_are policy tree changes edits each = absurd each
 
 pub all_made : (policy : Policy) (tree : Files) (given : Result (List Edit) Refusal) (changes : List Change)
@@ -224,6 +246,11 @@ module _ (policy : Policy) (tree : Files) where
   changes_made (here ∷ all) (plan.Change change harm ∷ plans) are none =
       let rest = changes_made all plans are.1 none in
       (are.0.0 ∷ rest.0, ap₂ or_first are.0.1 rest.1, (are.0.2, rest.2))
+  changes_made (here ∷ all) (plan.Left path (Some change) ∷ plans) are none =
+      let rest = changes_made all plans are.1 none in
+      (are.0.1.0 ∷ rest.0, ap₂ or_first are.0.1.1 rest.1, (are.0.1.2, rest.2))
+  changes_made (here ∷ all) (plan.Left path None ∷ plans) are none = let rest = changes_made all plans are.1 none in
+      (rest.0, ap₂ or_first are.0.1 rest.1, rest.2)
   changes_made (here ∷ all) (plan.Refused refusal ∷ plans) are none = absurd (false≢true (sym none))
   changes_made (here ∷ all) (one ∷ plans) are none = let rest = changes_made all plans are.1 none in
       (rest.0, ap₂ or_first are.0.1 rest.1, rest.2)
@@ -235,6 +262,11 @@ module _ (policy : Policy) (tree : Files) where
   edits_refused [] [] are some = absurd (false≢true some)
   edits_refused (here ∷ all) (plan.Refused refusal ∷ plans) are some =
       (refusal, ap (λ r. or_first r (edits_in all)) are.0.0)
+  edits_refused (here ∷ all) (plan.Left path None ∷ plans) are some = let rest = edits_refused all plans are.1 some in
+      (rest.0, ap₂ or_first are.0.1 rest.1)
+  edits_refused (here ∷ all) (plan.Left path (Some change) ∷ plans) are some =
+      let rest = edits_refused all plans are.1 some in
+      (rest.0, ap₂ or_first are.0.1.1 rest.1)
   edits_refused (here ∷ all) (one ∷ plans) are some = let rest = edits_refused all plans are.1 some in
       (rest.0, ap₂ or_first are.0.1 rest.1)
   edits_refused all plans are some = absurd are
@@ -245,6 +277,11 @@ module _ (policy : Policy) (tree : Files) where
       ap₂ path_outcome.Changes is.2.path is.3 ∙ sym (ap (path_outcome_by here.path here.skipped here.harm) is.1)
   path_outcome_is here (plan.Unchanged path) is =
       ap path_outcome.Unchanged is.0 ∙ sym (ap₂ (λ s. path_outcome_by here.path s here.harm) is.2 is.1)
+  path_outcome_is here (plan.Left path None) is =
+      ap path_outcome.Unchanged is.0 ∙ sym (ap₂ (λ s. path_outcome_by here.path s here.harm) is.2 is.1)
+  path_outcome_is here (plan.Left path (Some change)) is =
+      ap₂ path_outcome.Changes is.1.2.path (sym is.4)
+      ∙ sym (ap (path_outcome_by here.path here.skipped here.harm) is.1.1)
   path_outcome_is here (plan.Skipped path) is =
       ap path_outcome.Skipped is.0 ∙ sym (ap₂ (λ s. path_outcome_by here.path s here.harm) is.2 is.1)
   path_outcome_is here (plan.Refused refusal) is = sym (ap (path_outcome_by here.path here.skipped here.harm) is.0)

@@ -19,7 +19,7 @@ use Rattle.reuse_toml.specs.TomlAmending.{toml_amendment_of}
 use Rattle.reuse_change.specs.Files.{Files, Clashes}
 use Rattle.reuse_plan.specs.Amend.{amended_table}
 use Rattle.reuse_plan.specs.Annotate.{neighbour_of}
-use Rattle.reuse_plan.specs.Annotated.{Pair, pair_at, HasKind, IsSkipped, IsStyleOf, TakesComment, TakesNeighbour}
+use Rattle.reuse_plan.specs.Annotated.{Pair, pair_at, IsSkipped, IsStyleOf, TakesComment, TakesNeighbour}
 use Rattle.reuse_command.specs.Command.{has_root}
 use Rattle.reuse_plan.specs.Conversion.{dep5_path, toml_path}
 use Rattle.reuse_command.specs.Covered.{is_covered}

@@ -1,17 +1,21 @@
 -- What an amendment that is asked for does, by the styles of its tree, for private clauses.
-use Rattle.std.specs.Prelude.{ℕ, Bool, ◌+◌, ◌≤◌, List, length, Option, Some, None, Result, Ok, Err}
+use Rattle.std.specs.Prelude.{◌≡◌, ℕ, Bool, ◌+◌, ◌-◌, ◌≤◌, List, length, Option, Some, None, Result, Ok, Err}
 use Rattle.reuse_toml.specs.declared.toml_change.TomlSplice.{TomlSplice}
 use Rattle.reuse_toml.specs.declared.toml_values.AmendTomlRefusal.{AmendTomlRefusal}
 use Rattle.reuse_header.specs.Annotation as header
 use Rattle.reuse_style.specs.Kinds.{OwnKinds, kinds_by}
 use Rattle.reuse_header.specs.declared.amendment.AmendHeaderRefusal.{AmendHeaderRefusal}
+use Rattle.reuse_header.specs.declared.annotation.Splice.{Splice}
 use Rattle.reuse_style.specs.declared.style.Style.{Style}
 use Rattle.reuse_text.specs.declared.TheConstants.{LONGEST_FILE}
 use Rattle.reuse_change.specs.Files.{Files}
 use Rattle.reuse_plan.specs.Amend.{amended_at, amend_inside, amend_neighbour, amend_table}
 use Rattle.reuse_plan.specs.Amend.{amend_block, has_no_style_unread, style_for}
 use Rattle.reuse_plan.specs.Edit.{Edit}
+use Rattle.reuse_plan.specs.Left.{is_left, names_behind}
+use Rattle.reuse_plan.specs.Plan.{IsRefusalOf, MakesEdit}
 use Rattle.reuse_plan.specs.declared.annotation.Amendment.{Amendment}
+use Rattle.reuse_plan.specs.declared.left.Amended.{Amended}
 use Rattle.reuse_command.specs.declared.reply.Refusal.{Refusal}
 
 -- what amending makes of a file, which may be nothing
@@ -61,3 +65,25 @@ abbrev pub IsWithin : List ℕ → Result (Option TomlSplice) AmendTomlRefusal �
 IsWithin bytes (Ok (Some change)) = change.at + change.old ≤ length bytes
 IsWithin bytes (Ok None) = Unit {0}
 IsWithin bytes (Err refusal) = Unit {0}
+
+-- ---- what is left
+
+-- what a call makes of a text stands within it, and makes none that is too long
+abbrev pub IsMadeWithin : List ℕ → Result (Option Splice) AmendHeaderRefusal → Type 0
+IsMadeWithin bytes (Ok (Some splice)) = (splice.at + length splice.old ≤ length bytes)
+    × (length bytes - length splice.old + length splice.new ≤ LONGEST_FILE)
+IsMadeWithin bytes (Ok None) = Unit {0}
+IsMadeWithin bytes (Err refusal) = Unit {0}
+
+-- the change of an edit, and whether the path is left, or its refusal
+abbrev pub AnswersAmended : Files → Result (Option Edit) Refusal → Bool → Result Amended Refusal → Type 0
+AnswersAmended tree given left (Ok amended) = MakesEdit tree given amended.change × (amended.is_left ≡ left)
+AnswersAmended tree given left (Err refusal) = IsRefusalOf given refusal
+
+-- so it is of what tells the licensing of a path, which has these bytes
+abbrev pub AnswersText : Amendment → Files → List ℕ → Result (Option Edit) Refusal → Result Amended Refusal → Type 0
+AnswersText asked tree bytes given result =
+    AnswersAmended tree given (names_behind asked.amendments.now bytes given) result
+
+abbrev pub left_by : Amendment → Files → List ℕ → Bool
+left_by asked tree path = is_left asked.amendments.now tree path (amended_by asked tree path)

@@ -1,5 +1,5 @@
 -- What an annotation that is asked for does, by the styles of its tree, for private clauses.
-use Rattle.std.specs.Prelude.{ℕ, ◌&&◌, List, Option, None, is_some, Result}
+use Rattle.std.specs.Prelude.{ℕ, false, ◌&&◌, List, Option, None, is_some, Result}
 use Rattle.std.specs.FinMap.{get}
 use Rattle.reuse_header.specs.Header.{header_of}
 use Rattle.reuse_style.specs.Kinds.{OwnKinds, kinds_by}
@@ -56,6 +56,7 @@ path_by_place asked tree path bytes place =
       path = path;
       skipped = is_skipped_at asked.scope.now tree path bytes place;
       harm = harm_at bytes place;
+      left = false;
       edit = edit_by_place asked tree path bytes place;
     }
 
@@ -66,6 +67,7 @@ path_beside_by asked tree path =
       path = path;
       skipped = asked.scope.now.skip_existing && has_tagged (get tree (neighbour_of path));
       harm = None;
+      left = false;
       edit = beside_by asked tree path;
     }
 
@@ -76,6 +78,7 @@ path_neighbour_by asked tree path file =
       path = path;
       skipped = asked.scope.now.skip_existing && has_tagged file;
       harm = None;
+      left = false;
       edit = neighbour_by asked tree path file;
     }
 
@@ -86,5 +89,6 @@ path_inside_by asked path bytes style =
       path = path;
       skipped = asked.scope.now.skip_existing && is_some (header_of style bytes);
       harm = harm_inside style bytes;
+      left = false;
       edit = inside_by asked path bytes style;
     }

@@ -1,5 +1,6 @@
 -- What a call counts while it plans: how many of the path outcomes of its command are of files that are skipped, what
--- of its choice of files came to nothing, and what the headers could break that it puts into files without one.
+-- of its choice of files came to nothing, what the headers could break that it puts into files without one, and how
+-- many paths it leaves.
 use Rattle.std.specs.Prelude.{◌≡◌, ℕ, Bool, true, false, List, length, filter, filter_map, Option, None, Some, Result}
 use Rattle.std.specs.Prelude.{Ok}
 use Rattle.reuse_header.specs.declared.harm.Harm.{Harm}
@@ -8,7 +9,7 @@ use Rattle.reuse_change.specs.Files.{Files}
 use Rattle.reuse_plan.specs.Edit.{Edit}
 use Rattle.reuse_plan.specs.Outcome.{path_edits_of}
 use Rattle.reuse_plan.specs.PathEdits.{PathEdit}
-use Rattle.reuse_plan.specs.PathOutcomes.{path_outcomes_of}
+use Rattle.reuse_plan.specs.PathOutcomes.{left_paths, path_outcomes_of}
 use Rattle.reuse_plan.specs.Unused.{AreUnusedBy}
 use Rattle.reuse_command.specs.declared.command.Command.{Command}
 use Rattle.reuse_plan.specs.declared.counts.Counts.{Counts}
@@ -44,6 +45,7 @@ pub record IsCounted (command : Command) (tree : Files) (counts : Counts) : Type
   pub skipped : counts.skipped ≡ skipped_count (path_outcomes_of command tree)
   pub unused : AreUnusedBy command tree counts.unused
   pub harms : counts.harms.items ≡ filter_map harmed_at (path_edits_of command tree)
+  pub left : counts.left ≡ length (left_paths command tree)
 
 -- ---- for private clauses
 

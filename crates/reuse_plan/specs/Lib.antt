@@ -16,6 +16,7 @@ pub mod Edit
 pub mod EditBytes
 pub mod Harmed
 pub mod HeaderFaults
+pub mod Left
 pub mod Licence
 pub mod Outcome
 pub mod OwnFiles

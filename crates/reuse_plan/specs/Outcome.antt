@@ -15,6 +15,7 @@ use Rattle.reuse_plan.specs.Conversion.{conversion_edits}
 use Rattle.reuse_plan.specs.Downloads.{downloads_at}
 pub use Rattle.reuse_plan.specs.Edit.{Edit}
 use Rattle.reuse_plan.specs.Harmed.{harm_in}
+use Rattle.reuse_plan.specs.Left.{is_left}
 use Rattle.reuse_plan.specs.PathEdits.{PathEdit, refused_alone, all_or_none, edits_in}
 use Rattle.reuse_plan.specs.Reverting.{reverted_at}
 use Rattle.reuse_plan.specs.Skipped.{is_skipped}
@@ -76,6 +77,7 @@ annotation_at how scope additions own tree path =
       path = path;
       skipped = is_skipped scope own tree path;
       harm = harm_in scope own tree path;
+      left = false;
       edit = annotated_at how scope additions own tree path;
     }
 
@@ -88,7 +90,13 @@ annotations_by places additions how scope tree (Ok own) =
 -- what amend does at a path: it skips none, and puts no header into a file without one
 abbrev pub amendment_at : Amendments → Scope → OwnKinds → Files → List ℕ → PathEdit
 amendment_at amendments scope own tree path =
-    record { path = path; skipped = false; harm = None; edit = amended_at amendments scope own tree path }
+    record {
+      path = path;
+      skipped = false;
+      harm = None;
+      left = is_left amendments tree path (amended_at amendments scope own tree path);
+      edit = amended_at amendments scope own tree path;
+    }
 
 abbrev pub amendments_by : List Place → Amendments → Scope → Files → Result OwnKinds Refusal → List PathEdit
 amendments_by places amendments scope tree (Err refusal) = refused_alone refusal

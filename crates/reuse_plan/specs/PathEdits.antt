@@ -4,23 +4,24 @@ use Rattle.reuse_header.specs.declared.harm.Harm.{Harm}
 use Rattle.reuse_plan.specs.Edit.{Edit}
 use Rattle.reuse_command.specs.declared.reply.Refusal.{Refusal}
 
--- what is done at a path: an edit, or nothing, or a refusal; whether the file is skipped where nothing is done; and, if
--- the edit puts the file's first header into it, what that could break
+-- what is done at a path: an edit, or nothing, or a refusal; whether the file is skipped where nothing is done; if the
+-- edit puts the file's first header into it, what that could break; and whether amend leaves there what it names
 pub record PathEdit : Type 0 where
   pub path : List ℕ
   pub skipped : Bool
   pub harm : Option Harm
+  pub left : Bool
   pub edit : Result (Option Edit) Refusal
 
 -- a refusal that is of no path
 abbrev pub refused_with : Refusal → PathEdit
-refused_with refusal = record { path = []; skipped = false; harm = None; edit = Err refusal }
+refused_with refusal = record { path = []; skipped = false; harm = None; left = false; edit = Err refusal }
 
 abbrev pub refused_alone : Refusal → List PathEdit
 refused_alone refusal = refused_with refusal ∷ []
 
 abbrev pub edited_at : Edit → PathEdit
-edited_at edit = record { path = edit.path; skipped = false; harm = None; edit = Ok (Some edit) }
+edited_at edit = record { path = edit.path; skipped = false; harm = None; left = false; edit = Ok (Some edit) }
 
 -- edits that are all made, or refused together
 abbrev pub all_or_none : Result (List Edit) Refusal → List PathEdit

@@ -1,5 +1,5 @@
 -- What a call would do, path by path: reported on the whole tree, before anything changes.
-use Rattle.std.specs.Prelude.{◌≡◌, ℕ, Bool, List, [], ◌∷◌, ◌++◌, map, Option, Some, None, Result, Ok, Err}
+use Rattle.std.specs.Prelude.{◌≡◌, ℕ, Bool, List, [], ◌∷◌, ◌++◌, map, filter_map, Option, Some, None, Result, Ok, Err}
 use Rattle.std.specs.Prelude.{if◌then◌else◌}
 use Rattle.reuse_header.specs.declared.harm.Harm.{Harm}
 use Rattle.reuse_change.specs.Files.{Files}
@@ -7,12 +7,15 @@ use Rattle.reuse_change.specs.Change.{path_of}
 use Rattle.reuse_change.specs.declared.change.Change.{Change}
 use Rattle.reuse_change.specs.Entry.{CanBeMade}
 use Rattle.reuse_plan.specs.Edit.{Edit}
-use Rattle.reuse_plan.specs.Outcome.{path_edits_of, edits_of, is_too_many}
+use Rattle.reuse_plan.specs.Outcome.{amendments_by, path_edits_of, edits_of, is_too_many}
 use Rattle.reuse_plan.specs.PathEdits.{PathEdit}
+use Rattle.reuse_plan.specs.TreeStyles.{styles_in}
+use Rattle.reuse_command.specs.declared.command.Command.TheVariants.{Amend}
 use Rattle.reuse_command.specs.declared.command.Command.{Command}
 use Rattle.reuse_change.specs.declared.direction.Direction.{Direction}
 use Rattle.reuse_command.specs.declared.path_outcome.PathOutcome.{PathOutcome}
 use Rattle.reuse_command.specs.declared.path_outcome.PathOutcome.TheVariants.{Changes, Unchanged, Skipped, Refused}
+use Rattle.reuse_command.specs.declared.path_outcome.PathOutcome.TheVariants.{Left}
 use Rattle.reuse_command.specs.declared.reply.Refusal.{Refusal}
 use Rattle.reuse_command.specs.declared.reply.Refusal.TheVariants.{Moved, TooMany}
 
@@ -28,17 +31,32 @@ path_outcome_by path skipped harm (Ok None) = if skipped then Skipped path else 
 abbrev pub path_outcome_of : PathEdit → PathOutcome
 path_outcome_of here = path_outcome_by here.path here.skipped here.harm here.edit
 
+-- the path, where amend leaves it and what it does there isn't refused
+abbrev pub left_by : List ℕ → Bool → Result (Option Edit) Refusal → Option (List ℕ)
+left_by path left (Err refusal) = None
+left_by path left (Ok edit) = if left then Some path else None
+
+abbrev pub left_at : PathEdit → Option (List ℕ)
+left_at here = left_by here.path here.left here.edit
+
 -- ---- commands
+
+-- the paths that an amendment leaves, in their order; no other command leaves any
+unfoldable pub left_paths : Command → Files → List (List ℕ)
+left_paths (Amend places amendments scope) tree =
+    filter_map left_at (amendments_by places amendments scope tree (styles_in tree))
+left_paths command tree = []
 
 -- where nothing else is refused, that the edits are too many together
 abbrev pub limit_path_outcomes : Result (List Edit) Refusal → List PathOutcome
 limit_path_outcomes (Err refusal) = []
 limit_path_outcomes (Ok edits) = if is_too_many edits then Refused TooMany ∷ [] else []
 
--- what a run of a command would do, path by path
+-- what a run of a command would do, path by path, and which paths it would leave
 unfoldable pub path_outcomes_of : Command → Files → List PathOutcome
 path_outcomes_of command tree =
     map path_outcome_of (path_edits_of command tree) ++ limit_path_outcomes (edits_of command tree)
+    ++ map Left (left_paths command tree)
 
 -- the first refusal among path outcomes
 abbrev pub first_refusal : List PathOutcome → Option Refusal

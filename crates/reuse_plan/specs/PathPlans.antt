@@ -1,5 +1,5 @@
 -- What a walk plans for each path, by what is done there; for private clauses.
-use Rattle.std.specs.Prelude.{◌≡◌, true, false, not, ◌&&◌, ◌||◌, nat_lt, Bool, List, [], ◌∷◌, length, filter_map}
+use Rattle.std.specs.Prelude.{◌≡◌, ℕ, true, false, not, ◌&&◌, ◌||◌, nat_lt, Bool, List, [], ◌∷◌, length, filter_map}
 use Rattle.std.specs.Prelude.{Option, Some, None, Result, Ok, Err, if◌then◌else◌}
 use Rattle.std.specs.declared.vec.Vec.{Vec}
 use Rattle.reuse_change.specs.declared.layout.TheConstants.{LARGEST_ENTRY, MOST_CHANGES}
@@ -10,8 +10,10 @@ use Rattle.reuse_change.specs.declared.change.Change.{Change}
 use Rattle.reuse_command.specs.Answer.{IsEarlyFailure, IsOfPlan}
 use Rattle.reuse_plan.specs.Edit.{Edit}
 use Rattle.reuse_plan.specs.PathEdits.{PathEdit, edits_in}
-use Rattle.reuse_plan.specs.Plan.{CarriesOutEdit, IsRefusalOf}
+use Rattle.reuse_plan.specs.Plan.{CarriesOutEdit, IsRefusalOf, MakesEdit}
 use Rattle.reuse_command.specs.Answer.{IsNoFailure}
+use Rattle.reuse_command.specs.declared.command.Command.{Command}
+use Rattle.reuse_command.specs.declared.command.Command.TheVariants.{Amend}
 use Rattle.reuse_command.specs.declared.path_outcome.PathOutcome.{PathOutcome}
 use Rattle.reuse_command.specs.declared.path_outcome.PathOutcome.TheVariants as path_outcome
 use Rattle.reuse_plan.specs.declared.path_plan.PathPlan.{PathPlan}
@@ -27,8 +29,14 @@ use Rattle.reuse_command.specs.declared.reply.Refusal.TheVariants.{TooMany}
 abbrev pub IsPlanOf : Policy → Files → PathEdit → PathPlan → Type 0
 IsPlanOf policy tree here (plan.Change change harm) =
     (edit : Edit) × (here.edit ≡ Ok (Some edit)) × CarriesOutEdit tree change edit × (harm ≡ here.harm)
-IsPlanOf policy tree here (plan.Unchanged path) = (path ≡ here.path) × (here.edit ≡ Ok None) × (here.skipped ≡ false)
-IsPlanOf policy tree here (plan.Skipped path) = (path ≡ here.path) × (here.edit ≡ Ok None) × (here.skipped ≡ true)
+    × (here.left ≡ false)
+IsPlanOf policy tree here (plan.Unchanged path) =
+    (path ≡ here.path) × (here.edit ≡ Ok None) × (here.skipped ≡ false) × (here.left ≡ false)
+IsPlanOf policy tree here (plan.Left path change) =
+    (path ≡ here.path) × MakesEdit tree here.edit change × (here.skipped ≡ false) × (here.left ≡ true)
+    × (here.harm ≡ None)
+IsPlanOf policy tree here (plan.Skipped path) =
+    (path ≡ here.path) × (here.edit ≡ Ok None) × (here.skipped ≡ true) × (here.left ≡ false)
 IsPlanOf policy tree here (plan.Refused refusal) = (here.edit ≡ Err refusal) × IsNoFailure refusal × (policy ≡ Collect)
 
 -- that the path changes so, with no new header in it
@@ -59,14 +67,31 @@ EndsWalk Collect refusal = IsEarlyFailure refusal
 
 -- ---- what is made of plans
 
+-- of a path that is amended so, and left
+abbrev pub path_outcome_left : List ℕ → Option Change → PathOutcome
+path_outcome_left path None = path_outcome.Unchanged path
+path_outcome_left path (Some change) = path_outcome.Changes (path_of change) None
+
 abbrev pub path_outcome_planned : PathPlan → PathOutcome
 path_outcome_planned (plan.Change change harm) = path_outcome.Changes (path_of change) harm
 path_outcome_planned (plan.Unchanged path) = path_outcome.Unchanged path
+path_outcome_planned (plan.Left path change) = path_outcome_left path change
 path_outcome_planned (plan.Skipped path) = path_outcome.Skipped path
 path_outcome_planned (plan.Refused refusal) = path_outcome.Refused refusal
 
+-- of the plans, those that leave their path
+abbrev pub left_planned : PathPlan → Option (List ℕ)
+left_planned (plan.Left path change) = Some path
+left_planned other = None
+
+-- of the plans of a command
+abbrev pub left_planned_by : Command → List PathPlan → List (List ℕ)
+left_planned_by (Amend places amendments scope) plans = filter_map left_planned plans
+left_planned_by command plans = []
+
 abbrev pub change_planned : PathPlan → Option Change
 change_planned (plan.Change change harm) = Some change
+change_planned (plan.Left path change) = change
 change_planned other = None
 
 abbrev pub changes_planned : List PathPlan → List Change

@@ -1,6 +1,6 @@
 -- Reverting: the changes of a step are taken back on whatever the tree is now.
-use Rattle.std.specs.Prelude.{ℕ, ◌-◌, nat_le, nat_eq, Bool, true, not, ◌&&◌, ◌||◌, List, length, drop, Option, Some}
-use Rattle.std.specs.Prelude.{None, Result, Ok, Err, if◌then◌else◌}
+use Rattle.std.specs.Prelude.{ℕ, ◌-◌, nat_le, nat_eq, Bool, true, false, not, ◌&&◌, ◌||◌, List, length, drop, Option}
+use Rattle.std.specs.Prelude.{Some, None, Result, Ok, Err, if◌then◌else◌}
 use Rattle.std.specs.List.{starts_with}
 use Rattle.std.specs.Str.{bytes_eq}
 use Rattle.std.specs.FinMap.{get}
@@ -83,5 +83,6 @@ reverted_at touched skip_moved tree change = record {
   path = path_of change;
   skipped = skip_moved;
   harm = None;
+  left = false;
   edit = back_or_refused skip_moved (path_of change) (taken_back_unless touched tree change);
 }

@@ -1,11 +1,11 @@
 //! What amend does at a path. What it works on is a table, a file `REUSE.toml`, or the neighbour of
 //! a file where that is there, else the header block of the file itself. It makes nothing.
-ghost use Rattle.std.specs.Prelude.{◌≡◌, ◌≤◌, ℕ, List, IfErr, Some, length, nat_lt, false};
+ghost use Rattle.std.specs.Prelude.{◌≡◌, ◌≤◌, ℕ, List, IfErr, Ok, Some, None, length, nat_lt, false};
 ghost use Rattle.reuse_text.specs.declared.TheConstants.{LONGEST_FILE};
 ghost use Rattle.reuse_command.specs.Reading.{get, reading_of, tree_of, Files, IsOfPlan, ReadsAlone};
 ghost use Rattle.reuse_plan.specs.Amend.{has_no_style, style_of_kind};
 ghost use Rattle.reuse_plan.specs.AmendmentPlan.{amended_by, beside_by, has_no_style_by, inside_by, style_by};
-ghost use Rattle.reuse_plan.specs.AmendmentPlan.{block_by, table_by};
+ghost use Rattle.reuse_plan.specs.AmendmentPlan.{block_by, left_by, table_by, AnswersAmended, AnswersText};
 ghost use Rattle.reuse_plan.specs.Annotate.{neighbour_of};
 ghost use Rattle.reuse_plan.specs.Plan.{AnswersEdit};
 ghost use Rattle.reuse_command.specs.Refused.{IsNoFault};
@@ -13,7 +13,8 @@ ghost use Rattle.reuse_plan.specs.Shown.{ShowsPair};
 
 use crate::annotation::Amendment;
 use crate::covered::{is_covered, is_table};
-use crate::edit::{amendment_by, table_change_by};
+use crate::edit::{amended_as, table_change_by};
+use crate::left::{Amended, still_names, still_names_read};
 use crate::place::{absent_refusal, neighbour_path, short_bytes};
 use crate::target_choice::neighbour_of;
 use reuse_change::{Change, PathText, is_among};
@@ -24,23 +25,30 @@ use reuse_text::{LONGEST_FILE, is_text};
 use reuse_toml::amend_toml;
 use std::alloc::Global;
 
-/// The change that amend makes at a path, if there is one. `paths` show it and its neighbour.
+/// What amend does at a path. `paths` show it and its neighbour.
 pub(crate) fn plan_amended<S: Store>(
     alloc: Global,
     store: &mut S,
     paths: &[PathText],
     path: &PathText,
     asked: &Amendment<'_, '_>,
-) -> Result<Option<Change>, Refusal>
-    ensures edit { S.honest store.new → ShowsPair paths.now (tree_of (S.files store.old)) path.now → AnswersEdit
-        (tree_of (S.files store.old)) (amended_by asked.now (tree_of (S.files store.old)) path.now) result }
+) -> Result<Amended, Refusal>
+    ensures edit { S.honest store.new → ShowsPair paths.now (tree_of (S.files store.old)) path.now → AnswersAmended
+        (tree_of (S.files store.old)) (amended_by asked.now (tree_of (S.files store.old)) path.now)
+        (left_by asked.now (tree_of (S.files store.old)) path.now) result }
     ensures asks { ReadsAlone S.Store IsOfPlan store.old store.new result }
 {
     if !is_among(paths, path.as_bytes()) {
         return Err(absent_refusal(alloc, paths, path)?);
     }
     if is_table(path.as_bytes()) {
-        return plan_table(alloc, store, path, asked);
+        return match plan_table(alloc, store, path, asked) {
+            Ok(change) => Ok(Amended {
+                change,
+                is_left: false,
+            }),
+            Err(refusal) => Err(refusal),
+        };
     }
     if !is_covered(path.as_bytes()) {
         return Err(Refusal::NotCovered(path.try_clone(alloc)?));
@@ -50,7 +58,7 @@ pub(crate) fn plan_amended<S: Store>(
         return plan_in_neighbour(alloc, store, path, asked);
     }
     if has_no_style_unread(path, asked) {
-        return Ok(None);
+        return plan_unstyled(alloc, store, path, asked);
     }
     plan_inside(alloc, store, path, asked)
 }
@@ -123,16 +131,16 @@ fn style_of_kind(kind: Kind<'_>) -> Option<Style<'_>>
     }
 }
 
-// The change of the neighbour of a file, which is there.
+// What is done with the neighbour of a file, which is there.
 fn plan_in_neighbour<S: Store>(
     alloc: Global,
     store: &mut S,
     path: &PathText,
     asked: &Amendment<'_, '_>,
-) -> Result<Option<Change>, Refusal>
+) -> Result<Amended, Refusal>
     ensures edit { S.honest store.new → (bytes : List ℕ)
         → get (tree_of (S.files store.old)) (neighbour_of path.now) ≡ Some bytes
-        → AnswersEdit (tree_of (S.files store.old)) (beside_by asked.now path.now bytes) result }
+        → AnswersText asked.now (tree_of (S.files store.old)) bytes (beside_by asked.now path.now bytes) result }
     ensures asks { ReadsAlone S.Store IsOfPlan store.old store.new result }
 {
     let Some(neighbour) = neighbour_path(alloc, path)? else {
@@ -142,80 +150,111 @@ fn plan_in_neighbour<S: Store>(
     plan_neighbour(alloc, path, &neighbour, asked, reading)
 }
 
-// The change of a neighbour, by what was read of it.
+// What is done with a neighbour, by what was read of it.
 fn plan_neighbour(
     alloc: Global,
     path: &PathText,
     neighbour: &PathText,
     asked: &Amendment<'_, '_>,
     reading: Reading,
-) -> Result<Option<Change>, Refusal>
+) -> Result<Amended, Refusal>
     ensures edit { (tree : Files) (bytes : List ℕ) → neighbour.now ≡ neighbour_of path.now
         → nat_lt 4096 (length (neighbour_of path.now)) ≡ false
         → get tree neighbour.now ≡ Some bytes → reading ≡ reading_of (Some bytes) LONGEST_FILE
-        → AnswersEdit tree (beside_by asked.now path.now bytes) result }
+        → AnswersText asked.now tree bytes (beside_by asked.now path.now bytes) result }
     ensures no_fault { IfErr result IsNoFault }
 {
     let bytes = short_bytes(alloc, path, reading)?;
     // That the edit lies within the file, and makes none that is too long.
     amendments_fit();
     let made = amend_neighbour(alloc, bytes.as_slice(), asked.amendments);
-    amendment_by(alloc, path, neighbour, bytes.as_slice(), made)
+    amended_as(
+        alloc,
+        path,
+        neighbour,
+        bytes.as_slice(),
+        made,
+        asked.amendments,
+    )
 }
 
-// The change of the header block of a file that has no neighbour and may have a style.
+// What is done with a file that has no neighbour and no style, whatever it holds.
+fn plan_unstyled<S: Store>(
+    alloc: Global,
+    store: &mut S,
+    path: &PathText,
+    asked: &Amendment<'_, '_>,
+) -> Result<Amended, Refusal>
+    ensures edit { S.honest store.new → (bytes : List ℕ) → get (tree_of (S.files store.old)) path.now ≡ Some bytes
+        → AnswersText asked.now (tree_of (S.files store.old)) bytes (Ok None) result }
+    ensures asks { ReadsAlone S.Store IsOfPlan store.old store.new result }
+{
+    let reading = store.read(alloc, path, LONGEST_FILE)?;
+    Ok(Amended {
+        change: None,
+        is_left: still_names_read(asked.amendments, &reading),
+    })
+}
+
+// What is done with the header block of a file that has no neighbour and may have a style.
 fn plan_inside<S: Store>(
     alloc: Global,
     store: &mut S,
     path: &PathText,
     asked: &Amendment<'_, '_>,
-) -> Result<Option<Change>, Refusal>
+) -> Result<Amended, Refusal>
     ensures edit { S.honest store.new → (bytes : List ℕ) → get (tree_of (S.files store.old)) path.now ≡ Some bytes
         → has_no_style_by asked.now path.now ≡ false
-        → AnswersEdit (tree_of (S.files store.old)) (inside_by asked.now path.now bytes) result }
+        → AnswersText asked.now (tree_of (S.files store.old)) bytes (inside_by asked.now path.now bytes) result }
     ensures asks { ReadsAlone S.Store IsOfPlan store.old store.new result }
 {
     let reading = store.read(alloc, path, LONGEST_FILE)?;
     plan_reading(alloc, path, asked, reading)
 }
 
-// The change of the header block of a file, by what was read of it.
+// What is done with the header block of a file, by what was read of it.
 fn plan_reading(
     alloc: Global,
     path: &PathText,
     asked: &Amendment<'_, '_>,
     reading: Reading,
-) -> Result<Option<Change>, Refusal>
+) -> Result<Amended, Refusal>
     ensures edit { (tree : Files) (bytes : List ℕ) → get tree path.now ≡ Some bytes
         → has_no_style_by asked.now path.now ≡ false → reading ≡ reading_of (Some bytes) LONGEST_FILE
-        → AnswersEdit tree (inside_by asked.now path.now bytes) result }
+        → AnswersText asked.now tree bytes (inside_by asked.now path.now bytes) result }
     ensures no_fault { IfErr result IsNoFault }
 {
     let bytes = short_bytes(alloc, path, reading)?;
     if !is_text(bytes.as_slice()) {
-        return Ok(None);
+        return Ok(Amended {
+            change: None,
+            is_left: false,
+        });
     }
     match style_of(path, bytes.as_slice(), asked) {
         Some(style) => plan_block(alloc, path, bytes.as_slice(), &style, asked),
-        None => Ok(None),
+        None => Ok(Amended {
+            change: None,
+            is_left: still_names(asked.amendments, bytes.as_slice()),
+        }),
     }
 }
 
-// The change of the header block of a file of these bytes.
+// What is done with the header block of a file of these bytes.
 fn plan_block(
     alloc: Global,
     path: &PathText,
     bytes: &[u8],
     style: &Style<'_>,
     asked: &Amendment<'_, '_>,
-) -> Result<Option<Change>, Refusal>
+) -> Result<Amended, Refusal>
     requires { length bytes.now ≤ LONGEST_FILE }
     ensures edit { (tree : Files) → get tree path.now ≡ Some bytes.now
-        → AnswersEdit tree (block_by asked.now path.now bytes.now (Some style.now)) result }
+        → AnswersText asked.now tree bytes.now (block_by asked.now path.now bytes.now (Some style.now)) result }
     ensures no_fault { IfErr result IsNoFault }
 {
     // That the edit lies within the file, and makes none that is too long.
     amendments_fit();
     let made = amend_file(alloc, bytes, style, asked.amendments);
-    amendment_by(alloc, path, path, bytes, made)
+    amended_as(alloc, path, path, bytes, made, asked.amendments)
 }

@@ -16,6 +16,8 @@ pub struct Counts {
     pub unused: Unused,
     /// The files into which a header goes that could break something, in the order of the walk.
     pub harms: Vec<Harmed>,
+    /// How many paths an amendment leaves.
+    pub left: usize,
 }
 
 /// A file without a header, and what one could break there.
@@ -32,11 +34,13 @@ impl Counts {
         ensures names { result.unused.names ≡ 0 }
         ensures globs { result.unused.globs.items ≡ [] }
         ensures harms { result.harms.items ≡ [] }
+        ensures left { result.left ≡ 0 }
     {
         Counts {
             skipped: 0,
             unused: Unused::none(alloc),
             harms: Vec::new(alloc),
+            left: 0,
         }
     }
 }

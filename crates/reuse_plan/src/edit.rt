@@ -12,10 +12,13 @@ ghost use Rattle.reuse_plan.specs.Amend.{amendment_edit, amend_refused_by, table
 ghost use Rattle.reuse_plan.specs.AmendmentPlan as amending;
 ghost use Rattle.reuse_plan.specs.Annotate.{edit_by};
 ghost use Rattle.reuse_plan.specs.HeaderFaults.{refused_by};
+ghost use Rattle.reuse_plan.specs.Left.{names_behind};
 ghost use Rattle.reuse_plan.specs.Annotations.{Fits, Expected};
 ghost use Rattle.reuse_plan.specs.Plan.{AnswersEdit};
 ghost use Rattle.reuse_command.specs.Refused.{IsNoFault};
 
+use crate::left::{Amended, still_names, still_names_behind};
+use reuse_amend::Amendments;
 use reuse_change::{Change, PathText};
 use reuse_command::amend_fault::AmendFault;
 use reuse_command::failure::Failure;
@@ -73,24 +76,36 @@ pub(crate) fn making_by(
     }
 }
 
-/// The change of a file that is there, of these bytes, by what an amendment makes of it. A refusal
+/// What amend does with a file that is there, of these bytes, by what it makes of it. A refusal
 /// names `path`.
-pub(crate) fn amendment_by(
+pub(crate) fn amended_as(
     alloc: Global,
     path: &PathText,
     at: &PathText,
     file: &[u8],
     made: Result<Option<Splice>, AmendHeaderRefusal>,
-) -> Result<Option<Change>, Refusal>
+    amendments: &Amendments,
+) -> Result<Amended, Refusal>
+    requires { amending.IsMadeWithin file.now made }
     ensures edit { (tree : Files) (expected : amending.Expected) → get tree at.now ≡ Some file.now
         → length file.now ≤ LONGEST_FILE → amending.Fits file.now expected
         → IsExpectedAmendment (amendment_answer file.now expected) made
-        → AnswersEdit tree (amendment_edit path.now at.now file.now expected) result }
+        → amending.AnswersAmended tree (amendment_edit path.now at.now file.now expected)
+        (names_behind amendments.now file.now (amendment_edit path.now at.now file.now expected)) result }
     ensures no_fault { IfErr result IsNoFault }
 {
     match made {
-        Ok(None) => Ok(None),
-        Ok(Some(splice)) => change_by(alloc, path, at, file, Ok(Some(splice))),
+        Ok(None) => Ok(Amended {
+            change: None,
+            is_left: still_names(amendments, file),
+        }),
+        Ok(Some(splice)) => {
+            let is_left = still_names_behind(alloc, amendments, file, &splice)?;
+            match change_by(alloc, path, at, file, Ok(Some(splice))) {
+                Ok(change) => Ok(Amended { change, is_left }),
+                Err(refusal) => Err(refusal),
+            }
+        }
         Err(refusal) => Err(amend_refused_by(alloc, path, refusal)?),
     }
 }

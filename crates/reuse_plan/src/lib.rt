@@ -15,6 +15,7 @@ pub mod counts;
 mod covered;
 mod download;
 mod edit;
+mod left;
 mod licence_file;
 pub mod licence_id;
 mod path_plan;

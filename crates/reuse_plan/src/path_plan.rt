@@ -11,6 +11,7 @@ ghost use Rattle.reuse_command.specs.declared.reply.Refusal.{Refusal};
 ghost use Rattle.reuse_plan.specs.declared.path_plan.Policy.TheVariants.{Stop};
 ghost use Rattle.reuse_command.specs.declared.failure.Failure.TheVariants as failures;
 
+use crate::left::Amended;
 use reuse_change::{Change, PathText};
 use reuse_command::path_outcome::unless_failure;
 use reuse_command::reply::Refusal;
@@ -21,9 +22,18 @@ use std::alloc::{AllocError, Global};
 #[derive(Drop)]
 pub(crate) enum PathPlan {
     /// The path changes so, and what the header could break where that is the file's first.
-    Change { change: Change, harm: Option<Harm> },
+    Change {
+        change: Change,
+        harm: Option<Harm>,
+    },
     /// The file is gone through and stays as it is.
     Unchanged(PathText),
+    /// The path is amended so, if it changes, and what tells its licensing still holds what the
+    /// call names.
+    Left {
+        path: PathText,
+        change: Option<Change>,
+    },
     /// The file is skipped, as that was asked for.
     Skipped(PathText),
     /// The call is refused so.
@@ -38,6 +48,30 @@ impl PathPlan {
         PathPlan::Change { change, harm: None }
     }
 
+    /// The plan of a path that is amended so.
+    pub(crate) fn of_amended(
+        alloc: Global,
+        path: &PathText,
+        amended: Amended,
+    ) -> Result<PathPlan, AllocError>
+        ensures { (tree : Files) (edit : Result (Option Edit) Refusal) → MakesEdit tree edit amended.change
+            → IfOk result (IsPlanOf Stop tree (record {
+              path = path.now;
+              skipped = false;
+              harm = None;
+              left = amended.is_left;
+              edit = edit;
+            })) }
+    {
+        let Amended { change, is_left } = amended;
+        if is_left {
+            let path = path.try_clone(alloc)?;
+            Ok(PathPlan::Left { path, change })
+        } else {
+            PathPlan::of_change(alloc, path, change)
+        }
+    }
+
     /// The plan of a path whose file isn't skipped, by its change, if it changes, with no new
     /// header in the file.
     pub(crate) fn of_change(
@@ -50,6 +84,7 @@ impl PathPlan {
               path = path.now;
               skipped = false;
               harm = None;
+              left = false;
               edit = edit;
             })) }
     {

@@ -3,11 +3,13 @@ ghost use Rattle.std.specs.Prelude.{◌≡◌, ◌++◌, ◌∷◌, [], ◌||◌
 ghost use Rattle.std.specs.Option.{option_to_list};
 ghost use Rattle.std.specs.List.{list_any};
 ghost use Rattle.reuse_plan.specs.PathPlans.{change_planned, changes_planned, path_outcome_planned, is_refusal};
+ghost use Rattle.reuse_plan.specs.PathPlans.{left_planned, left_planned_by};
 ghost use Rattle.reuse_plan.specs.Counted.{harmed_planned, is_skip_planned, skipped_planned};
 
 use crate::counts::Harmed;
 use crate::path_plan::PathPlan;
-use reuse_change::Change;
+use reuse_change::{Change, PathText};
+use reuse_command::command::Command;
 use reuse_command::path_outcome::PathOutcome;
 use std::alloc::{AllocError, Global};
 
@@ -54,6 +56,14 @@ impl Planned {
                 PathOutcome::Changes { path, harm }
             }
             PathPlan::Unchanged(path) => PathOutcome::Unchanged(path),
+            PathPlan::Left { path, change } => match change {
+                None => PathOutcome::Unchanged(path),
+                Some(change) => {
+                    let path = change.path().try_clone(alloc)?;
+                    self.changes.push(change)?;
+                    PathOutcome::Changes { path, harm: None }
+                }
+            },
             PathPlan::Skipped(path) => PathOutcome::Skipped(path),
             PathPlan::Refused(refusal) => {
                 self.is_refused = true;
@@ -80,6 +90,7 @@ fn change_planned(plan: PathPlan) -> Option<Change>
 {
     match plan {
         PathPlan::Change { change, harm: _ } => Some(change),
+        PathPlan::Left { path: _, change } => change,
         _ => None,
     }
 }
@@ -119,6 +130,40 @@ fn push_harm(harms: &mut Vec<Harmed>, alloc: Global, plan: &PathPlan) -> Result<
     {
         let path = change.path().try_clone(alloc)?;
         harms.push(Harmed { path, harm: *harm })?;
+    }
+    Ok(())
+}
+
+/// The paths of the plans of a command that leave them: those of an amendment alone do.
+pub(crate) fn left_planned_by(
+    alloc: Global,
+    command: &Command,
+    plans: &[PathPlan],
+) -> Result<Vec<PathText>, AllocError>
+    ensures { IfOk result (λ left. left.items ≡ left_planned_by command.now plans.now) }
+{
+    match command {
+        Command::Amend { .. } => left_planned(alloc, plans),
+        _ => Ok(Vec::new(alloc)),
+    }
+}
+
+fn left_planned(alloc: Global, plans: &[PathPlan]) -> Result<Vec<PathText>, AllocError>
+    ensures { IfOk result (λ left. left.items ≡ filter_map left_planned plans.now) }
+{
+    let mut left = Vec::new(alloc);
+    for plan in plans {
+        push_left(&mut left, alloc, plan)?;
+    }
+    Ok(left)
+}
+
+// Adds the path of a plan, if that leaves it.
+fn push_left(left: &mut Vec<PathText>, alloc: Global, plan: &PathPlan) -> Result<(), AllocError>
+    ensures { OnOk result (left.new.items ≡ left.old.items ++ option_to_list (left_planned plan.now)) }
+{
+    if let PathPlan::Left { path, change: _ } = plan {
+        left.push(path.try_clone(alloc)?)?;
     }
     Ok(())
 }

@@ -334,7 +334,7 @@ fn plan_path<S: Store>(
     match asked {
         FileTask::Annotation(asked) => plan_annotated(alloc, store, paths, path, asked),
         FileTask::Amendment(asked) => match plan_amended(alloc, store, paths, path, asked) {
-            Ok(change) => Ok(PathPlan::of_change(alloc, path, change)?),
+            Ok(amended) => Ok(PathPlan::of_amended(alloc, path, amended)?),
             Err(refusal) => Err(refusal),
         },
     }

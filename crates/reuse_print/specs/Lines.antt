@@ -8,6 +8,7 @@ use Rattle.std.specs.List.{flat_map}
 use Rattle.reuse_print.specs.RowLines.{AreRowLines, IsRowLine}
 use Rattle.reuse_command.specs.declared.path_outcome.PathOutcome.{PathOutcome}
 use Rattle.reuse_command.specs.declared.path_outcome.PathOutcome.TheVariants.{Changes, Unchanged, Skipped, Refused}
+use Rattle.reuse_command.specs.declared.path_outcome.PathOutcome.TheVariants.{Left}
 use Rattle.reuse_command.specs.declared.reply.Recovered.{Recovered}
 use Rattle.reuse_command.specs.declared.reply.Response.{Response}
 use Rattle.reuse_command.specs.declared.reply.Response.TheVariants as responses
@@ -37,6 +38,7 @@ path_outcome_line names (Changes path harm) = line_of names (codes "would change
 path_outcome_line names (Unchanged path) = line_of names (codes "unchanged") path
 path_outcome_line names (Skipped path) = line_of names (codes "skipped") path
 path_outcome_line names (Refused refusal) = []
+path_outcome_line names (Left path) = line_of names (codes "would leave") path
 
 abbrev pub path_outcome_lines : NameDisplay → List PathOutcome → List ℕ
 path_outcome_lines names path_outcomes = joined (path_outcome_line names) path_outcomes
@@ -68,6 +70,11 @@ abbrev pub reverted_text : NameDisplay → Reverted → List ℕ
 reverted_text names reverted =
     some_paths_text names (codes "changed") reverted.changed ++ lines_of names (codes "skipped") reverted.skipped
 
+-- what a run is printed as: the paths that changed, and then those that an amendment left
+abbrev pub changed_text : NameDisplay → List (List ℕ) → List (List ℕ) → List ℕ
+changed_text names paths left =
+    some_paths_text names (codes "changed") paths ++ lines_of names (codes "left") left
+
 -- what a recovery is printed as: the paths that were rolled back, and then those that were left
 abbrev pub recovered_text : NameDisplay → Recovered → List ℕ
 recovered_text names recovered =
@@ -84,8 +91,8 @@ forgotten_text (number ∷ numbers) = flat_map forgotten_line (number ∷ number
 -- what a reply is printed as; that a session was opened is not reported
 abbrev pub IsResponseText : NameDisplay → Response → List ℕ → Type 0
 IsResponseText names Opened text = text ≡ []
-IsResponseText names (Changed paths) text = text ≡ lines_of names (codes "changed") paths
-IsResponseText names NothingChanged text = text ≡ codes "nothing changed" ++ 10 ∷ []
+IsResponseText names (Changed paths left) text = text ≡ changed_text names paths left
+IsResponseText names (NothingChanged left) text = text ≡ changed_text names [] left
 IsResponseText names (Undone paths) text = text ≡ lines_of names (codes "undone") paths
 IsResponseText names (Redone paths) text = text ≡ lines_of names (codes "redone") paths
 IsResponseText names (Log rows) text = AreRowLines rows text
@@ -95,16 +102,17 @@ IsResponseText names (responses.Reverted reverted) text = text ≡ reverted_text
 IsResponseText names (responses.Forgotten numbers) text = text ≡ forgotten_text numbers
 IsResponseText names (responses.Recovered recovered) text = text ≡ recovered_text names recovered
 
--- whether a path would change
+-- whether a path would change, or be left
 abbrev pub would_change : PathOutcome → Bool
 would_change (Changes path harm) = true
+would_change (Left path) = true
 would_change path_outcome = false
 
--- how many paths a reply reports that changed, or that would change
+-- how many paths a reply reports that changed, or that would change or be left
 abbrev pub path_count : Response → ℕ
 path_count Opened = 0
-path_count (Changed paths) = length paths
-path_count NothingChanged = 0
+path_count (Changed paths left) = length paths
+path_count (NothingChanged left) = 0
 path_count (Undone paths) = length paths
 path_count (Redone paths) = length paths
 path_count (Log rows) = 0

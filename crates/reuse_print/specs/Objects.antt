@@ -15,6 +15,7 @@ use Rattle.reuse_command.specs.Command.{place_text}
 use Rattle.reuse_command.specs.RefusalTexts.{refusal_text}
 use Rattle.reuse_command.specs.declared.path_outcome.PathOutcome.{PathOutcome}
 use Rattle.reuse_command.specs.declared.path_outcome.PathOutcome.TheVariants.{Changes, Unchanged, Skipped, Refused}
+use Rattle.reuse_command.specs.declared.path_outcome.PathOutcome.TheVariants.{Left}
 use Rattle.reuse_command.specs.declared.reply.Refusal.{Refusal}
 use Rattle.reuse_command.specs.declared.reply.Refusal.TheVariants as refusals
 use Rattle.reuse_command.specs.declared.reply.Row.{Row}
@@ -127,6 +128,7 @@ IsPathOutcomeObject (Changes path harm) text = text ≡ object_line (change_outc
 IsPathOutcomeObject (Unchanged path) text = text ≡ object_line (outcome_value (codes "unchanged") path)
 IsPathOutcomeObject (Skipped path) text = text ≡ object_line (outcome_value (codes "skipped") path)
 IsPathOutcomeObject (Refused refusal) text = text ≡ object_line (refused_value refusal)
+IsPathOutcomeObject (Left path) text = text ≡ object_line (outcome_value (codes "left") path)
 
 -- one for each
 abbrev pub ArePathOutcomeObjects : List PathOutcome → List ℕ → Type 0

@@ -4,7 +4,7 @@ ghost use Rattle.std.specs.Io.KnownBytes.{Appends};
 ghost use Rattle.std.specs.List.{flat_map};
 ghost use Rattle.reuse_print.specs.Lines.{line_of, lines_of, path_outcome_line, path_outcome_lines, would_change};
 ghost use Rattle.reuse_print.specs.Lines.{change_lines, kind_word, path_count, IsResponseText, IsShownText};
-ghost use Rattle.reuse_print.specs.Lines.{forgotten_line, forgotten_text, recovered_text, reverted_text};
+ghost use Rattle.reuse_print.specs.Lines.{forgotten_line, forgotten_text, recovered_text, changed_text, reverted_text};
 ghost use Rattle.reuse_print.specs.Lines.{some_paths_text};
 ghost use Rattle.reuse_shown.specs.JoinedTexts.{AppendsSome};
 
@@ -49,10 +49,12 @@ pub fn print_response<W: Write>(out: &mut W, names: NameDisplay, reply: &Respons
     ensures { OnOk result (AppendsSome (W.contents out.old) (W.contents out.new) (IsResponseText names reply.now)) }
 {
     match reply {
-        Response::Changed(paths) => print_paths(out, names, "changed", paths.as_slice()),
+        Response::Changed { paths, left } => {
+            print_changed(out, names, paths.as_slice(), left.as_slice())
+        }
         Response::Undone(paths) => print_paths(out, names, "undone", paths.as_slice()),
         Response::Redone(paths) => print_paths(out, names, "redone", paths.as_slice()),
-        Response::NothingChanged => writeln!(out, "nothing changed"),
+        Response::NothingChanged { left } => print_changed(out, names, &[], left.as_slice()),
         Response::Log(rows) => print_rows(out, rows.as_slice()),
         Response::Preview(path_outcomes) => print_path_outcomes(
             out,
@@ -95,6 +97,7 @@ fn print_path_outcome<W: Write>(
         PathOutcome::Unchanged(path) => print_path(out, names, "unchanged", path),
         PathOutcome::Skipped(path) => print_path(out, names, "skipped", path),
         PathOutcome::Refused(_) => Ok(()),
+        PathOutcome::Left(path) => print_path(out, names, "would leave", path),
     }
 }
 
@@ -124,6 +127,20 @@ pub fn kind_word(change: &Change) -> &'static str
         Change::Drop { .. } => "removed",
         Change::Splice { .. } => "changed",
     }
+}
+
+/// Prints what a run did: the paths that changed, and then those that an amendment left.
+fn print_changed<W: Write>(
+    out: &mut W,
+    names: NameDisplay,
+    paths: &[PathText],
+    left: &[PathText],
+) -> io::Result<()>
+    ensures { OnOk result
+        (Appends (W.contents out.old) (W.contents out.new) (changed_text names paths.now left.now)) }
+{
+    print_some_paths(out, names, "changed", paths)?;
+    print_paths(out, names, "left", left)
 }
 
 /// Prints what a revert did: the paths that changed, and then those that were left.
@@ -189,18 +206,17 @@ fn print_number<W: Write>(out: &mut W, number: u32) -> io::Result<()>
     writeln!(out, "forgot {number}")
 }
 
-/// How many paths a response reports that changed, or that would change.
+/// How many paths a response reports that changed, or that would change or be left.
 pub fn path_count(reply: &Response) -> usize
     ensures { result ≡ path_count reply.now }
 {
     match reply {
-        Response::Changed(paths) | Response::Undone(paths) | Response::Redone(paths) => {
-            paths.as_slice().len()
-        }
+        Response::Changed { paths, left: _ } | Response::Undone(paths) | Response::Redone(paths) =>
+            paths.as_slice().len(),
         Response::Preview(path_outcomes) => change_count(path_outcomes.as_slice()),
         Response::Reverted(reverted) => reverted.changed.as_slice().len(),
         Response::Recovered(recovered) => recovered.changed.as_slice().len(),
-        Response::NothingChanged
+        Response::NothingChanged { .. }
         | Response::Log(_)
         | Response::Shown(_)
         | Response::Opened
@@ -223,5 +239,8 @@ fn change_count(path_outcomes: &[PathOutcome]) -> usize
 fn would_change(path_outcome: &PathOutcome) -> bool
     ensures { result ≡ would_change path_outcome.now }
 {
-    matches!(path_outcome, PathOutcome::Changes { .. })
+    matches!(
+        path_outcome,
+        PathOutcome::Changes { .. } | PathOutcome::Left(_)
+    )
 }

@@ -154,6 +154,7 @@ fn print_path_outcome_object<W: Write>(
         PathOutcome::Unchanged(path) => print_outcome(out, alloc, "unchanged", path),
         PathOutcome::Skipped(path) => print_outcome(out, alloc, "skipped", path),
         PathOutcome::Refused(refusal) => print_refused(out, alloc, refusal),
+        PathOutcome::Left(path) => print_outcome(out, alloc, "left", path),
     }
 }
 

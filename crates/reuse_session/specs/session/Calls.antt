@@ -88,7 +88,7 @@ pub record LeavesRun {S : Type 0} (store : Ghosts S) (command : Command) (when :
   -- head
   pub folder : store.honest (store_of new)
       → IsSameButTwo (next_path old) head_path (folder_of store old) (folder_of store new)
-  pub texts : store.honest (store_of new) → (paths : List (List ℕ)) → result ≡ Ok (Changed paths)
+  pub texts : store.honest (store_of new) → (paths left : List (List ℕ)) → result ≡ Ok (Changed paths left)
       → HasHeadText (memory_of new) (files_of store new)
       × ((entry : Entry) × IsRecordOf command when (tree_of (files_of store old)) entry
       × HasEntryText ((memory_of old).used + 1) entry (files_of store new)

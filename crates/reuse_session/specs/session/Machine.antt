@@ -4,7 +4,7 @@ use Rattle.std.specs.Prelude.{Err, if◌then◌else◌}
 use Rattle.reuse_change.specs.Files.{Files, AreFiles}
 use Rattle.reuse_change.specs.Entry.{IsEntry, LeadsAll}
 use Rattle.reuse_command.specs.Command.{name_of}
-use Rattle.reuse_plan.specs.PathOutcomes.{changes_plainly, path_outcomes_of}
+use Rattle.reuse_plan.specs.PathOutcomes.{changes_plainly, left_paths, path_outcomes_of}
 use Rattle.reuse_change.specs.Tree.{changed_paths}
 use Rattle.reuse_change.specs.declared.change.Change.{Change}
 use Rattle.reuse_plan.specs.Outcome.{outcome_of}
@@ -57,11 +57,11 @@ pub record IsUnbroken (state : Snapshots) : Type 0 where
 abbrev pub Step : Type 0
 Step = Result Response Refusal × Snapshots
 
--- the command gave this tree, which differs at these paths
-abbrev pub taken : Snapshots → ℕ → CommandName → Files → List (List ℕ) → Step
-taken s when command after [] = (Ok NothingChanged, s)
-taken s when command after (path ∷ paths) = (
-  Ok (Changed (path ∷ paths)),
+-- the command gave this tree, which differs at these paths, and leaves those
+abbrev pub taken : Snapshots → ℕ → CommandName → (left : List (List ℕ)) → Files → List (List ℕ) → Step
+taken s when command left after [] = (Ok (NothingChanged left), s)
+taken s when command left after (path ∷ paths) = (
+  Ok (Changed (path ∷ paths) left),
   record {
     tree = after;
     past = record {
@@ -74,15 +74,15 @@ taken s when command after (path ∷ paths) = (
   },
 )
 
--- a run, given what its command gives on the tree
-abbrev pub ran : Snapshots → ℕ → CommandName → Result Files Refusal → Step
-ran s when command (Err refusal) = (Err refusal, s)
-ran s when command (Ok after) = taken s when command after (changed_paths s.tree after)
+-- a run, given what its command leaves and gives on the tree
+abbrev pub ran : Snapshots → ℕ → CommandName → (left : List (List ℕ)) → Result Files Refusal → Step
+ran s when command left (Err refusal) = (Err refusal, s)
+ran s when command left (Ok after) = taken s when command left after (changed_paths s.tree after)
 
 -- a run of a command
 abbrev pub ran_by : Snapshots → Command → ℕ → Step
 ran_by s command when = if is_full (length s.past) s.used then (Err JournalFull, s)
-    else ran s when (name_of command) (outcome_of command s.tree)
+    else ran s when (name_of command) (left_paths command s.tree) (outcome_of command s.tree)
 
 -- an undo of the last step, if that led to the tree: it goes back to the copy of the tree before
 abbrev pub undone : Snapshots → List Kept → Step

@@ -55,7 +55,7 @@ command_back state number skip_moved changes =
 
 -- how that run is answered: by the paths that changed, and the others of the step
 abbrev pub as_reverted : List Change → Result Response Refusal → Result Response Refusal
-as_reverted changes (Ok (responses.Changed paths)) =
+as_reverted changes (Ok (responses.Changed paths left)) =
     Ok (responses.Reverted (record { changed = paths; skipped = left_of (paths_of changes) paths }))
 as_reverted changes (Ok reply) =
     Ok (responses.Reverted (record { changed = []; skipped = left_of (paths_of changes) [] }))

@@ -28,8 +28,8 @@ use Rattle.reuse_session.specs.declared.session.Session.{Session}
 
 -- the answer as that of a run
 abbrev pub changed_or_none : List (List ℕ) → Response
-changed_or_none [] = NothingChanged
-changed_or_none (path ∷ paths) = Changed (path ∷ paths)
+changed_or_none [] = NothingChanged []
+changed_or_none (path ∷ paths) = Changed (path ∷ paths) []
 
 abbrev pub as_run : Result Reverted Refusal → Result Response Refusal
 as_run (Ok reverted) = Ok (changed_or_none reverted.changed)

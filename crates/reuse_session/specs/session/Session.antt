@@ -15,6 +15,7 @@ use Rattle.reuse_journal.specs.JournalFiles.{number_of, IsKeptIn}
 use Rattle.reuse_session.specs.session.Machine.{Connects, Kept, Snapshots, Step}
 use Rattle.reuse_journal.specs.Labels.{is_full}
 use Rattle.reuse_plan.specs.Outcome.{edits_of, outcome_of}
+use Rattle.reuse_plan.specs.PathOutcomes.{left_paths}
 use Rattle.reuse_plan.specs.Plan.{IsPlan, Records}
 use Rattle.reuse_journal.specs.CommittedState.{IsCommittedState, IsStep, BetweenStates}
 use Rattle.reuse_change.specs.Tree.{changed_paths}
@@ -92,11 +93,13 @@ pub record IsRun (command : Command) (when : ℕ) (first second : State) : Type 
   pub is_step : IsStep directions.Do step first second
 
 -- what a run answers and leaves: a command that gives another tree is one step, and its paths are answered; one that
--- gives the same tree leaves all, and so does a refusal, which is that of a full journal or the command's own
+-- gives the same tree leaves all, and so does a refusal, which is that of a full journal or the command's own; beside
+-- these the paths are answered that an amendment leaves
 abbrev pub Runs : Command → ℕ → State → Result Response Refusal → State → Type 0
-Runs command when old (Ok (Changed paths)) new = (paths ≡ changed_paths old.tree new.tree) × IsRun command when old new
-Runs command when old (Ok NothingChanged) new = (is_full (length old.journal.done) old.journal.used ≡ false)
-    × (outcome_of command old.tree ≡ Ok old.tree) × (new ≡ old)
+Runs command when old (Ok (Changed paths left)) new = (paths ≡ changed_paths old.tree new.tree)
+    × IsRun command when old new × (left ≡ left_paths command old.tree)
+Runs command when old (Ok (NothingChanged left)) new = (is_full (length old.journal.done) old.journal.used ≡ false)
+    × (outcome_of command old.tree ≡ Ok old.tree) × (new ≡ old) × (left ≡ left_paths command old.tree)
 Runs command when old (Err JournalFull) new = (is_full (length old.journal.done) old.journal.used ≡ true) × (new ≡ old)
 Runs command when old (Err refusal) new = (is_full (length old.journal.done) old.journal.used ≡ false)
     × (outcome_of command old.tree ≡ Err refusal) × (new ≡ old)

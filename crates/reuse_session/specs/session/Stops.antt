@@ -57,7 +57,7 @@ Reopens answer old new = ⊥
 
 -- by the answer a step was made, or some were taken out of the history, and what stands behind it is durable
 abbrev pub is_durable : Result Response Refusal → Bool
-is_durable (Ok (Changed paths)) = true
+is_durable (Ok (Changed paths left)) = true
 is_durable (Ok (Undone paths)) = true
 is_durable (Ok (Redone paths)) = true
 is_durable (Ok (Forgotten (number ∷ numbers))) = true

@@ -2,7 +2,7 @@
 //! that it is a new step, which can be taken back too. `Session::answer` and callers of the library
 //! use it. Tested by `tests/sessions` and `tests/show_and_revert.sh`.
 ghost use Rattle.std.specs.Prelude.{◌≡◌, ◌↔◌, ◌⊎◌, length, not, IfErr, IfOk, true, false};
-ghost use Rattle.reuse_command.specs.Answer.{IsRunAnswer};
+ghost use Rattle.reuse_command.specs.Answer.{IsRunAnswer, LeavesNone};
 ghost use Rattle.reuse_change.specs.Listing.{ArePaths, is_among};
 ghost use Rattle.reuse_session.specs.session.RevertCalls.{as_run, left_of};
 
@@ -134,14 +134,26 @@ fn reverted_by(
     answer: Result<Response, Refusal>,
     paths: Paths,
 ) -> Result<Reverted, Refusal>
-    requires { IsRunAnswer answer }
+    requires run { IsRunAnswer answer }
+    requires none { LeavesNone answer }
     ensures same { as_run result ≡ answer }
     ensures skipped { IfOk result (λ reverted. ArePaths reverted.changed
         → reverted.skipped ≡ left_of paths reverted.changed) }
 {
     match answer {
-        Ok(Response::Changed(changed)) => Ok(reverted(paths, changed)),
-        Ok(Response::NothingChanged) => Ok(reverted(paths, Paths::new(Vec::new(alloc)))),
+        Ok(
+            Response::Changed {
+                paths: changed,
+                left,
+            },
+        ) => {
+            drop(left);
+            Ok(reverted(paths, changed))
+        }
+        Ok(Response::NothingChanged { left: _ }) => Ok(reverted(
+            paths,
+            Paths::new(Vec::new(alloc)),
+        )),
         // A run answers nothing else.
         Ok(_) => unreachable!(),
         Err(refusal) => Err(refusal),

@@ -1,7 +1,7 @@
 //! Notes: what a fault is about, what can be done about it, and what a call has done. They go to
 //! standard error, and no status depends on them. `report` alone calls it. Tested by
 //! `tests/notes.sh`.
-use crate::print::walk_notes::{note_harms, note_unrecognised, note_unused};
+use crate::print::walk_notes::{note_harms, note_left, note_unrecognised, note_unused};
 use crate::run::access_refusal::AccessRefusal;
 use crate::run::damage::MissingHead;
 use crate::run::diagnostics::{Diagnostics, RequestKind};
@@ -154,6 +154,9 @@ fn dep5_advice(refusal: &Dep5Refusal) -> Option<&'static str> {
     match refusal {
         Dep5Refusal::BadDep5(_, Dep5Cause::Missing) => Some(
             "the fields Files, Copyright and License are asked for in this paragraph, none of them empty",
+        ),
+        Dep5Refusal::BadDep5(_, Dep5Cause::Orphan) => Some(
+            "an empty line ends a paragraph: within a licence's text write a blank and a dot there",
         ),
         Dep5Refusal::Question(_) => Some(
             "REUSE.toml has no sign for one character: write * in place of ?, or list the files",
@@ -346,6 +349,7 @@ pub fn note_call(rt: &impl Eprint, diagnostics: &Diagnostics, outcome: &Result<u
     if let Ok(_) | Err(Fault::WouldRefuse(_)) = outcome {
         note_unused(rt, diagnostics);
         note_harms(rt, diagnostics.counts.harms.as_slice());
+        note_left(rt, diagnostics.counts.left);
     }
     if diagnostics.is_table_empty && outcome.is_ok() {
         note(

@@ -47,6 +47,21 @@ pub fn note_unused(rt: &impl Eprint, diagnostics: &Diagnostics) {
     };
 }
 
+/// Prints how many paths an amendment left, and what it changes.
+pub fn note_left(rt: &impl Eprint, count: usize) {
+    let (word, verb) = if count == 1 {
+        ("path", "holds")
+    } else {
+        ("paths", "hold")
+    };
+    if count > 0 {
+        let _ = eprintln!(rt;
+            "reuse-undo: note: {count} {word} still {verb} what the call names: \
+            amend changes header blocks, neighbours and REUSE.toml alone"
+        );
+    }
+}
+
 /// Prints in which files a header could break something: the first of them, and how many more. Those
 /// whose header may be in a string are told apart.
 pub fn note_harms(rt: &impl Eprint, harms: &[Harmed]) {
@@ -108,4 +123,4 @@ const RULED: &str = "rules in .reuse/comments.toml give such files another style
 
 /// How lines are kept in front of a header.
 const KEPT: &str = "first-lines and front-matter in .reuse/comments.toml keep such lines in front: \
-    see docs/RULES.md";
+    see reuse-undo(1)";

@@ -1,7 +1,8 @@
-use Rattle.std.proofs.Common.{◌≡◌, ◌∙◌, List, ℕ, Some, IsSome, sym, ap, subst, Err}
+use Rattle.std.proofs.Common.{◌≡◌, ◌∙◌, List, ℕ, true, Some, None, IsSome, sym, ap, ap₂, subst, Err}
+use Rattle.std.specs.Option.{option_or}
 use Rattle.reuse_command.specs.Reading.{get, tree_of}
 use Rattle.reuse_change.specs.Listing.{is_among}
-use Rattle.reuse_plan.specs.AmendmentPlan.{amended_by, own_of}
+use Rattle.reuse_plan.specs.AmendmentPlan.{amended_by, beside_by, inside_by, own_of}
 use Rattle.reuse_plan.specs.Annotate.{neighbour_of}
 use Rattle.reuse_command.specs.Covered.{is_covered}
 use Rattle.reuse_plan.specs.Plan.{AnswersEdit}
@@ -11,10 +12,12 @@ use Rattle.reuse_command.specs.declared.reply.Refusal.TheVariants as refusals
 use Rattle.reuse_plan.proofs.AmendmentEdits.{uncovered_is, goes_to_neighbour, goes_inside, goes_nowhere}
 use Rattle.reuse_plan.proofs.AmendmentEdits.{goes_to_table}
 use Rattle.reuse_plan.proofs.Annotating.{is_absent, some_file}
-use Rattle.reuse_plan.proofs.EditLemmas.{some_bytes}
+use Rattle.reuse_plan.proofs.EditLemmas.{edited_to, some_bytes}
+use Rattle.reuse_plan.proofs.LeftLemmas.{answers_path, no_table_left}
 use Rattle.reuse_plan.proofs.PathPlanning.{is_refusal_of}
+use Rattle.reuse_plan.proofs.TableLemmas.{not_table}
 use Rattle.reuse_plan.proofs.amend.plan_amended.Given.{Over}
-use Rattle.reuse_plan.proofs.amend.plan_amended.Goals.{After-is_covered}
+use Rattle.reuse_plan.proofs.amend.plan_amended.Goals.{After-is_covered, After-plan_table}
 use Rattle.reuse_plan.proofs.amend.plan_amended.Goals as goal
 
 pub returns-then-not-is_among-clause-edit : goal.returns-then-not-is_among-clause-edit
@@ -26,17 +29,38 @@ returns-then-not-is_among-clause-edit g c honest are =
     (sym (c.is_among.ensures are.ordered ∙ ap (is_among c.args.paths.now) c.as_bytes.ensures.bytes)
     ∙ c.if-not-is_among.true))
 
-pub returns-then-is_table-clause-edit : goal.returns-then-is_table-clause-edit
-returns-then-is_table-clause-edit g c honest are =
+-- the table is there
+module _ (g : Over) (c : After-plan_table g) (honest : g.S.Store.honest c.plan_table.new.store)
+    (are : ShowsPair c.args.paths.now (tree_of (g.S.Store.files c.args.store.now)) c.args.path.now) where
+  table : is_table c.args.path.now ≡ true
+  table = ap is_table (sym c.as_bytes-2.ensures.bytes) ∙ sym c.is_table.ensures ∙ c.if-is_table.true
+
+  of_table : AnswersEdit (tree_of (g.S.Store.files c.args.store.now))
+      (amended_by c.args.asked.now (tree_of (g.S.Store.files c.args.store.now)) c.args.path.now) c.plan_table.result
+  of_table =
+      let tree = tree_of (g.S.Store.files c.args.store.now) in
+      let path = c.args.path.now in
+      let there = sym (c.is_among.ensures are.ordered ∙ ap (is_among c.args.paths.now) c.as_bytes.ensures.bytes)
+      ∙ c.if-not-is_among.false in
+      let file = some_bytes (get tree path) (some_file tree path c.args.paths.now are.there there) in
+      subst (λ r. AnswersEdit tree r c.plan_table.result)
+      (sym (goes_to_table c.args.asked.now tree path file.0 file.1 table))
+      (c.plan_table.ensures.edit honest file.0 file.1)
+
+pub returns-in-Ok-clause-edit : goal.returns-in-Ok-clause-edit
+returns-in-Ok-clause-edit g c honest are =
+    let at = (goal.at.returns-in-Ok-clause-edit g c).After-plan_table in
+    let tree = tree_of (g.S.Store.files c.args.store.now) in (
+      subst (AnswersEdit tree (amended_by c.args.asked.now tree c.args.path.now)) c.in-Ok.is
+          (of_table g at honest are),
+      no_table_left c.args.asked.now tree c.args.path.now (table g at honest are),
+    )
+
+pub returns-in-Err-clause-edit : goal.returns-in-Err-clause-edit
+returns-in-Err-clause-edit g c honest are =
+    let at = (goal.at.returns-in-Err-clause-edit g c).After-plan_table in
     let tree = tree_of (g.S.Store.files c.args.store.now) in
-    let path = c.args.path.now in
-    let there = sym (c.is_among.ensures are.ordered ∙ ap (is_among c.args.paths.now) c.as_bytes.ensures.bytes)
-    ∙ c.if-not-is_among.false in
-    let file = some_bytes (get tree path) (some_file tree path c.args.paths.now are.there there) in
-    subst (λ r. AnswersEdit tree r c.plan_table.result)
-    (sym (goes_to_table c.args.asked.now tree path file.0 file.1
-    (ap is_table (sym c.as_bytes-2.ensures.bytes) ∙ sym c.is_table.ensures ∙ c.if-is_table.true)))
-    (c.plan_table.ensures.edit honest file.0 file.1)
+    subst (AnswersEdit tree (amended_by c.args.asked.now tree c.args.path.now)) c.in-Err.is (of_table g at honest are)
 
 -- the tree has a file at the path where it is among those of the tree
 module _ (g : Over) (c : After-is_covered g)
@@ -72,8 +96,10 @@ returns-then-is_among-clause-edit g c honest are =
     ∙ ap (is_among c.args.paths.now) (c.as_slice.ensures ∙ c.in_ok-neighbour.ensures)) ∙ c.if-is_among.true in
     let beside =
     some_bytes (get tree (neighbour_of path)) (some_file tree (neighbour_of path) c.args.paths.now are.beside among) in
-    subst (λ r. AnswersEdit tree r c.plan_in_neighbour.result) (sym (goes_to_neighbour c.args.asked.now tree path file.0
-    beside.0 file.1 (covered g at are ∙ c.if-not-is_covered.false) beside.1))
+    let is = covered g at are ∙ c.if-not-is_covered.false in
+    answers_path c.args.asked.now tree path beside.0 (beside_by c.args.asked.now path beside.0)
+    c.plan_in_neighbour.result (not_table path is) (ap (λ f. option_or f (get tree path)) beside.1)
+    (goes_to_neighbour c.args.asked.now tree path file.0 beside.0 file.1 is beside.1)
     (c.plan_in_neighbour.ensures.edit honest beside.0 beside.1)
 
 pub returns-then-has_no_style_unread-clause-edit : goal.returns-then-has_no_style_unread-clause-edit
@@ -85,8 +111,12 @@ returns-then-has_no_style_unread-clause-edit g c honest are =
     let among = sym (c.is_among-2.ensures are.ordered
     ∙ ap (is_among c.args.paths.now) (c.as_slice.ensures ∙ c.in_ok-neighbour.ensures)) ∙ c.if-is_among.false in
     let alone = is_absent tree (neighbour_of path) c.args.paths.now are.beside among in
-    goes_nowhere c.args.asked.now tree path file.0 file.1 (covered g at are ∙ c.if-not-is_covered.false) alone
-    (sym c.has_no_style_unread.ensures ∙ c.if-has_no_style_unread.true)
+    let is = covered g at are ∙ c.if-not-is_covered.false in
+    answers_path c.args.asked.now tree path file.0 (edited_to None) c.plan_unstyled.result (not_table path is)
+    (ap₂ option_or alone file.1)
+    (goes_nowhere c.args.asked.now tree path file.0 file.1 is alone
+    (sym c.has_no_style_unread.ensures ∙ c.if-has_no_style_unread.true))
+    (c.plan_unstyled.ensures.edit honest file.0 file.1)
 
 pub returns-clause-edit : goal.returns-clause-edit
 returns-clause-edit g c honest are =
@@ -97,7 +127,9 @@ returns-clause-edit g c honest are =
     let among = sym (c.is_among-2.ensures are.ordered
     ∙ ap (is_among c.args.paths.now) (c.as_slice.ensures ∙ c.in_ok-neighbour.ensures)) ∙ c.if-is_among.false in
     let alone = is_absent tree (neighbour_of path) c.args.paths.now are.beside among in
-    subst (λ r. AnswersEdit tree r c.plan_inside.result)
-    (sym (goes_inside c.args.asked.now tree path file.0 file.1 (covered g at are ∙ c.if-not-is_covered.false) alone))
+    let is = covered g at are ∙ c.if-not-is_covered.false in
+    answers_path c.args.asked.now tree path file.0 (inside_by c.args.asked.now path file.0) c.plan_inside.result
+    (not_table path is) (ap₂ option_or alone file.1)
+    (goes_inside c.args.asked.now tree path file.0 file.1 is alone)
     (c.plan_inside.ensures.edit honest file.0 file.1
     (sym c.has_no_style_unread.ensures ∙ c.if-has_no_style_unread.false))

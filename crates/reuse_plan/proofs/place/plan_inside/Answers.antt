@@ -50,7 +50,7 @@ returns-in-Ok-Some-clause-step c tree here =
     c.in-Ok-Some.field-0-is
     (c.in-Ok-Some.ensures.edit tree expected here c.requires (fits at) c.annotate_file-made.ensures) in
     subst (λ (e : PathEdit). IsPlanOf Stop tree e (plan.Change c.in-Ok-Some.change c.harm_inside-harm.result))
-    (sym (planned at)) (makes.0, makes.1, makes.2, c.harm_inside-harm.ensures)
+    (sym (planned at)) (makes.0, makes.1, makes.2, c.harm_inside-harm.ensures, refl)
 
 pub returns-in_ok-try_clone-in-Ok-None-clause-step : goal.returns-in_ok-try_clone-in-Ok-None-clause-step
 returns-in_ok-try_clone-in-Ok-None-clause-step c tree here =
@@ -61,7 +61,7 @@ returns-in_ok-try_clone-in-Ok-None-clause-step c tree here =
     c.in-Ok-None.field-0-is
     (c.in-Ok-None.ensures.edit tree expected here c.requires (fits at) c.annotate_file-made.ensures) in
     subst (λ (e : PathEdit). IsPlanOf Stop tree e (plan.Unchanged c.in_ok-try_clone-in-Ok-None.field-0))
-    (sym (planned at)) (c.in_ok-try_clone-in-Ok-None.ensures, makes, refl)
+    (sym (planned at)) (c.in_ok-try_clone-in-Ok-None.ensures, makes, refl, refl)
 
 pub returns-in-Err-clause-step : goal.returns-in-Err-clause-step
 returns-in-Err-clause-step c tree here =

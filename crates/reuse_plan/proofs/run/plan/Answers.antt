@@ -1,4 +1,4 @@
-use Rattle.std.proofs.Common.{◌≡◌, ◌∙◌, sym, ap, ap₂, subst, IfErr, ◌+◌, ◌||◌, nat_lt, List, length}
+use Rattle.std.proofs.Common.{arith, ◌≡◌, ◌∙◌, sym, ap, ap₂, subst, IfErr, ◌+◌, ◌||◌, nat_lt, List, length}
 use Rattle.std.proofs.Common.{filter_map, IsPermutation}
 use Rattle.std.proofs.lemmas.List.Sorted.{length_permutation, sum_by-IsPermutation}
 use Rattle.std.proofs.lemmas.Result.{err_from_is_err_and}
@@ -7,7 +7,7 @@ use Rattle.reuse_change.specs.declared.change.Change.{Change}
 use Rattle.reuse_change.specs.Entry.{change_size, entry_size}
 use Rattle.reuse_plan.specs.Counted.{harmed_planned, skipped_planned}
 use Rattle.reuse_plan.specs.Outcome.{outcome_of, path_edits_of, edits_of, tree_after}
-use Rattle.reuse_plan.specs.PathPlans.{ArePlansOf, changes_planned}
+use Rattle.reuse_plan.specs.PathPlans.{ArePlansOf, changes_planned, left_planned_by}
 use Rattle.reuse_command.specs.declared.command.Command.{Command}
 use Rattle.reuse_plan.specs.declared.path_plan.PathPlan.{PathPlan}
 use Rattle.reuse_plan.specs.declared.path_plan.Policy.TheVariants.{Stop}
@@ -15,7 +15,7 @@ use Rattle.reuse_plan.proofs.PathPlanning.{changes_made, none_refused}
 use Rattle.reuse_plan.specs.Plan.{IsRefusalOf, MakesEdits}
 use Rattle.reuse_store.proofs.TreeLemmas.{tree_are_files}
 use Rattle.reuse_plan.proofs.Annotating.{refusal_passes, too_many}
-use Rattle.reuse_plan.proofs.Counting.{harms_are, skips_are}
+use Rattle.reuse_plan.proofs.Counting.{harms_are, left_are, none_left, skips_are}
 use Rattle.reuse_plan.proofs.EditOrder.{sorted_plan}
 use Rattle.reuse_plan.proofs.Fitting.{command_fits}
 use Rattle.reuse_plan.proofs.run.plan.Goals as goal
@@ -55,7 +55,7 @@ returns-then-is_too_many-clause-refusal g c honest =
     too_many tree (edits_of c.args.command.now tree) changes (made c.args.command.now tree c.in_ok-plans.plans.items
     changes (c.in_ok-plans.ensures.plans honest) c.in_ok-changes_planned.ensures)
     (sym (as_many changes c.sorted-changes.result.items c.sorted-changes.ensures.moved)
-    ∙ ap (λ cs. nat_lt 100_000 (length cs) || nat_lt 268_435_456 (entry_size cs)) (sym c.deref-3.ensures.value)
+    ∙ ap (λ cs. nat_lt 100_000 (length cs) || nat_lt 268_435_456 (entry_size cs)) (sym c.deref-4.ensures.value)
     ∙ sym c.is_too_many.ensures ∙ c.if-is_too_many.true)
 
 pub returns-clause-changes : goal.returns-clause-changes
@@ -70,7 +70,7 @@ returns-clause-changes g c honest =
     (c.in_ok-plans.ensures.plans honest) c.in_ok-changes_planned.ensures)
     c.sorted-changes.ensures.moved c.sorted-changes.ensures.sorted
     (command_fits c.args.command.now (tree_of files) c.in_ok-plans.ensures.entry are)
-    (ap (λ cs. nat_lt 100_000 (length cs) || nat_lt 268_435_456 (entry_size cs)) (sym c.deref-3.ensures.value)
+    (ap (λ cs. nat_lt 100_000 (length cs) || nat_lt 268_435_456 (entry_size cs)) (sym c.deref-4.ensures.value)
     ∙ sym c.is_too_many.ensures ∙ c.if-is_too_many.false)
 
 pub returns-clause-recorded : goal.returns-clause-recorded
@@ -80,6 +80,15 @@ returns-clause-recorded g c honest = (
   made c.args.command.now (tree_of (g.S.Store.files c.args.store.now)) c.in_ok-plans.plans.items
       c.in_ok-changes_planned.field-0.items (c.in_ok-plans.ensures.plans honest) c.in_ok-changes_planned.ensures,
 )
+
+pub returns-clause-left : goal.returns-clause-left
+returns-clause-left g c honest =
+    c.in_ok-left.ensures ∙ ap (left_planned_by c.args.command.now) c.deref-3.ensures.value
+    ∙ left_are Stop c.args.command.now (tree_of (g.S.Store.files c.args.store.now)) c.in_ok-plans.plans.items
+    (c.in_ok-plans.ensures.plans honest)
+
+pub returns-clause-none : goal.returns-clause-none
+returns-clause-none g c none = c.in_ok-left.ensures ∙ none_left c.args.command.now c.deref-3.result.now none
 
 pub returns-clause-counts : goal.returns-clause-counts
 returns-clause-counts g c honest =
@@ -93,4 +102,5 @@ returns-clause-counts g c honest =
           ∙ harms_are Stop (tree_of (g.S.Store.files c.args.store.now))
           (path_edits_of c.args.command.now (tree_of (g.S.Store.files c.args.store.now))) plans
           (c.in_ok-plans.ensures.plans honest);
+      left = omega (arith, c.len-counts.ensures, c.in_ok-left.left.ok.0) ∙ ap length (returns-clause-left g c honest);
     }

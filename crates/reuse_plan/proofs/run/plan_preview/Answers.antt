@@ -1,4 +1,4 @@
-use Rattle.std.proofs.Common.{◌≡◌, ◌∙◌, ◌++◌, ◌+◌, ◌||◌, nat_lt, List, length, filter_map, sym, ap, ap₂, subst}
+use Rattle.std.proofs.Common.{arith, ◌≡◌, ◌∙◌, ◌++◌, ◌+◌, ◌||◌, nat_lt, List, length, map, filter_map, sym, ap, ap₂, subst}
 use Rattle.std.proofs.Common.{IsPermutation}
 use Rattle.std.proofs.lemmas.List.Sorted.{length_permutation, sum_by-IsPermutation}
 use Rattle.reuse_change.specs.Entry.{change_size, entry_size}
@@ -6,12 +6,13 @@ use Rattle.reuse_change.specs.Files.{tree_of}
 use Rattle.reuse_change.specs.declared.change.Change.{Change}
 use Rattle.reuse_store.proofs.TreeLemmas.{tree_are_files}
 use Rattle.reuse_plan.specs.Counted.{harmed_planned, skipped_planned}
+use Rattle.reuse_command.specs.declared.path_outcome.PathOutcome.TheVariants.{Left}
 use Rattle.reuse_plan.specs.PathOutcomes.{path_outcomes_of, first_refusal}
 use Rattle.reuse_plan.specs.Outcome.{edits_of, outcome_of, path_edits_of}
-use Rattle.reuse_plan.specs.PathPlans.{limit_planned}
+use Rattle.reuse_plan.specs.PathPlans.{left_planned_by, limit_planned}
 use Rattle.reuse_plan.specs.Plan.{MakesEdits}
 use Rattle.reuse_plan.specs.declared.path_plan.Policy.TheVariants.{Collect}
-use Rattle.reuse_plan.proofs.Counting.{harms_are, skips_are}
+use Rattle.reuse_plan.proofs.Counting.{harms_are, left_are, skips_are}
 use Rattle.reuse_plan.proofs.EditOrder.{sorted_plan}
 use Rattle.reuse_plan.proofs.Fitting.{command_fits}
 use Rattle.reuse_plan.proofs.PathPlanning.{path_outcomes_are, limit_is, accepted_few, accepted_made}
@@ -32,10 +33,12 @@ returns-clause-path_outcomes g c honest =
     let are = c.in_ok-plans.ensures.plans honest in
     let planned = c.in_ok-of in
     c.in_ok-with_limit.ensures.path_outcomes
-    ∙ ap₂ (λ fs more. fs ++ more)
+    ∙ ap₂ (λ fs left. fs ++ map Left left) (ap₂ (λ fs more. fs ++ more)
     (planned.ensures.path_outcomes ∙ path_outcomes_are Collect tree all c.in_ok-plans.plans.items are)
     (ap₂ limit_planned planned.ensures.refused planned.ensures.changes
-    ∙ limit_is Collect tree all c.in_ok-plans.plans.items are)
+    ∙ limit_is Collect tree all c.in_ok-plans.plans.items are))
+    (c.in_ok-left.ensures ∙ ap (left_planned_by c.args.command.now) c.deref-3.ensures.value
+    ∙ left_are Collect c.args.command.now tree c.in_ok-plans.plans.items are)
 
 pub returns-clause-changes : goal.returns-clause-changes
 unfolding outcome_of
@@ -85,4 +88,8 @@ returns-clause-counts g c honest =
           ∙ harms_are Collect (tree_of (g.S.Store.files c.args.store.now))
           (path_edits_of c.args.command.now (tree_of (g.S.Store.files c.args.store.now))) plans
           (c.in_ok-plans.ensures.plans honest);
+      left = omega (arith, c.len-counts.ensures, c.in_ok-left.left.ok.0) ∙ ap length (c.in_ok-left.ensures
+          ∙ ap (left_planned_by c.args.command.now) c.deref-3.ensures.value
+          ∙ left_are Collect c.args.command.now (tree_of (g.S.Store.files c.args.store.now)) plans
+          (c.in_ok-plans.ensures.plans honest));
     }

@@ -264,7 +264,7 @@ pub survives_weaker : {S : Type 0} (store : Ghosts S) (IsNext IsOther : State �
     (held : State) (new : S) (result : Result Response Refusal) → ((next : State) → IsNext next → IsOther next)
     → Survives store IsNext earlier held result new
     → Survives store IsOther earlier held result new
-survives_weaker store IsNext IsOther earlier held new (Ok NothingChanged) weaker survives = survives
+survives_weaker store IsNext IsOther earlier held new (Ok (NothingChanged left)) weaker survives = survives
 survives_weaker store IsNext IsOther earlier held new (Ok reply) weaker survives = survives
 survives_weaker store IsNext IsOther earlier held new (Err (Failed (Interrupted cause))) weaker survives =
     (survives.0, weaker survives.0 survives.1, survives.2)

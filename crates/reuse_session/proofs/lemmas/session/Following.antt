@@ -17,6 +17,7 @@ use Rattle.reuse_command.specs.declared.reply.Refusal.TheVariants.{JournalFull, 
 use Rattle.reuse_command.specs.Answer.{DidNotFail, IsTestRefusal}
 use Rattle.reuse_command.specs.Command.{name_of}
 use Rattle.reuse_plan.specs.Outcome.{outcome_of}
+use Rattle.reuse_plan.specs.PathOutcomes.{left_paths}
 use Rattle.reuse_change.specs.Entry.{paths_of, CanBeMade, IsEntry, IsFirstStuck, LeadsBy, LeadsAll}
 use Rattle.reuse_change.specs.Tree.{changed_paths}
 use Rattle.reuse_session.specs.session.Machine.{Connects, Kept, Snapshots, Step, taken, ran, ran_by, kept_row, rows_of}
@@ -182,33 +183,40 @@ module _ (held : State) (state : Snapshots) (holds : Simulates held state) where
   pub journal_full : (command : Command) (when : ℕ) → is_full (length held.journal.done) held.journal.used ≡ true
       → ran_by state command when ≡ (Err JournalFull, state)
   journal_full command when e =
-      ap (λ b. cond b (Err JournalFull, state) (ran state when (name_of command) (outcome_of command state.tree)))
+      ap (λ b. cond b (Err JournalFull, state)
+      (ran state when (name_of command) (left_paths command state.tree) (outcome_of command state.tree)))
       (is_full_alike ∙ e)
 
   not_full : (command : Command) (when : ℕ) → is_full (length held.journal.done) held.journal.used ≡ false
-      → ran_by state command when ≡ ran state when (name_of command) (outcome_of command held.tree)
+      → ran_by state command when
+      ≡ ran state when (name_of command) (left_paths command held.tree) (outcome_of command held.tree)
   not_full command when e =
-      ap (λ b. cond b (Err JournalFull, state) (ran state when (name_of command) (outcome_of command state.tree)))
+      ap (λ b. cond b (Err JournalFull, state)
+      (ran state when (name_of command) (left_paths command state.tree) (outcome_of command state.tree)))
       (is_full_alike ∙ e)
-      ∙ ap (λ tree. ran state when (name_of command) (outcome_of command tree)) (sym holds.tree)
+      ∙ ap (λ tree. ran state when (name_of command) (left_paths command tree) (outcome_of command tree))
+      (sym holds.tree)
 
   pub run_refused : (command : Command) (when : ℕ) (refusal : Refusal)
       → is_full (length held.journal.done) held.journal.used ≡ false → outcome_of command held.tree ≡ Err refusal
       → ran_by state command when ≡ (Err refusal, state)
-  run_refused command when refusal room e = not_full command when room ∙ ap (ran state when (name_of command)) e
+  run_refused command when refusal room e =
+      not_full command when room ∙ ap (ran state when (name_of command) (left_paths command held.tree)) e
 
   pub run_planned : (command : Command) (when : ℕ) (changes : List Change) (after : Files)
       → is_full (length held.journal.done) held.journal.used ≡ false
       → outcome_of command held.tree ≡ Ok after → changed_paths held.tree after ≡ paths_of changes
-      → ran_by state command when ≡ taken state when (name_of command) after (paths_of changes)
+      → ran_by state command when
+      ≡ taken state when (name_of command) (left_paths command held.tree) after (paths_of changes)
   run_planned command when changes after room outcome differ =
-      not_full command when room ∙ ap (ran state when (name_of command)) outcome
-      ∙ ap (λ tree. taken state when (name_of command) after (changed_paths tree after)) (sym holds.tree)
-      ∙ ap (taken state when (name_of command) after) differ
+      let left = left_paths command held.tree in
+      not_full command when room ∙ ap (ran state when (name_of command) left) outcome
+      ∙ ap (λ tree. taken state when (name_of command) left after (changed_paths tree after)) (sym holds.tree)
+      ∙ ap (taken state when (name_of command) left after) differ
 
-  taken_some : (when : ℕ) (command : CommandName) (after : Files) (changes : List Change) → 0 < length changes
-      → taken state when command after (paths_of changes) ≡ (
-        Ok (Changed (paths_of changes)),
+  taken_some : (when : ℕ) (command : CommandName) (left : List (List ℕ)) (after : Files) (changes : List Change)
+      → 0 < length changes → taken state when command left after (paths_of changes) ≡ (
+        Ok (Changed (paths_of changes) left),
         record {
           tree = after;
           past = record {
@@ -220,8 +228,8 @@ module _ (held : State) (state : Snapshots) (holds : Simulates held state) where
           used = state.used + 1;
         },
       )
-  taken_some when command after [] h = absurd (omega arith)
-  taken_some when command after (change ∷ changes) h = refl
+  taken_some when command left after [] h = absurd (omega arith)
+  taken_some when command left after (change ∷ changes) h = refl
 
   -- a run that changes something follows the model
   pub run_follows : (command : Command) (when : ℕ) (changes : List Change) (after : Files)
@@ -235,15 +243,17 @@ module _ (held : State) (state : Snapshots) (holds : Simulates held state) where
         undone = [];
         used = held.journal.used + 1;
       }
-      → (Ok (Changed (paths_of changes)) ≡ (ran_by state command when).0) × Simulates new (ran_by state command when).1
+      → (Ok (Changed (paths_of changes) (left_paths command held.tree)) ≡ (ran_by state command when).0)
+      × Simulates new (ran_by state command when).1
   run_follows command when changes after room outcome good leads before_are after_are new tree journal =
+      let left = left_paths command held.tree in
       let ran_is =
       run_planned command when changes after room outcome (changed_by_entry changes held.tree after good leads)
-      ∙ taken_some when (name_of command) after changes good.some in
+      ∙ taken_some when (name_of command) left after changes good.some in
       let numbered : ◌≡◌ {A = Label} (record { number = state.used + 1; when = when; command = name_of command })
       (record { number = held.journal.used + 1; when = when; command = name_of command }) =
       λ i. record { number = sym holds.used i + 1; when = when; command = name_of command } in
-      subst (λ (step : Step). (Ok (Changed (paths_of changes)) ≡ step.0) × Simulates new step.1) (sym ran_is) (
+      subst (λ (step : Step). (Ok (Changed (paths_of changes) left) ≡ step.0) × Simulates new step.1) (sym ran_is) (
         refl,
         record {
           tree = tree;
@@ -309,7 +319,7 @@ entry_of_plan changes some good = ⊎_elim (λ none. absurd (omega (arith, some,
 pub run_nothing : (held : State) (state : Snapshots) (holds : Simulates held state) (command : Command) (when : ℕ)
     (changes : List Change) (after : Files) → is_full (length held.journal.done) held.journal.used ≡ false
     → outcome_of command held.tree ≡ Ok after → length changes ≡ 0 → LeadsAll changes held.tree after
-    → ran_by state command when ≡ (Ok NothingChanged, state)
+    → ran_by state command when ≡ (Ok (NothingChanged (left_paths command held.tree)), state)
 run_nothing held state holds command when changes after room outcome none leads =
     run_planned held state holds command when [] after room outcome
     (changed_by_none held.tree after (subst (λ cs. LeadsAll cs held.tree after) (nil_from_length changes none) leads))

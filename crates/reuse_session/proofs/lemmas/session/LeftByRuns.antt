@@ -9,6 +9,6 @@ use Rattle.reuse_command.specs.declared.reply.Response.TheVariants.{Changed, Not
 
 pub left_by_run : (command : Command) (when : ℕ) (old new : State) (reply : Response)
     → Runs command when old (Ok reply) new → outcome_of command old.tree ≡ Ok new.tree
-left_by_run command when old new (Changed paths) runs = runs.1.outcome
-left_by_run command when old new NothingChanged runs = runs.1 ∙ ap (λ (held : State). Ok held.tree) (sym runs.2)
+left_by_run command when old new (Changed paths left) runs = runs.1.outcome
+left_by_run command when old new (NothingChanged left) runs = runs.1 ∙ ap (λ (held : State). Ok held.tree) (sym runs.2)
 left_by_run command when old new reply runs = absurd runs

@@ -20,12 +20,12 @@ use Rattle.reuse_journal.specs.Journal.{State}
 use Rattle.reuse_journal.specs.JournalFiles.{head_path, entry_path, entry_in, EntrySays, IsFree}
 use Rattle.reuse_journal.specs.Labels.{is_full}
 use Rattle.reuse_plan.specs.Outcome.{edits_of, edit_count, recorded_size}
-use Rattle.reuse_session.specs.session.Session.{store_of, memory_of, IsPlanned, IsRecordOf, IsRun, IsStepOf, Runs}
+use Rattle.reuse_session.specs.session.Session.{store_of, memory_of, IsPlanned, IsRecordOf, IsRun, IsStepOf}
 use Rattle.reuse_session.specs.session.Session.{SimulatesState}
 use Rattle.reuse_journal.specs.Remembered.{listed_as, listed_count, head_room, HasEntryText, HasHeadText, IsSameBut}
 use Rattle.reuse_journal.specs.Remembered.{IsSameButTwo, Remembers}
 use Rattle.reuse_journal.specs.CommittedState.{BetweenStates}
-use Rattle.reuse_change.specs.Tree.{undo_folder_of}
+use Rattle.reuse_change.specs.Tree.{changed_paths, undo_folder_of}
 use Rattle.reuse_command.specs.declared.command.Command.{Command}
 use Rattle.reuse_change.specs.declared.direction.Direction.TheVariants as direction
 use Rattle.reuse_journal.specs.declared.history.ListedEntry.{ListedEntry}
@@ -43,7 +43,7 @@ use Rattle.reuse_journal.proofs.HeadTransition.{below}
 use Rattle.reuse_journal.proofs.JournalLemmas.{free_stays, free_beside, tree_beside}
 use Rattle.reuse_store.specs.Asked.{OnlyReads}
 use Rattle.reuse_command.proofs.OnlyReading.{early_is_no_stop}
-use Rattle.reuse_session.proofs.lemmas.session.RunFollowing.{runs_step}
+use Rattle.reuse_change.proofs.Differ.{changed_by_entry}
 use Rattle.reuse_session.proofs.lemmas.session.Running.{full_alike, count_recorded, size_recorded}
 use Rattle.reuse_session.proofs.lemmas.session.KnownCommands.{recorded_known}
 use Rattle.reuse_session.proofs.lemmas.journal.StepAnswers.{still_stands, stands_beside, kept_put, fault_clash}
@@ -59,7 +59,7 @@ pub record Recording {S : Type 0} (files : S → Files) (command : Command) (whe
   pub stands : SimulatesState files session held
   pub is : IsStepOf (undo_folder_of (files (store_of session))) made pending moved held second
   pub run : IsRun command when held second
-  pub runs : Runs command when held (Ok (Changed (paths_of changes))) second
+  pub paths : paths_of changes ≡ changed_paths held.tree second.tree
 
 pub put_early : (refusal : Refusal) → IsEarlyFailure refusal → IsEarly refusal
 put_early (Failed (Interrupted cause)) is = absurd is
@@ -162,7 +162,7 @@ module _ {S : Type 0} {store : Ghosts S} {old : Session S} {command : Command} {
       doubt = λ honest held stands stop. absurd (early_is_no_stop refusal (put_early refusal is) stop);
       late = λ honest stop. absurd (early_is_no_stop refusal (put_early refusal is) stop);
       folder = λ honest. folder_put (files_of store old) (store.files put) ((memory_of old).used + 1) (others honest);
-      texts = λ honest paths e. absurd (cc);
+      texts = λ honest paths others e. absurd (cc);
       written = λ honest held stands. omega (arith, at_most_recorded honest held stands);
       mutations = λ honest. omega (arith, p.asks);
       begins = λ early. p.asks;
@@ -219,8 +219,8 @@ module _ {S : Type 0} {store : Ghosts S} {old : Session S} {command : Command} {
               room = λ e. full;
             };
             run = run;
-            runs = runs_step command when held second changes plan.entry
-                (subst (λ t. LeadsAll changes t plan.plan.after) stands.committed.tree plan.plan.leads) run;
+            paths = sym (changed_by_entry changes held.tree second.tree plan.entry
+                (subst (λ t. LeadsAll changes t plan.plan.after) stands.committed.tree plan.plan.leads));
           }
         where
           listed_step : (held : State) → number ≡ held.journal.used
@@ -282,18 +282,18 @@ module _ {S : Type 0} {store : Ghosts S} {old : Session S} {command : Command} {
                 count_recorded tree (edits_of command tree) changes (here (was_put honest)).recorded,
               )
 
-          pub record_leaves : store.written put ≡ store.written (store_of old) + length (entry_text entry)
+          pub record_leaves : (left : List (List ℕ)) → store.written put ≡ store.written (store_of old) + length (entry_text entry)
               → (store.honest put → HasEntryText (number + 1) entry (store.files put))
               → (store.honest (store_of new) → IsEntry made → HasHeadText (memory_of new) (files_of store new))
-              → LeavesRun store command when (Ok (Changed (paths_of changes))) old new
-          record_leaves counted entry_text_put head_text_put = record {
+              → LeavesRun store command when (Ok (Changed (paths_of changes) left)) old new
+          record_leaves left counted entry_text_put head_text_put = record {
             unchanged = λ honest. tt;
             stands = λ honest held stands. tt;
             early = λ honest held stands. tt;
             doubt = λ honest held stands. tt;
             late = λ honest. tt;
             folder = folder_left;
-            texts = λ honest paths e. (
+            texts = λ honest paths others e. (
               head_text_put honest (made_good (was_put honest)),
               (
                 record { changes = changes; command = name_of command; when = when },
@@ -342,7 +342,7 @@ module _ {S : Type 0} {store : Ghosts S} {old : Session S} {command : Command} {
                   (arith, more (made_good (was_put honest)) stop, counted, ap (λ e. length (entry_text e)) p.is_entry),
             );
             folder = folder_left;
-            texts = λ honest paths e. absurd (cc);
+            texts = λ honest paths others e. absurd (cc);
             written = written_left;
             mutations = mutations_left;
             begins = λ early. subst (λ s. store.mutations (store_of s) ≤ store.mutations (store_of old) + 1)
@@ -381,11 +381,11 @@ after_reading store old new read reads was_honest command when result leaves = r
       reads.written (leaves.late honest));
   folder = λ honest. subst (λ f. IsSameButTwo (next_path old) head_path (undo_folder_of f) (folder_of store new))
       (same honest) (leaves.folder honest);
-  texts = λ honest paths e. subst
+  texts = λ honest paths others e. subst
       (λ f. HasHeadText (memory_of new) (files_of store new) × ((entry : Entry)
       × IsRecordOf command when (tree_of f) entry × HasEntryText ((memory_of old).used + 1) entry (files_of store new)
       × (length (entry_text entry) ≤ recorded_size (edits_of command (tree_of f))))) (same honest)
-      (leaves.texts honest paths e);
+      (leaves.texts honest paths others e);
   written = λ honest held stands. subst
       (λ n. store.written (store_of new) ≤ n + recorded_size (edits_of command held.tree) + head_room
       (listed_count (memory_of old)) + head_room (length (memory_of old).done + 1)) reads.written

@@ -1,16 +1,18 @@
 -- What a run answers and leaves from any committed state, and that it follows the reference model.
-use Rattle.std.proofs.Common.{◌≡◌, ℕ, ◌+◌, false, List, [], ◌∷◌, length, Result, Ok, Err, refl, sym, ap, subst, ◌∙◌}
+use Rattle.std.proofs.Common.{◌≡◌, ℕ, ◌+◌, false, List, [], ◌∷◌, length, Result, Ok, Err, refl, sym, ap, ap₂, subst}
+use Rattle.std.proofs.Common.{◌∙◌}
 use Rattle.std.proofs.lemmas.List.Elements.{All-nil}
 use Rattle.std.proofs.lemmas.List.{nil_from_length}
 use Rattle.reuse_change.specs.Files.{Files, AreFiles}
 use Rattle.reuse_change.specs.declared.change.Change.{Change}
 use Rattle.reuse_command.specs.Answer.{DidNotFail, IsOfPlan}
 use Rattle.reuse_command.specs.Command.{name_of}
-use Rattle.reuse_change.specs.Entry.{paths_of, IsEntry, LeadsAll}
+use Rattle.reuse_change.specs.Entry.{paths_of, LeadsAll}
 use Rattle.reuse_journal.specs.Journal.{Journal, State}
 use Rattle.reuse_session.specs.session.Machine.{Snapshots, Step, ran_by}
 use Rattle.reuse_journal.specs.Labels.{is_full}
 use Rattle.reuse_plan.specs.Outcome.{outcome_of}
+use Rattle.reuse_plan.specs.PathOutcomes.{left_paths}
 use Rattle.reuse_plan.specs.Plan.{IsRefusalOf}
 use Rattle.reuse_session.specs.session.Session.{Simulates, SimulatesState, SimulatesInSession, Follows, IsRun, Runs}
 use Rattle.reuse_command.specs.declared.command.Command.{Command}
@@ -43,25 +45,19 @@ runs_refused command when held refusal room planned reported expected = (room, e
 pub runs_nothing : (command : Command) (when : ℕ) (held : State) (changes : List Change) (after : Files)
     → is_full (length held.journal.done) held.journal.used ≡ false
     → outcome_of command held.tree ≡ Ok after → length changes ≡ 0 → LeadsAll changes held.tree after
-    → Runs command when held (Ok NothingChanged) held
-runs_nothing command when held changes after room outcome none leads =
+    → (left : List (List ℕ)) → left ≡ left_paths command held.tree
+    → Runs command when held (Ok (NothingChanged left)) held
+runs_nothing command when held changes after room outcome none leads left is_left =
     let same : after ≡ held.tree = leads_once direction.Forward [] held.tree after held.tree
     (subst (λ cs. LeadsAll cs held.tree after) (nil_from_length changes none) leads) (stays_by_none held.tree) in
-    (room, outcome ∙ ap (λ t. Ok t) same, refl)
-
--- a step
-pub runs_step : (command : Command) (when : ℕ) (held second : State) (changes : List Change) → IsEntry changes
-    → LeadsAll changes held.tree second.tree → IsRun command when held second
-    → Runs command when held (Ok (Changed (paths_of changes))) second
-runs_step command when held second changes entry leads run =
-    (sym (changed_by_entry changes held.tree second.tree entry leads), run)
+    (room, outcome ∙ ap (λ t. Ok t) same, refl, is_left)
 
 -- ---- that it follows the model
 
 module _ (held : State) (state : Snapshots) (holds : Simulates held state) (command : Command) (when : ℕ) where
   -- a step of a run does
   pub step_follows : (second : State) (run : IsRun command when held second) → AreFiles held.tree
-      → (Ok (Changed (paths_of run.step.changes)) ≡ (ran_by state command when).0)
+      → (Ok (Changed (paths_of run.step.changes) (left_paths command held.tree)) ≡ (ran_by state command when).0)
       × Simulates second (ran_by state command when).1
   step_follows second run are =
       let labelled : ◌≡◌ {A = Journal}
@@ -93,16 +89,18 @@ module _ (held : State) (state : Snapshots) (holds : Simulates held state) (comm
   pub runs_as_machine : (result : Result Response Refusal) (left : State) → AreFiles held.tree
       → Runs command when held result left
       → (result ≡ (ran_by state command when).0) × Simulates left (ran_by state command when).1
-  runs_as_machine (Ok (Changed paths)) left are runs =
+  runs_as_machine (Ok (Changed paths leaves)) left are runs =
       let run = runs.1 in
       let follows = step_follows left run are in (
-        ap (λ ps. Ok (Changed ps))
-            (runs.0 ∙ changed_by_entry run.step.changes held.tree left.tree run.entry run.is_step.leads) ∙ follows.0,
+        ap₂ (λ ps ls. Ok (Changed ps ls))
+            (runs.0 ∙ changed_by_entry run.step.changes held.tree left.tree run.entry run.is_step.leads) runs.2
+            ∙ follows.0,
         follows.1,
       )
-  runs_as_machine (Ok NothingChanged) left are runs =
-      stays_put (Ok NothingChanged) left runs.2
-      (run_nothing held state holds command when [] held.tree runs.0 runs.1 refl (stays_by_none held.tree))
+  runs_as_machine (Ok (NothingChanged leaves)) left are runs =
+      stays_put (Ok (NothingChanged leaves)) left runs.2
+      (run_nothing held state holds command when [] held.tree runs.0 runs.1 refl (stays_by_none held.tree)
+      ∙ ap (λ (ls : List (List ℕ)). (Ok (NothingChanged ls), state)) (sym runs.3))
   runs_as_machine (Err JournalFull) left are runs =
       stays_put (Err JournalFull) left runs.1 (journal_full held state holds command when runs.0)
   runs_as_machine (Err refusal) left are runs =

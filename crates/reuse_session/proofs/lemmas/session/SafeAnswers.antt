@@ -48,8 +48,8 @@ use Rattle.reuse_session.proofs.lemmas.journal.StepDoubt.{synced_is_safe}
 
 runs_stay : (command : Command) (when : ℕ) (held left : State) (answer : Result Response Refusal)
     → Runs command when held answer left → IsNoStep answer → left ≡ held
-runs_stay command when held left (Ok (responses.Changed paths)) runs none = absurd none
-runs_stay command when held left (Ok responses.NothingChanged) runs none = runs.2
+runs_stay command when held left (Ok (responses.Changed paths leaves)) runs none = absurd none
+runs_stay command when held left (Ok (responses.NothingChanged leaves)) runs none = runs.2
 runs_stay command when held left (Ok reply) runs none = absurd runs
 runs_stay command when held left (Err JournalFull) runs none = runs.1
 runs_stay command when held left (Err refusal) runs none = runs.2
@@ -159,7 +159,8 @@ module _ {S : Type 0} (store : Ghosts S) (earlier : Earlier) (held left : State)
   safe_after_step : (IsNext : State → Type 0) (step : Result Response Refusal) → (IsNoStep step → left ≡ held)
       → DidNotFail step → IsCommittedState (store.files new) left → Survives store IsNext earlier held step new
       → IsSafeAfter step
-  safe_after_step IsNext (Ok responses.NothingChanged) stays reported committed survives = as_before (stays tt) survives
+  safe_after_step IsNext (Ok (responses.NothingChanged leaves)) stays reported committed survives =
+      as_before (stays tt) survives
   safe_after_step IsNext (Ok reply) stays reported committed survives = as_synced (Ok reply) committed survives
   safe_after_step IsNext (Err (Failed failure)) stays reported committed survives = absurd reported
   safe_after_step IsNext (Err refusal) stays reported committed survives = as_before (stays reported) survives

@@ -23,6 +23,7 @@ use Rattle.reuse_command.specs.declared.request.Request.TheVariants as requests
 use Rattle.reuse_command.specs.declared.request.Steps.{Steps}
 use Rattle.reuse_journal.specs.Labels.{is_full}
 use Rattle.reuse_plan.specs.Outcome.{outcome_of}
+use Rattle.reuse_plan.specs.PathOutcomes.{left_paths}
 use Rattle.reuse_session.specs.session.Forgetting.{ForgetsTo, numbers_asked, snapshots_besides}
 use Rattle.reuse_session.specs.session.Machine.{Connects, IsUnbroken, Kept, LeadOn, LedUpTo, Snapshots, ran, ran_by}
 use Rattle.reuse_session.specs.session.Machine.{redo_path_outcomes, redone, taken, undo_path_outcomes, undone}
@@ -130,23 +131,26 @@ module _ (state : Snapshots) (unbroken : IsUnbroken state) where
 
   -- ---- and no step is missing then
 
-  taken_unbroken : (when : ℕ) (command : CommandName) (after : Files) (paths : List (List ℕ))
-      → IsUnbroken (taken state when command after paths).1
-  taken_unbroken when command after [] = unbroken
-  taken_unbroken when command after (path ∷ paths) = record { past = (refl, unbroken.past); future = tt }
+  taken_unbroken : (when : ℕ) (command : CommandName) (left : List (List ℕ)) (after : Files) (paths : List (List ℕ))
+      → IsUnbroken (taken state when command left after paths).1
+  taken_unbroken when command left after [] = unbroken
+  taken_unbroken when command left after (path ∷ paths) = record { past = (refl, unbroken.past); future = tt }
 
-  ran_unbroken : (when : ℕ) (command : CommandName) (outcome : Result Files Refusal)
-      → IsUnbroken (ran state when command outcome).1
-  ran_unbroken when command (Err refusal) = unbroken
-  ran_unbroken when command (Ok after) = taken_unbroken when command after (changed_paths state.tree after)
+  ran_unbroken : (when : ℕ) (command : CommandName) (left : List (List ℕ)) (outcome : Result Files Refusal)
+      → IsUnbroken (ran state when command left outcome).1
+  ran_unbroken when command left (Err refusal) = unbroken
+  ran_unbroken when command left (Ok after) =
+      taken_unbroken when command left after (changed_paths state.tree after)
 
   run_unbroken : (command : Command) (when : ℕ) → IsUnbroken (ran_by state command when).1
   run_unbroken command when = at (is_full (length state.past) state.used)
     where
       at : (b : Bool) → IsUnbroken
-          (cond b (Err JournalFull, state) (ran state when (name_of command) (outcome_of command state.tree))).1
+          (cond b (Err JournalFull, state)
+          (ran state when (name_of command) (left_paths command state.tree) (outcome_of command state.tree))).1
       at true = unbroken
-      at false = ran_unbroken when (name_of command) (outcome_of command state.tree)
+      at false =
+          ran_unbroken when (name_of command) (left_paths command state.tree) (outcome_of command state.tree)
 
   undo_unbroken : IsUnbroken (undone state state.past).1
   undo_unbroken = at state.past unbroken.past

@@ -69,8 +69,8 @@ accepted_where options (Err refusal) is = absurd is
 none_behind : (response : Response) (diff : List ℕ) → IsNoRecord response → diff ≡ [] → IsDiffBehind response diff
 none_behind (responses.Preview path_outcomes) diff is none = inl none
 none_behind responses.Opened diff is none = none
-none_behind (responses.Changed paths) diff is none = none
-none_behind responses.NothingChanged diff is none = none
+none_behind (responses.Changed paths left) diff is none = none
+none_behind (responses.NothingChanged left) diff is none = none
 none_behind (responses.Undone paths) diff is none = none
 none_behind (responses.Redone paths) diff is none = none
 none_behind (responses.Log rows) diff is none = none

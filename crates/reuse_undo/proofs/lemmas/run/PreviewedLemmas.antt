@@ -116,6 +116,7 @@ none_first (path_outcome.Refused first ∷ path_outcomes) none = absurd (false�
 none_first (path_outcome.Changes path harm ∷ path_outcomes) none = none_first path_outcomes none
 none_first (path_outcome.Unchanged path ∷ path_outcomes) none = none_first path_outcomes none
 none_first (path_outcome.Skipped path ∷ path_outcomes) none = none_first path_outcomes none
+none_first (path_outcome.Left path ∷ path_outcomes) none = none_first path_outcomes none
 
 -- a run's changes lead to the tree of the command's outcome
 pub run_previews : (command : Command) (held : State) (answer : Result Previewed Refusal) (after : Files)

@@ -99,8 +99,8 @@ drawn_trees before after changes (Err fault) same all = tt
 -- a run that is accepted leaves the tree of its outcome
 pub ran_to : (command : Command) (when : ℕ) (held : State) (reply : Response) (new : State)
     → Runs command when held (Ok reply) new → outcome_of command held.tree ≡ Ok new.tree
-ran_to command when held (Changed paths) new runs = runs.1.outcome
-ran_to command when held NothingChanged new runs = runs.1 ∙ ap (λ (left : State). Ok left.tree) (sym runs.2)
+ran_to command when held (Changed paths left) new runs = runs.1.outcome
+ran_to command when held (NothingChanged left) new runs = runs.1 ∙ ap (λ (held : State). Ok held.tree) (sym runs.2)
 ran_to command when held reply new runs = absurd runs
 
 -- an outcome is one tree

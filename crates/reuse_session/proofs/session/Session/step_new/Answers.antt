@@ -7,7 +7,8 @@ use Rattle.reuse_journal.specs.Journal.{State}
 use Rattle.reuse_journal.specs.JournalFiles.{IsKeptIn}
 use Rattle.reuse_journal.specs.Losses.{AllRecoverToTree, Survives, Earlier}
 use Rattle.reuse_change.specs.Entry.{paths_of}
-use Rattle.reuse_session.specs.session.Session.{store_of, IsRun, Runs, SimulatesState}
+use Rattle.reuse_plan.specs.PathOutcomes.{left_paths}
+use Rattle.reuse_session.specs.session.Session.{store_of, IsRun, SimulatesState}
 use Rattle.reuse_command.specs.declared.reply.Response.TheVariants.{Changed}
 use Rattle.reuse_command.proofs.OnlyReading.{is_refused}
 use Rattle.reuse_session.proofs.lemmas.session.Recording.{EntryPut, EntryListed, Recording, put_early, can_go}
@@ -100,17 +101,23 @@ returns-clause-exact g c honest held stands reported =
     (c.step.ensures.call.later.was_honest honest) held stands in (
       made.second,
       c.in_ok-step.ensures.mutations honest held made.second made.stands made.is,
-      subst (λ ps. Runs c.args.command.now c.args.when held (Ok (Changed ps)) made.second)
-          (sym (c.in_ok-paths.ensures ∙ ap paths_of c.deref.ensures.value)) made.runs,
+      (
+        c.in_ok-paths.ensures ∙ ap paths_of c.deref.ensures.value ∙ made.paths,
+        made.run,
+        c.requires.left (c.put_entry.ensures.later.was_honest (c.step.ensures.call.later.was_honest honest))
+            ∙ ap (left_paths c.args.command.now) stands.committed.tree,
+      ),
     )
 
 pub returns-clause-leaves : goal.returns-clause-leaves
 returns-clause-leaves g c =
     let at = goal.at.returns-clause-leaves g c in
-    subst (λ ps. LeavesRun g.S.Store c.args.command.now c.args.when (Ok (Changed ps)) c.args.self.now c.step.new.self)
+    subst
+    (λ ps. LeavesRun g.S.Store c.args.command.now c.args.when (Ok (Changed ps c.args.left)) c.args.self.now
+    c.step.new.self)
     (sym (c.in_ok-paths.ensures ∙ ap paths_of c.deref.ensures.value))
     (record_leaves (entry_put g at.After-put_entry) (entry_listed g at.After-step) c.step.new.self
-    c.step.ensures.call.later.was_honest c.step.ensures.folder c.step.ensures.written c.step.ensures.asks
+    c.step.ensures.call.later.was_honest c.step.ensures.folder c.step.ensures.written c.step.ensures.asks c.args.left
     c.in_ok-put_entry.ensures.counted c.in_ok-put_entry.ensures.text c.in_ok-step.ensures.texts)
 
 -- ---- after a loss of power
