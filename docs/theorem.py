@@ -1,7 +1,7 @@
 #!/usr/bin/env python3
 """Prints the headline, the contract of `drive`, and each definition that it stands on, from the
 sources, in the order in which they are first needed. It ends at what a command makes of a tree
-(`outcome_of`, `path_outcomes_of`): the headline holds whatever these two say.
+(`outcome_of`, `path_outcomes_of`, `left_paths`): the headline holds whatever these three say.
 usage: docs/theorem.py            the contract and the definitions, with their texts
        docs/theorem.py --names    a line for each definition: its file and its name
        docs/theorem.py --count    how many there are, in how many files and lines
@@ -14,7 +14,7 @@ from dataclasses import dataclass, field
 
 CRATES = pathlib.Path(__file__).resolve().parent.parent / "crates"
 HEADLINE = CRATES / "reuse_session/src/events.rt"
-ENDS = {"outcome_of", "path_outcomes_of"}
+ENDS = {"outcome_of", "path_outcomes_of", "left_paths"}
 WORD = re.compile(r"[^\s(){}\[\],;.:→×λ∷≡≢⊎+¬↔≤<=|]+")
 IMPORT = re.compile(r"^(?:ghost |pub )?use (\S+?)(?:\.\{([^}]*)\}| as (\S+?));?$", re.M)
 DEFINES = re.compile(r"((?:abbrev |unfoldable |pub )*)(record |data )?([^\s:({]+)")

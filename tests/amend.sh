@@ -1,9 +1,9 @@
 #!/usr/bin/env bash
 # Amends trees: worked examples (amend/examples.txt); random trees and options against the rules
-# told once more (amend/retelling.py), each taken back and made again byte for byte; folders, lists,
-# globs, refusals, diffs, JSON and statuses; and four tasks on 600 files, which Debian's reuse
-# judges if it is installed: another licence, another name of a holder, years of one holder, a
-# contributor removed.
+# told once more (amend/retelling.py, amend/left.py), each taken back and made again byte for byte;
+# folders, lists, globs, refusals, diffs, JSON and statuses; what is left, as grep finds it; and
+# four tasks on 600 files, which Debian's reuse judges if it is installed: another licence, another
+# name of a holder, years of one holder, a contributor removed.
 # TREES: how many random trees (300). SEED: the number of the first (1).
 # usage: tests/amend.sh PROGRAM
 # The tags below are data: REUSE-IgnoreStart
@@ -33,7 +33,8 @@ holds() { [[ $(printf %b "$2") == "$(< "$tree/$1")" ]] || fail "$1 holds $(< "$t
 calls() {
   local change=(--replace-license MIT ISC)
   files a.py "$mit" src/b.py "$mit" src/deep/c.py "$mit" build/d.py "$mit" e.xyz "$mit"
-  is "$(told "${change[@]}" a.py e.xyz)" $'changed a.py\nstatus 0' 'given files'
+  is "$(told "${change[@]}" a.py e.xyz)" \
+    $'changed a.py\nleft e.xyz\nstatus 0' 'given files'
   holds a.py "$isc"
   is "$(told "${change[@]}" a.py)" $'nothing changed\nstatus 0' 'the same call again'
   is "$("$program" --root "$tree" log | sed -E 's/ [0-9-]{10} / DATE /')" \
@@ -146,6 +147,72 @@ tables() {
   is "$(told "${change[@]}" -r .)" $'changed REUSE.toml/a.py\nstatus 0' 'a folder of that name'
 }
 
+# What is left: lines behind all others, objects and statuses. A path that would be left counts for
+# the status of a check, and one that was left for none.
+left() {
+  local change=(--replace-license MIT ISC) lines object path
+  local header='// SPDX-License-Identifier: MIT\n'
+  local notice='/*\n * SPDX-License-Identifier: MIT\n */\n'
+  local neighbour='SPDX-License-Identifier: MIT\n'
+  files a.c "$header$notice" b.py "$isc" p.png '\0211PNG' \
+    p.png.license "${neighbour}SPDX-SnippetBegin\n$neighbour" script "$mit" z.py "$mit"
+  lines=$(printf '%s\n' 'would change a.c' 'unchanged b.py' 'would change p.png.license' \
+    'unchanged script' 'would change z.py' 'would leave a.c' 'would leave p.png' \
+    'would leave script')
+  is "$(told "${change[@]}" -r . -n)" "$lines"$'\nstatus 0' 'a dry run with files that are left'
+  is "$(told "${change[@]}" -r . --check)" "$lines"$'\nstatus 1' 'a check'
+  told "${change[@]}" -r . -n --diff > "$room/diff"
+  is "$(sed '/^diff --git /,$d' "$room/diff")" "$lines" 'the lines in front of a diff'
+  is "$(tail -n 1 "$room/diff")" 'status 0' 'a diff with files that are left'
+  is "$(told "${change[@]}" script b.py -n)" \
+    $'unchanged b.py\nunchanged script\nwould leave script\nstatus 0' 'a dry run of no change'
+  for path in --check '-n --exit-non-zero-on-change'; do
+    # shellcheck disable=SC2086
+    is "$(told "${change[@]}" script b.py $path)" \
+      $'unchanged b.py\nunchanged script\nwould leave script\nstatus 1' "$path of no change"
+  done
+  is "$(told "${change[@]}" --check b.py)" $'unchanged b.py\nstatus 0' 'a check of none'
+  is "$(told "${change[@]}" --check -r . --exclude '*.c' --exclude script --exclude p.png \
+    --exclude z.py)" $'unchanged b.py\nstatus 0' 'a check without what is excluded'
+  object='{"outcome":"left","path":"script"}'
+  is "$(told "${change[@]}" script -n --json)" \
+    $'{"outcome":"unchanged","path":"script"}\n'"$object"$'\nstatus 0' 'objects'
+  is "$(told "${change[@]}" script z.py --check --json)" \
+    "$(printf '%s\n' '{"outcome":"unchanged","path":"script"}' \
+      '{"outcome":"would change","path":"z.py"}' "$object" 'status 1')" 'objects of a check'
+  # A refused path isn't left, and in a dry run the others are.
+  "$program" --root "$tree" amend --remove-license MIT -r . -n > "$room/out" 2> "$room/error" &&
+    fail 'status 0 of a refusal'
+  is "$(< "$room/out")" $'unchanged b.py\nunchanged script\nwould leave script' \
+    'lines beside refusals'
+  is "$(< "$room/error")" "$(printf 'reuse-undo: %s: nothing left\n' a.c p.png z.py)" 'refusals'
+  is "$(told --remove-license MIT -r .)" $'reuse-undo: a.c: nothing left\nstatus 1' 'a refusal'
+  # A run, and the same once more
+  lines=$(printf '%s\n' 'left a.c' 'left p.png' 'left script')
+  is "$(told "${change[@]}" -r .)" \
+    "$(printf '%s\n' 'changed a.c' 'changed p.png.license' 'changed z.py' "$lines" 'status 0')" \
+    'a run that leaves files'
+  holds a.c "// SPDX-License-Identifier: ISC\n$notice"
+  is "$(told "${change[@]}" -r . --exit-non-zero-on-change)" \
+    $'nothing changed\n'"$lines"$'\nstatus 0' 'the status of files that are left'
+  is "$("$program" --root "$tree" undo)" \
+    $'undone a.c\nundone p.png.license\nundone z.py' 'an undo after it'
+  is "$(told "${change[@]}" -r . --exit-non-zero-on-change | tail -n 1)" 'status 1' 'a change'
+  is "$("$program" --root "$tree" show 1 | tail -n +2)" \
+    $'changed a.c\nchanged p.png.license\nchanged z.py' 'the step has no file that is left'
+  # With a style of its own the script is no longer left.
+  is "$(told "${change[@]}" --style python script)" $'changed script\nstatus 0' 'a style'
+  # What names nothing leaves nothing, and no other command does.
+  is "$(told --until 2026 --holder A -r .)" $'nothing changed\nstatus 0' 'years alone'
+  files script "$mit" a.py "$mit"
+  is "$("$program" --root "$tree" annotate -l ISC --skip-unrecognised -r .)" 'changed a.py' \
+    'another command'
+  # Files of over 16 MiB are not read to their end.
+  { printf %b "$mit" && head -c 16777216 /dev/zero | tr '\0' x; } > "$tree/long"
+  is "$(told "${change[@]}" long script)" \
+    $'nothing changed\nleft script\nstatus 0' 'a file that is too long'
+}
+
 # Metadata, and the notes of refusals
 metadata() {
   local line
@@ -231,6 +298,7 @@ task() {
   told "$@" -r . > "$room/changed"
   is "$(tail -n 1 "$room/changed")" 'status 0' "$name"
   is "$(grep -c '^changed ' "$room/changed")" "$changed" "$name, files changed"
+  ! grep -q '^left ' "$room/changed" || fail "$name leaves files"
   is "$(count "$gone")" 0 "$name, files with $gone"
   (($(count "$found") >= changed)) || fail "$name: $found is in $(count "$found") files"
   sums > "$room/after"
@@ -259,12 +327,53 @@ tasks() {
   lint 'a contributor'
 }
 
+# A tree of 600 files whose second tags stand below headers, behind code, in files without a style
+# and in neighbours: those that are left are those in which grep finds the licence.
+leaving() {
+  rm -rf "$tree"
+  python3 - "$tree" << 'PYTHON'
+import os
+import sys
+
+root = sys.argv[1]
+forms = [
+    ("a.c", "// {one}\n/*\n * {two}\n */\nint x;\n"),
+    ("b.py", "# {one}\n\nx = 1  # {two}\n"),
+    ("c.html", "<!--\n{one}\n-->\n<p title='{two}'>\n"),
+    ("script", "#!/bin/sh\n# {one}\n\n# {two}\n"),
+    ("d.csv", "{one}\n{two}\n"),
+    ("e.png.license", "{one}\nSPDX-SnippetBegin\n{two}\nSPDX-SnippetEnd\n"),
+]
+licences = ["GPL-2.0", "MIT", "GPL-2.0 OR MIT", "GPL-2.0-only", "MIT AND (GPL-2.0 OR ISC)", "0BSD"]
+for number in range(600):
+    name, text = forms[number % 6]
+    tags = ["SPDX-License-Identifier: " + licences[number // k % 6] for k in (6, 36)]
+    path = os.path.join(root, f"part{number % 7}", f"{number}{name}")
+    os.makedirs(os.path.dirname(path), exist_ok=True)
+    with open(path, "w") as out:
+        out.write(text.format(one=tags[0], two=tags[1]))
+    if name == "e.png.license":
+        with open(path[: -len(".license")], "wb") as out:
+            out.write(b"\x89PNG")
+PYTHON
+  told --replace-license GPL-2.0 GPL-2.0-or-later -r . > "$room/changed"
+  (cd "$tree" && grep -rlE --exclude-dir=.reuse "GPL-2\.0([ )'>]|\$)" .) |
+    sed 's/^\.\///; s/\.license$//' | LC_ALL=C sort > "$room/found"
+  sed -n 's/^left //p' "$room/changed" > "$room/left"
+  diff "$room/found" "$room/left" > "$room/differ" || fail "what is left: $(< "$room/differ")"
+  (($(wc -l < "$room/left") >= 200)) || fail 'few files are left'
+  (($(grep -c '^changed ' "$room/changed") >= 200)) || fail 'few files are changed'
+}
+
 examples=$(python3 "$here/examples.py" "$program" "$room" "$here/examples.txt") || fail "$examples"
 calls
 tables
+left
 metadata
 tasks
+leaving
 random=$(python3 "$here/random_trees.py" "$program" "$room" "${TREES:-300}" "${SEED:-1}") ||
   fail "$random"
 echo "$examples; four tasks on 600 files, of which reuse judged $lints times;" \
+  "of 600 more $(wc -l < "$room/left") are left, as grep says;" \
   "random trees: $random"

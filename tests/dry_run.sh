@@ -37,8 +37,9 @@ alike() {
 # refused or change something
 mkdir "$room/json"
 look_again() {
-  local status=0 wanted=$1 json=$room/json/$compared
-  grep -q '^would change ' "$room/looked" && wanted=1
+  local status=0 wanted=$1 changes=$1 json=$room/json/$compared
+  grep -qE '^would (change|leave) ' "$room/looked" && wanted=1
+  grep -q '^would change ' "$room/looked" && changes=1
   "$program" --root "$tree" "${call[@]}" --check < "$input" > "$json.lines" \
     2> "$json.refusals" || status=$?
   [[ $status == "$wanted" ]] || fail "${call[*]} --check: status $status"
@@ -55,12 +56,12 @@ look_again() {
       status=0
       "$program" --root "$room/made" "${call[@]}" --exit-non-zero-on-change < "$input" \
         > "$room/out" 2>&1 || status=$?
-      [[ $status == "$wanted" ]] || fail "${call[*]} --exit-non-zero-on-change: status $status"
+      [[ $status == "$changes" ]] || fail "${call[*]} --exit-non-zero-on-change: status $status"
       ;;
   esac
 }
 
-compared=0 applied=0 refused=0 amended=0
+compared=0 applied=0 refused=0 amended=0 leaving=0
 # What a call reads on standard input
 input=/dev/null
 # A call on `$tree`: looked at, made on a copy, and, where it is accepted, made from its diff on two
@@ -93,6 +94,9 @@ compare() {
   diff <(sed -nE 's/^(changed|undone|redone) //p' "$room/out" | sort) \
     <(sed -n 's/^would change //p' "$room/looked" | sort) > "$room/differ" \
     || fail "${call[*]}: other paths change: $(< "$room/differ")"
+  diff <(sed -n 's/^left //p' "$room/out") <(sed -n 's/^would leave //p' "$room/looked") \
+    > "$room/differ" || fail "${call[*]}: other paths are left: $(< "$room/differ")"
+  ! grep -q '^left ' "$room/out" || leaving=$((leaving + 1))
   grep -q '^diff --git ' "$room/diff" || return 0
   rm -rf "$room/made/.reuse/undo"
   local tool
@@ -166,6 +170,7 @@ for example in "${examples[@]}"; do
   compare
 done
 in_examples=$applied
+((leaving >= 1)) || fail 'no example leaves a file'
 ((amended >= 7)) || fail "$amended examples of amend change something"
 
 # Lists of files and globs. The call must change just the files that a dry run names, and some do.
@@ -361,7 +366,8 @@ for number in range(1, count + 1):
     read = lambda end: open(name + end, encoding='utf-8', newline='').read()
     rows = [json.loads(line) for line in read('').split('\n')[:-1]]
     taken = [row for row in rows if row['outcome'] != 'refused']
-    lines = ''.join(f"{row['outcome']} {row['path']}\n" for row in taken)
+    words = {'left': 'would leave'}
+    lines = ''.join(f"{words.get(row['outcome'], row['outcome'])} {row['path']}\n" for row in taken)
     assert lines == read('.lines'), (number, lines, read('.lines'))
     refused = [row for row in rows if row['outcome'] == 'refused']
     reasons = ''.join(f"reuse-undo: {row['reason']}\n" for row in refused)
@@ -374,5 +380,5 @@ for number in range(1, count + 1):
 PYTHON
 echo "$compared dry runs on ${#examples[@]} examples, $picks picks of files and $rounds random" \
   "trees: $refused refused" \
-  "as the calls were; $applied diffs gave the tree of the call," \
+  "as the calls were, $leaving left files; $applied diffs gave the tree of the call," \
   "$in_examples of them of examples, $in_picks of picks and $amended of amend"

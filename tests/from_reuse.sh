@@ -223,6 +223,7 @@ habits() {
 }
 
 changes() {
+  local file
   row 'another licence' a.py "$tag\n\nx\n"
   tool 0 '' annotate -l ISC a.py
   has "$theirs" a.py "# SPDX-License-Identifier: ISC\n$tag\n\nx\n"
@@ -248,6 +249,16 @@ changes() {
   tool 2 'unrecognized arguments' annotate -l MIT --remove-contributor=Joe a.py
   program 0 'changed a.py' amend --remove-contributor 'Joe Bloggs' a.py
   has "$ours" a.py "$jane\n#\n$tag\n\nx\n"
+
+  row 'tags outside of the header' a.py "$tag\n\nx = 1  # SPDX-License-Identifier: ISC\n" \
+    script 'x\n# SPDX-License-Identifier: ISC\n'
+  for file in a.py script; do
+    tool 0 "FileName: ./$file" spdx
+    [[ $(grep -A 9 -xF "FileName: ./$file" "$room/out" | grep -c ': ISC$') == 1 ]] ||
+      fail "$what: the tool doesn't read $file: $(cat "$room/out")"
+    program 0 "left $file" amend --replace-license ISC 0BSD a.py script
+  done
+  has "$ours" script 'x\n# SPDX-License-Identifier: ISC\n'
 }
 
 other_words() {

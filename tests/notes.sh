@@ -233,12 +233,33 @@ choices() {
   notes annotate -l MIT -r --exclude none missing :
 }
 
+# What an amendment leaves of what it names
+left() {
+  local one=(amend --replace-license MIT ISC -r .) mit='# SPDX-License-Identifier: MIT\n'
+  local what='what the call names: amend changes header blocks, neighbours and REUSE.toml alone'
+  local change='1 file changed; .*'
+  files a.py "$mit" script "$mit"
+  notes "${one[@]}" : "$change" "1 path still holds $what"
+  notes "${one[@]}" -n : "1 path still holds $what"
+  notes "${one[@]}" --check --json : "1 path still holds $what"
+  notes "${one[@]}" --exclude script : "$change"
+  files b.py "$mit\n$mit" script "$mit"
+  notes "${one[@]}" : "$change" "2 paths still hold $what"
+  "$program" --root "$tree" "${one[@]}" > /dev/null
+  notes "${one[@]}" : "2 paths still hold $what"
+  notes undo : '1 file changed back; .*'
+  # Beside a refusal in a dry run, and not in the call that is refused
+  files a.py "$mit" script "$mit"
+  notes amend --remove-license MIT -r . -n : 'neither a licence .*' "1 path still holds $what"
+  notes amend --remove-license MIT -r . : 'neither a licence .*'
+}
+
 # A header in a file that had none, where its first line may have to stay the first
 harms() {
   local name word text line="$room/harms" changed='1 file changed; .*' jo=(-c Jo -y 2024)
   breaks() {
     local own='\.reuse/comments\.toml' way
-    way="first-lines and front-matter in $own keep such lines in front: see docs/RULES\.md"
+    way="first-lines and front-matter in $own keep such lines in front: see reuse-undo\(1\)"
     [[ $1 != *'(markup'* ]] ||
       way="rules in $own give such files another style, or a neighbour: see reuse-undo styles"
     printf '%s' "a header at the top may break $1; $way"
@@ -308,6 +329,8 @@ END
 dep5() {
   files .reuse/dep5 'Format: x\n\nFiles: *\nLicense: MIT\n'
   notes convert-dep5 : 'the fields Files, Copyright and License are asked for .*'
+  files .reuse/dep5 'Format: x\n\nFiles: *\nCopyright: J\nLicense: MIT\n Text\n\n More\n'
+  notes convert-dep5 : "an empty line ends a paragraph: within a licence's text .*"
   files .reuse/dep5 'Format: x\n\nFiles: a?.c\nCopyright: J\nLicense: MIT\n'
   notes convert-dep5 : 'REUSE\.toml has no sign for one character: write \* .*'
   files .reuse/dep5 'Format: x\n\nLicense: MIT\n Text\n'
@@ -506,7 +529,8 @@ progress() {
     fail 'progress without a terminal'
 }
 
-for group in words changes refusals once choices harms dep5 journal faults above names progress; do
+for group in words changes refusals once choices left harms dep5 journal faults above names \
+  progress; do
   $group
 done
 echo "$notes notes are as stated, with -v and at a terminal, and names show no control byte there"

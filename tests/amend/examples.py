@@ -2,8 +2,9 @@
 the third the file of examples.
 
 An example is a line `$ OPTIONS`, lines `@ NAME` that begin a file, lines `< LINE` of it before the
-call, and lines `> LINE` of it afterwards; a file without these stays. A line `! TEXT` is a refusal.
-`\\r`, `\\t` and `\\xHH` stand for bytes. Whatever else is in the file is no part of an example."""
+call, and lines `> LINE` of it afterwards; a file without these stays. A line `~ NAME` is a file
+that is left, in order, and a line `! TEXT` a refusal. `\\r`, `\\t` and `\\xHH` stand for bytes.
+Whatever else is in the file is no part of an example."""
 import re
 import shlex
 import sys
@@ -27,17 +28,19 @@ def read_examples(name):
         for line in file.read().split("\n"):
             sign, text = line[:1], line[2:]
             if sign == "$":
-                examples.append((text, {}, {}, []))
+                examples.append((text, {}, {}, [], []))
                 continue
             if not examples:
                 continue
-            _, before, after, refusals = examples[-1]
+            _, before, after, left, refusals = examples[-1]
             if sign == "@":
                 path = text
             elif sign == "<":
                 before[path] = before.get(path, b"") + bytes_of(text) + b"\n"
             elif sign == ">":
                 after[path] = after.get(path, b"") + bytes_of(text) + b"\n"
+            elif sign == "~":
+                left.append(f"left {text}")
             elif sign == "!":
                 refusals.append(text)
     return examples
@@ -47,22 +50,25 @@ def main():
     program, room, name = sys.argv[1:]
     root = room + "/tree"
     examples = read_examples(name)
-    for options, before, after, refusals in examples:
+    for options, before, after, left, refusals in examples:
         words = shlex.split(options)
         runs.write_tree(root, before)
         status, out, err = runs.call(program, root, "amend", *words, "--recursive", ".")
         if (status, err) != ((1, f"reuse-undo: {refusals[0]}\n") if refusals else (0, "")):
             sys.exit(f"{options}: status {status}, {out}{err}")
-        left = runs.read_tree(root)
+        if [line for line in out.split("\n") if line.startswith("left ")] != left:
+            sys.exit(f"{options}: {out}and not {left}")
+        made = runs.read_tree(root)
         wanted = {**before, **after}
-        for path in sorted(set(left) | set(wanted)):
-            if left.get(path) != wanted.get(path):
-                sys.exit(f"{options}: {path} is {left.get(path)}\nand not {wanted.get(path)}")
+        for path in sorted(set(made) | set(wanted)):
+            if made.get(path) != wanted.get(path):
+                sys.exit(f"{options}: {path} is {made.get(path)}\nand not {wanted.get(path)}")
         # The rules told once more say the same.
         fault, _ = runs.fault_of(program, root, before, words)
         if fault:
             sys.exit(f"{options}: {fault}")
-    print(f"{len(examples)} worked examples")
+    leave = sum(bool(example[3]) for example in examples)
+    print(f"{len(examples)} worked examples, of which {leave} leave files")
 
 
 main()

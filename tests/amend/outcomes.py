@@ -1,4 +1,5 @@
 """What amend does at each path of a tree, told once more by docs/RULES.md alone."""
+import left
 import tables
 from retelling import (
     STYLES, Refused, amend_file, amend_neighbour, is_covered, is_table, is_text, style_of,
@@ -19,13 +20,14 @@ def made_of(tree, path, amendments, style, own):
 
 
 def outcomes(tree, amendments, style=None, own={}):
-    """For each file that is gone through, in byte order: its path, and the path that changes and
-    its bytes, or None, or a refusal."""
+    """For each file that is gone through, in byte order: its path; the path that changes and its
+    bytes, or None, or a refusal; and whether the file is left."""
     worked = [path for path in tree if is_covered(path) or is_table(path)]
     for path in sorted(worked, key=str.encode):
         try:
             place, made = made_of(tree, path, amendments, style, own)
         except Refused as refused:
-            yield path, f"{path}: {refused}"
+            yield path, f"{path}: {refused}", False
             continue
-        yield path, (place, made) if made != tree[place] else None
+        is_left = not is_table(path) and left.still_names(made, amendments)
+        yield path, (place, made) if made != tree[place] else None, is_left

@@ -26,6 +26,13 @@ YEARS = """2019|2019-2021|2019 - 2021|2024|1999 - 1999|2021-2019|24|2020,|2020 -
 NEW_HOLDERS = HOLDERS + ["Jane */ Doe", "A --> B", "Jane Roe", "Jane Roe", "O'Day", 'J "J" \\ Day']
 FREE = ["A tool.", "", "  indented", "* starred", "Licensed as is", "SPDX-License-Identifier:"]
 BODIES = ["x = 1", "", "# not a header", "// a comment", "/* block */", "text", "\tindented", "é"]
+# Lines that hold a tag, and what may stand round it
+ROUND = ["{}", "x = '{}'", '<a title="{}" />', "<a title='{}'>", "[{}] ::", "/* {} */", "(* {}*)",
+         "<!-- {} -->", "1. {}", "é {}", "x = 1  # {}", '"""{}"""', "{} REUSE-IgnoreStart",
+         "** {} **", "[{}]", "<p>{}</p>"]
+END = "REUSE-Ignore" "End"
+REGIONS = ["# REUSE-IgnoreStart", "# " + END, END + " REUSE-IgnoreStart",
+           "# REUSE-IgnoreStart " + END]
 FILES = """a.py b.c c.css d.html e.lua f.tex g.el h.ini i.ml j.vim k.json Makefile x.proto y.unknown
 src/a.py src/b.h LICENSES/MIT.txt LICENSE z.PY deep/er/q.rs README.md""".split()
 
@@ -67,6 +74,17 @@ def comment(chance, name):
     return [first] + lines + [last]
 
 
+def body_line(chance):
+    """A line of code, now and then with a tag, or about a region that isn't read."""
+    kind = chance.random()
+    if kind < 0.75:
+        return chance.choice(BODIES)
+    if kind < 0.85:
+        return chance.choice(REGIONS)
+    tags = [tag(chance) for _ in range(chance.choice([1, 1, 1, 2]))]
+    return chance.choice(ROUND).format(" ".join(tags))
+
+
 def source(chance, name):
     lines = []
     if chance.random() < 0.15:
@@ -81,7 +99,7 @@ def source(chance, name):
     if chance.random() < 0.9:
         lines += comment(chance, name)
     for _ in range(chance.randint(0, 4)):
-        lines.append(chance.choice(BODIES))
+        lines.append(body_line(chance))
     if chance.random() < 0.2:
         lines += comment(chance, name)
     return lines
@@ -102,7 +120,7 @@ def file_at(chance, path, own):
         return b"SPDX-License-Identifier: GPL-2.0\n\0"
     if name in retelling.STYLES:
         return file_of(chance, source(chance, name))
-    return file_of(chance, contents(chance))
+    return file_of(chance, contents(chance) + [body_line(chance)])
 
 
 def quoted(chance, value):
@@ -219,7 +237,7 @@ def options_of(chance):
 
 def main():
     program, room, count, seed = sys.argv[1], sys.argv[2], int(sys.argv[3]), int(sys.argv[4])
-    tally = {"changed": 0, "unchanged": 0, "refused": 0}
+    tally = {"changed": 0, "unchanged": 0, "refused": 0, "left": 0}
     for number in range(seed, seed + count):
         chance = random.Random(number)
         tree, own = tree_of(chance)
@@ -227,7 +245,8 @@ def main():
         fault, became = runs.fault_of(program, room + "/tree", tree, options, own)
         if fault:
             sys.exit(f"tree {number}, {options}: {fault}")
-        tally[became] += 1
+        for word in became:
+            tally[word] += 1
     if count >= 100 and min(tally.values()) < 1:
         sys.exit(f"chance has no tree of each kind: {tally}")
     print(", ".join(f"{count} {became}" for became, count in tally.items()))

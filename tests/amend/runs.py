@@ -76,25 +76,33 @@ def call(program, root, *words):
     return done.returncode, done.stdout.decode(), done.stderr.decode()
 
 
-def expected(tree, options, own):
-    """What a call is to print, what a dry run, the tree afterwards, and what was asked for."""
-    asked, style = amendments_of(options)
-    after, refusals, lines, changed = dict(tree), [], [], []
-    for path, outcome in outcomes.outcomes(tree, asked, style, own):
-        if isinstance(outcome, str):
-            refusals.append(f"reuse-undo: {outcome}\n")
-        elif outcome:
-            place, after[outcome[0]] = outcome
-            changed.append(place)
-            lines.append(f"would change {place}\n")
-        else:
-            lines.append(f"unchanged {path}\n")
-    dry_run = int(bool(refusals)), "".join(lines), "".join(refusals)
-    if refusals:
-        return (1, "", refusals[0]), dry_run, tree, asked
-    changed.sort(key=str.encode)
-    printed = "".join(f"changed {place}\n" for place in changed) or "nothing changed\n"
-    return (0, printed, ""), dry_run, after, asked
+class Expected:
+    """What a call is to print, a dry run of it and a check, each with its status; the tree
+    afterwards; and the paths that are left."""
+
+    def __init__(self, tree, asked, style, own):
+        self.tree, self.left = dict(tree), []
+        refusals, lines, changed = [], [], []
+        for path, outcome, is_left in outcomes.outcomes(tree, asked, style, own):
+            if isinstance(outcome, str):
+                refusals.append(f"reuse-undo: {outcome}\n")
+            elif outcome:
+                place, self.tree[outcome[0]] = outcome
+                changed.append(place)
+                lines.append(f"would change {place}\n")
+            else:
+                lines.append(f"unchanged {path}\n")
+            if is_left:
+                self.left.append(path)
+        changed.sort(key=str.encode)
+        printed = "".join(lines) + "".join(f"would leave {path}\n" for path in self.left)
+        self.dry_run = int(bool(refusals)), printed, "".join(refusals)
+        self.check = int(bool(refusals or changed or self.left)), *self.dry_run[1:]
+        self.left_lines = "".join(f"left {path}\n" for path in self.left)
+        lines = "".join(f"changed {place}\n" for place in changed) or "nothing changed\n"
+        self.answer = 0, lines + self.left_lines, ""
+        if refusals:
+            self.answer, self.tree, self.left = (1, "", refusals[0]), tree, []
 
 
 def is_settled(asked):
@@ -110,34 +118,38 @@ def is_settled(asked):
 
 
 def fault_of(program, root, tree, options, own={}):
-    """Makes a dry run, the call, its undo, a redo and the call again on the tree. Names the first
-    difference from what is expected, if there is one, and whether the call was refused, changed
-    files or changed none."""
-    answer, dry_run, after, asked = expected(tree, options, own)
+    """Makes a dry run, a check, the call, its undo, a redo and the call again on the tree. Names the
+    first difference from what is expected, if there is one, and what became of the call: that it
+    was refused, changed files or changed none, and that it left files."""
+    asked, style = amendments_of(options)
+    wanted = Expected(tree, asked, style, own)
     write_tree(root, tree)
     words = ["amend", *options, "--recursive", "."]
-    found = call(program, root, *words, "--dry-run")
-    if found != dry_run:
-        return f"the dry run answers {found}\nand not {dry_run}", None
+    for option, answer in ("--dry-run", wanted.dry_run), ("--check", wanted.check):
+        found = call(program, root, *words, option)
+        if found != answer:
+            return f"with {option} it answers {found}\nand not {answer}", None
     if read_tree(root) != tree:
         return "the dry run changes the tree", None
     found = call(program, root, *words)
-    if found != answer:
-        return f"the call answers {found}\nand not {answer}", None
-    left = read_tree(root)
-    for path in sorted(set(left) | set(after)):
-        if left.get(path) != after.get(path):
-            return f"{path} is {left.get(path)}\nand not {after.get(path)}", None
-    if answer[0]:
-        return None, "refused"
-    if after == tree:
-        return None, "unchanged"
+    if found != wanted.answer:
+        return f"the call answers {found}\nand not {wanted.answer}", None
+    made = read_tree(root)
+    for path in sorted(set(made) | set(wanted.tree)):
+        if made.get(path) != wanted.tree.get(path):
+            return f"{path} is {made.get(path)}\nand not {wanted.tree.get(path)}", None
+    became = ["left"] if wanted.left else []
+    if wanted.answer[0]:
+        return None, ["refused"]
+    if wanted.tree == tree:
+        return None, ["unchanged"] + became
     if call(program, root, "undo")[0] or read_tree(root) != tree:
         return "undo doesn't give back the tree", None
-    if call(program, root, "redo")[0] or read_tree(root) != after:
+    if call(program, root, "redo")[0] or read_tree(root) != wanted.tree:
         return "redo doesn't make the step again", None
     if is_settled(asked):
         found = call(program, root, *words)
-        if found != (0, "nothing changed\n", "") or read_tree(root) != after:
-            return f"the same call again answers {found}", None
-    return None, "changed"
+        again = 0, "nothing changed\n" + wanted.left_lines, ""
+        if found != again or read_tree(root) != wanted.tree:
+            return f"the same call again answers {found}\nand not {again}", None
+    return None, ["changed"] + became
