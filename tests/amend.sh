@@ -198,7 +198,7 @@ left() {
   is "$("$program" --root "$tree" undo)" \
     $'undone a.c\nundone p.png.license\nundone z.py' 'an undo after it'
   is "$(told "${change[@]}" -r . --exit-non-zero-on-change | tail -n 1)" 'status 1' 'a change'
-  is "$("$program" --root "$tree" show 1 | tail -n +2)" \
+  is "$("$program" --root "$tree" show 2 | tail -n +2)" \
     $'changed a.c\nchanged p.png.license\nchanged z.py' 'the step has no file that is left'
   # With a style of its own the script is no longer left.
   is "$(told "${change[@]}" --style python script)" $'changed script\nstatus 0' 'a style'
