@@ -1,11 +1,11 @@
 //! What amendments leave of what they name, in any text. It includes what they could not change.
 ghost use Rattle.std.specs.Prelude.{◌≡◌};
-ghost use Rattle.reuse_tags.specs.Left.{read_part, ignores_next, names_licence_in, names_contributor_in};
-ghost use Rattle.reuse_tags.specs.Left.{names_in_line, leaves_values};
+ghost use Rattle.reuse_tags.specs.Left.{names_licence_in, names_contributor_in, names_notice_in, names_in_line};
+ghost use Rattle.reuse_tags.specs.Left.{leaves_values};
 
-use crate::reading::{contributor_in, licence_in, notice_in};
+use crate::ignored::{ignores_next, read_part};
+use crate::reading::{contributor_tag, licence_tag, notice_tag, value_of};
 use reuse_amend::{Amendments, names_contributor, names_licence, names_notice};
-use reuse_style::{find_text, holds};
 use reuse_text::Lines;
 
 /// Whether a tag of a text has a value that the amendments name, outside of
@@ -36,16 +36,16 @@ fn names_in_line(amendments: &Amendments, ignored: bool, line: &[u8]) -> bool
     let part = read_part(line);
     names_licence_in(amendments, part)
         || names_contributor_in(amendments, part)
-        || names_notice(amendments, notice_in(part))
+        || names_notice_in(amendments, part)
 }
 
 // Whether the licence of a line is one that the amendments name.
 fn names_licence_in(amendments: &Amendments, line: &[u8]) -> bool
     ensures { result ≡ names_licence_in amendments.now line.now }
 {
-    match licence_in(line) {
+    match licence_tag(line) {
         None => false,
-        Some(value) => names_licence(amendments, value),
+        Some(place) => names_licence(amendments, value_of(place)),
     }
 }
 
@@ -53,31 +53,18 @@ fn names_licence_in(amendments: &Amendments, line: &[u8]) -> bool
 fn names_contributor_in(amendments: &Amendments, line: &[u8]) -> bool
     ensures { result ≡ names_contributor_in amendments.now line.now }
 {
-    match contributor_in(line) {
+    match contributor_tag(line) {
         None => false,
-        Some(value) => names_contributor(amendments, value),
+        Some(place) => names_contributor(amendments, value_of(place)),
     }
 }
 
-// What is read of a line: what stands in front of a region that isn't.
-fn read_part(line: &[u8]) -> &[u8]
-    ensures { result.now ≡ read_part line.now }
+// Whether the notice of a line is one that the amendments name.
+fn names_notice_in(amendments: &Amendments, line: &[u8]) -> bool
+    ensures { result ≡ names_notice_in amendments.now line.now }
 {
-    match find_text(line, b"REUSE-IgnoreStart") {
-        None => line,
-        Some(place) => &line[..place],
-    }
-}
-
-// Whether the next line is in such a region, if a line is or isn't.
-fn ignores_next(ignored: bool, line: &[u8]) -> bool
-    ensures { result ≡ ignores_next ignored line.now }
-{
-    if ignored {
-        return !holds(line, b"REUSE-IgnoreEnd");
-    }
-    match find_text(line, b"REUSE-IgnoreStart") {
+    match notice_tag(line) {
         None => false,
-        Some(place) => !holds(&line[place..], b"REUSE-IgnoreEnd"),
+        Some(place) => names_notice(amendments, value_of(place)),
     }
 }

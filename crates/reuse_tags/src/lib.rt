@@ -3,6 +3,7 @@
 #![tactic(auto)]
 
 mod ends;
+mod ignored;
 mod left;
 mod reading;
 
