@@ -2,3 +2,5 @@ pub mod Ends
 pub mod Reading
 pub mod Ignored
 pub mod Left
+pub mod Around
+pub mod Everywhere

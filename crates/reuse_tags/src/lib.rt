@@ -1,10 +1,13 @@
 //! The tags of any text, wherever they stand in it, as REUSE's tools read them: what amendments
-//! leave there of what they name.
+//! leave there of what they name, and the tags amended where they stand.
 #![tactic(auto)]
 
+mod around;
 mod ends;
+mod everywhere;
 mod ignored;
 mod left;
 mod reading;
 
+pub use everywhere::amend_everywhere;
 pub use left::leaves;
