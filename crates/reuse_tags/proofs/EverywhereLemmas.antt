@@ -1,12 +1,14 @@
 -- Lines whose tags are amended.
-use Rattle.std.proofs.Common.{◌≡◌, ℕ, Bool, List, ◌∷◌, ◌++◌, Option, Some, None, refl, sym, ap, ◌∙◌, append_assoc}
+use Rattle.std.proofs.Common.{◌≡◌, ℕ, Bool, List, ◌∷◌, ◌++◌, Option, Some, None, refl, sym, ap, ◌∙◌}
+use Rattle.std.proofs.Common.{append_assoc}
 use Rattle.std.specs.Option.{option_map, option_map_or, option_and_then}
 use Rattle.reuse_text.specs.Text.{TextLine}
 use Rattle.reuse_amend.specs.declared.amendments.Amendments.{Amendments}
 use Rattle.reuse_tags.specs.Ignored.{read_part, ignores_next}
 use Rattle.reuse_tags.specs.Reading.{TagText, value_of}
 use Rattle.reuse_tags.specs.Around.{AroundText, around_of, with_value}
-use Rattle.reuse_tags.specs.Everywhere.{amended_at, bytes_made, lines_made}
+use Rattle.reuse_tags.specs.Everywhere.{amended_at}
+use Rattle.reuse_tags.specs.Everywhere.{bytes_made, lines_made}
 
 pub amended_by : (f : List ℕ → Option (List ℕ)) (line part : List ℕ) (t : TagText) (o : Option TagText)
     (p : AroundText) (v : Option (List ℕ)) → part ≡ read_part line → Some t ≡ o → p ≡ around_of line part t

@@ -1,2 +1,4 @@
 pub mod EndLemmas
 pub mod EverywhereLemmas
+pub mod PlaceLemmas
+pub mod LawLemmas

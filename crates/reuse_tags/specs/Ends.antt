@@ -1,5 +1,5 @@
 -- Where a tag's value ends: before the blanks, the quotes and the closers at its line's end (the reuse tool's pattern
--- of a line's end).
+-- of a line's end; quotes alone, too: this project's own).
 use Rattle.std.specs.Prelude.{ℕ, zero, suc, ◌-◌, ◌==◌, Bool, ◌||◌, nat_eq, List, [], ◌∷◌, length, take}
 use Rattle.std.specs.Prelude.{Option, None, Some, if◌then◌else◌, codes}
 use Rattle.std.specs.List.{ends_with}

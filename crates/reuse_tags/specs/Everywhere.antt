@@ -1,9 +1,12 @@
 -- What amendments make of each tag of a text, where it stands (this project's own).
-use Rattle.std.specs.Prelude.{ℕ, Bool, true, false, List, [], ◌∷◌, ◌++◌, take, Option, None, Some}
+use Rattle.std.specs.Prelude.{◌≡◌, ℕ, Bool, true, false, ◌||◌, List, [], ◌∷◌, ◌++◌, take, Option, Some, is_some}
+use Rattle.std.specs.Prelude.{unwrap_or, Result, Ok, Err}
 use Rattle.std.specs.Option.{option_map, option_map_or, option_and_then}
 use Rattle.reuse_text.specs.declared.LineKind.{LineKind}
 use Rattle.reuse_text.specs.Text.{TextLine, file_lines, line_bytes, ending_bytes, mark_len_of}
 use Rattle.reuse_amend.specs.declared.amendments.Amendments.{Amendments}
+use Rattle.reuse_amend.specs.declared.amendments.AmendRefusal.{AmendRefusal}
+use Rattle.reuse_amend.specs.AmendmentViews.{IsAnswer}
 use Rattle.reuse_amend.specs.Amending.{licence_alone, contributor_alone, notice_amended}
 use Rattle.reuse_tags.specs.Ignored.{read_part, ignores_next}
 use Rattle.reuse_tags.specs.Reading.{TagText, value_of, licence_tag, contributor_tag, notice_tag}
@@ -44,6 +47,17 @@ kept_bytes ending kept = option_map_or (λ line. line ++ ending_bytes ending) ke
 abbrev pub bytes_made : Amendments → Bool → TextLine → Option (List ℕ)
 bytes_made a true line = Some (line_bytes line)
 bytes_made a false line = option_map (kept_bytes line.ending) (line_amended a line.content)
+
+-- a line has a tag
+abbrev pub has_tag : List ℕ → Bool
+has_tag line =
+    is_some (licence_tag (read_part line)) || is_some (contributor_tag (read_part line))
+    || is_some (notice_tag (read_part line))
+
+-- the answer that is expected, where no bytes stand for a line's own
+abbrev pub IsLineAnswer : Option (List ℕ) → List ℕ → Result (Option (List ℕ)) AmendRefusal → Type 0
+IsLineAnswer expected own (Ok made) = expected ≡ Some (unwrap_or made own)
+IsLineAnswer expected own (Err refusal) = IsAnswer expected (Err refusal)
 
 -- the bytes that lines become
 unfoldable pub lines_made : Amendments → Bool → List (ℕ × TextLine) → Option (List ℕ)

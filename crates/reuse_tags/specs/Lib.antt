@@ -4,3 +4,4 @@ pub mod Ignored
 pub mod Left
 pub mod Around
 pub mod Everywhere
+pub mod Placed

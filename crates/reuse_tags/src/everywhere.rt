@@ -1,10 +1,11 @@
 //! The tags of a text amended where they stand: only the bytes of their values change.
-ghost use Rattle.std.specs.Prelude.{◌≡◌, ◌++◌, IfOk};
-ghost use Rattle.reuse_text.specs.Text.{ending_bytes};
+ghost use Rattle.std.specs.Prelude.{◌≡◌, ◌++◌, IfOk, OnOk, unwrap_or};
+ghost use Rattle.reuse_text.specs.Text.{ending_bytes, line_bytes};
 ghost use Rattle.reuse_text.specs.Lines.{line_view};
 ghost use Rattle.reuse_amend.specs.AmendmentViews.{IsAnswer};
 ghost use Rattle.reuse_tags.specs.Everywhere.{licence_amended_in, contributor_amended_in, notice_amended_in};
-ghost use Rattle.reuse_tags.specs.Everywhere.{names_amended_in, line_amended, bytes_made, amended_everywhere};
+ghost use Rattle.reuse_tags.specs.Everywhere.{names_amended_in, line_amended, bytes_made, has_tag, IsLineAnswer};
+ghost use Rattle.reuse_tags.specs.Everywhere.{amended_everywhere};
 
 use crate::around::{around_of, with_value};
 use crate::ignored::{ignores_next, read_part};
@@ -36,29 +37,51 @@ pub fn amend_everywhere(
             Ok(made) => made,
             Err(refusal) => return Err(refusal),
         };
-        amended.push_slice(made.as_slice())?;
+        push_line(&mut amended, line, made)?;
         ignored = ignores_next(ignored, line.content);
     }
     Ok(amended)
 }
 
-// The bytes that a line becomes.
+// Adds the bytes that a line becomes, or its own.
+fn push_line(amended: &mut Bytes, line: Line<'_>, made: Option<Bytes>) -> Result<(), AllocError>
+    ensures { OnOk result (amended.new ≡ amended.old ++ unwrap_or made (line_bytes (line_view line.entry).1)) }
+{
+    match made {
+        None => {
+            amended.push_slice(line.content)?;
+            amended.push_slice(ending_text(line.ending))
+        }
+        Some(bytes) => amended.push_slice(bytes.as_slice()),
+    }
+}
+
+// The bytes that a line becomes, none where it stays.
 fn make_line(
     alloc: Global,
     line: Line<'_>,
     ignored: bool,
     amendments: &Amendments,
-) -> Result<Bytes, AmendRefusal>
-    ensures { IsAnswer (bytes_made amendments.now ignored (line_view line.entry).1) result }
+) -> Result<Option<Bytes>, AmendRefusal>
+    ensures { let own = (line_view line.entry).1 in
+        IsLineAnswer (bytes_made amendments.now ignored own) (line_bytes own) result }
 {
-    if ignored {
-        return Ok(end_line(alloc, line.content, line.ending)?);
+    if ignored || !has_tag(line.content) {
+        return Ok(None);
     }
     match amend_line(alloc, line.content, amendments) {
-        Ok(None) => Ok(Bytes::new(alloc)),
-        Ok(Some(content)) => Ok(end_line(alloc, content.as_slice(), line.ending)?),
+        Ok(None) => Ok(Some(Bytes::new(alloc))),
+        Ok(Some(content)) => Ok(Some(end_line(alloc, content.as_slice(), line.ending)?)),
         Err(refusal) => Err(refusal),
     }
+}
+
+// Whether a line has a tag.
+fn has_tag(line: &[u8]) -> bool
+    ensures { result ≡ has_tag line.now }
+{
+    let part = read_part(line);
+    licence_tag(part).is_some() || contributor_tag(part).is_some() || notice_tag(part).is_some()
 }
 
 // A line's content and its ending.

@@ -6,8 +6,10 @@ mod around;
 mod ends;
 mod everywhere;
 mod ignored;
+mod laws;
 mod left;
 mod reading;
 
 pub use everywhere::amend_everywhere;
+pub use laws::{unnamed_texts_stay, values_alone_are_amended};
 pub use left::leaves;
