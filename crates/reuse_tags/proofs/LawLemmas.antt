@@ -173,7 +173,9 @@ module _ (a : Amendments) (until : a.until ≡ None) (prefix : a.prefix ≡ None
 
   placed_bytes : (start : ℕ) (lines : List TextLine) → bytes_of (placed start lines) ≡ text_of lines
   placed_bytes start [] = refl
-  placed_bytes start (line ∷ lines) = ap (λ rest. line_bytes line ++ rest) (placed_bytes (start + length (line_bytes line)) lines)
+  placed_bytes start (line ∷ lines) =
+      ap (λ rest. line_bytes line ++ rest)
+      (placed_bytes (start + length (line_bytes line)) lines)
 
   pub text_stays : (text : List ℕ) → leaves_values a text ≡ false → Everywhere.amended_everywhere a text ≡ Some text
   text_stays text e =

@@ -69,8 +69,8 @@ quoted_is text front e =
 
 element_first : (text front : List ℕ) → Ends.before_element_end text ≡ Some front → StandsFirst front text
 element_first text front e =
-    let h = then_some (λ f. Ends.if_quoted (drop_end is_blank (drop_end Ends.is_slash f))) (Ends.before (codes ">") text)
-    front e in
+    let h = then_some (λ f. Ends.if_quoted (drop_end is_blank (drop_end Ends.is_slash f)))
+    (Ends.before (codes ">") text) front e in
     let inner = first_further (drop_end is_blank (drop_end Ends.is_slash h.0)) (drop_end Ends.is_slash h.0) h.0
     (first_end is_blank (drop_end Ends.is_slash h.0)) (first_end Ends.is_slash h.0) in
     first_further front h.0 text
@@ -107,7 +107,8 @@ closers_first (suc n) text = by (λ t. closers_first n t) (Ends.before_closer te
     by again (Some front) e =
         let inner = drop_end Ends.is_blank_or_quote front in
         first_further (Ends.without_closers n inner) front text
-        (first_further (Ends.without_closers n inner) inner front (again inner) (first_end Ends.is_blank_or_quote front))
+        (first_further (Ends.without_closers n inner) inner front (again inner)
+        (first_end Ends.is_blank_or_quote front))
         (closer_first text front e)
 
 ended_first : (text : List ℕ) → StandsFirst (Ends.ended text) text
