@@ -57,14 +57,16 @@ files without a contributor:
 
 pub const AFTER_STYLES: &str = "\
 Each text file counts that annotate would refuse as unrecognised: no style is known for its name, and
-it has no neighbour PATH.license. So does one whose first line a header could break, such as front
-matter, if there is a ready style for its name. A line is COUNT NAME STYLE: how many files have this
-name, which is the last part of their paths or its ending, and the ready style for it, or `-` where
-there is none. FILE and GLOB are as those of annotate.
+it has no neighbour PATH.license. So does one that a header could break, if the ready styles and rules
+help: one whose first line has to stay the first, as that of front matter, or one that begins with
+markup, as PHP may. A line is COUNT NAME STYLE: how many files have this name, which is the last part
+of their paths or its ending, and the ready style for it. It is `rules` where ready rules give it by
+the first line of a file, and `-` where there is none. FILE and GLOB are as those of annotate.
 
 With --add the names that have a ready style are written into DIR/.reuse/styles.toml, and the ready
-comments that these styles take into DIR/.reuse/comments.toml. Where a name has neither an ending nor a
-ready style, ready rules for scripts go there, too. What is there stays.
+comments that these styles take into DIR/.reuse/comments.toml. The ready rules of a name go there in
+its place. Where a name has neither an ending nor a ready style, ready rules for scripts go there,
+too. What is there stays.
 
 Examples: which names have no style, ready styles for them, and all ready styles:
   reuse-undo styles
