@@ -25,7 +25,8 @@ LEFT
 
 # The names that the tools annotate in different ways: what the first line begins with that reuse
 # writes, and what that of the program. An x is the file's own: reuse doesn't recognise such a file,
-# since it looks for what stands from the last dot on, which is .cfg.
+# since it looks for what stands from the last dot on, which is .cfg. A .php that doesn't begin with
+# PHP gets a neighbour, since PHP would print the comment.
 different() {
   cat << DIFFERENT
 ;|;;|.el .lisp .scm .clj .cljc .cljs .rkt .lsp
@@ -35,6 +36,7 @@ different() {
 #|//|.scala
 x|#|.nim.cfg
 c|!|.f .f03 .f90 .f95 .for
+//|neighbour|.php
 DIFFERENT
 }
 
