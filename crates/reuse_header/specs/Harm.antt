@@ -1,9 +1,10 @@
 -- What a header could break in a file (docs/RULES.md, "What a header could break").
 use Rattle.std.specs.Prelude.{ℕ, Bool, false, not, ◌&&◌, nat_eq, List, [], ◌∷◌, length, drop, Option, None, Some}
-use Rattle.std.specs.Prelude.{is_none, is_some, codes}
+use Rattle.std.specs.Prelude.{is_none, is_some, codes, ◌||◌}
 use Rattle.std.specs.Prelude.{if◌then◌else◌}
 use Rattle.std.specs.List.{starts_with, list_any}
 use Rattle.std.specs.Option.{option_map_or, option_or}
+use Rattle.std.specs.Str.{bytes_eq}
 use Rattle.reuse_text.specs.Text.{file_lines}
 use Rattle.reuse_notice.specs.Tags.{is_blank, drop_front}
 use Rattle.reuse_style.specs.declared.style.Style.{Style}
@@ -57,16 +58,24 @@ opens_markup style =
 unfoldable pub is_no_markup : Style → Bool
 is_no_markup style = is_some (style_named (style_name style)) && not (opens_markup style)
 
--- the first of some lines that isn't blank begins with markup, perhaps behind blanks
-unfoldable pub begins_with_markup : PlacedLines → Bool
-begins_with_markup [] = false
-begins_with_markup (line ∷ lines) =
-    if is_whole_line [] line.1.content then begins_with_markup lines
-    else starts_with nat_eq (drop_front is_blank line.1.content) (codes "<")
+-- a text is markup in place of a style's own: in python a section of Apache's settings begins `<`, too, and so only a
+-- declaration counts there
+abbrev pub is_markup : Style → List ℕ → Bool
+is_markup style text =
+    if bytes_eq (style_name style) (codes "python")
+    then starts_with nat_eq text (codes "<?") || starts_with nat_eq text (codes "<!")
+    else starts_with nat_eq text (codes "<")
+
+-- the first of some lines that isn't blank is markup, perhaps behind blanks
+unfoldable pub begins_with_markup : Style → PlacedLines → Bool
+begins_with_markup style [] = false
+begins_with_markup style (line ∷ lines) =
+    if is_whole_line [] line.1.content then begins_with_markup style lines
+    else is_markup style (drop_front is_blank line.1.content)
 
 -- a comment in front of markup would be text of it, and so would the blank lines between
 unfoldable pub harm_to_markup : Style → PlacedLines → Option Harm
-harm_to_markup style body = if is_no_markup style && begins_with_markup body then Some Markup else None
+harm_to_markup style body = if is_no_markup style && begins_with_markup style body then Some Markup else None
 
 -- what a header that is put behind the prefix lines of a file could break
 abbrev pub harm_of : Style → List ℕ → Option Harm

@@ -4,6 +4,7 @@ ghost use Rattle.std.specs.Prelude.{◌≡◌, ◌<◌, ◌^◌, length};
 ghost use Rattle.reuse_text.specs.Lines.{lines_left};
 ghost use Rattle.reuse_header.specs.Harm.{names_value, is_directive, harm_before_line, harm_before, harm_of};
 ghost use Rattle.reuse_header.specs.Harm.{harm_among, harm_to_markup, begins_with_markup, is_no_markup, opens_markup};
+ghost use Rattle.reuse_header.specs.Harm.{is_markup};
 ghost use Rattle.reuse_header.specs.Harm.{begins_with_text, text_stands_first};
 
 use crate::blocks::block_at;
@@ -141,7 +142,7 @@ fn names_value(text: &[u8], name: &[u8]) -> bool
 fn harm_to_markup(lines: Lines, style: &Style<'_>) -> Option<Harm>
     ensures { result ≡ harm_to_markup style.now (lines_left lines.entry) }
 {
-    if is_no_markup(style) && begins_with_markup(lines) {
+    if is_no_markup(style) && begins_with_markup(lines, style) {
         Some(Harm::Markup)
     } else {
         None
@@ -167,14 +168,25 @@ fn opens_markup(style: &Style<'_>) -> bool
 
 // Whether the first of some lines that isn't blank begins with markup.
 #[tactic(auto, unfolding(crate::specs::Harm::begins_with_markup))]
-fn begins_with_markup(lines: Lines) -> bool
-    ensures { result ≡ begins_with_markup (lines_left lines.entry) }
+fn begins_with_markup(lines: Lines, style: &Style<'_>) -> bool
+    ensures { result ≡ begins_with_markup style.now (lines_left lines.entry) }
 {
     let mut rest = lines;
     while let Some(line) = rest.next() {
         if !is_whole_line(line.content, b"") {
-            return trim_blank_start(line.content).starts_with(b"<");
+            return is_markup(trim_blank_start(line.content), style);
         }
     }
     false
+}
+
+// Whether a text is markup in place of a style's own.
+fn is_markup(text: &[u8], style: &Style<'_>) -> bool
+    ensures { result ≡ is_markup style.now text.now }
+{
+    if style.name() == "python" {
+        text.starts_with(b"<?") || text.starts_with(b"<!")
+    } else {
+        text.starts_with(b"<")
+    }
 }
