@@ -114,6 +114,24 @@ leads_none direction changes tree = record {
   others = λ path e. refl;
 }
 
+-- what is in the way of a change was so before the changes in front of it, which leave all other paths
+pub clashed_before : (changes : List Change) → IsEntry changes → (i : ℕ) → i < length changes → (change : Change)
+    → change ≡ get_or changes i change → (before now : Files)
+    → ((path : List ℕ) → touches (take i changes) path ≡ false → get now path ≡ get before path)
+    → Clashes now (path_of change) → Clashes before (path_of change)
+clashed_before changes good i lt change is before now others clash =
+    at_test (touches (take i changes) clash.other) refl
+  where
+    at_test : (b : Bool) → touches (take i changes) clash.other ≡ b → Clashes before (path_of change)
+    at_test true e = absurd (false≢true (sym (good.apart (path_of change) clash.other
+        (ap (λ c. touches changes (path_of c)) is ∙ touched changes good i change lt)
+        (front_touches changes i clash.other e)) ∙ clash.nested))
+    at_test false e = record {
+      other = clash.other;
+      is_file = ap is_some (sym (others clash.other e)) ∙ clash.is_file;
+      nested = clash.nested;
+    }
+
 module _ (direction : Direction) (changes : List Change) (good : IsEntry changes) (i : ℕ) (lt : i < length changes)
     (change : Change) (is : change ≡ get_or changes i change) (before now : Files)
     (made : LeadsBy direction (take i changes) before now) where
@@ -146,17 +164,8 @@ module _ (direction : Direction) (changes : List Change) (good : IsEntry changes
   ready_now can = subst (λ f. IsReady direction change f) (sym still) can.ready
 
   pub free_now : CanBeMade direction before change → makes direction change ≡ true → Clashes now (path_of change) → ⊥
-  free_now can made_here clash = at_test (touches (take i changes) clash.other) refl
-    where
-      at_test : (b : Bool) → touches (take i changes) clash.other ≡ b → ⊥
-      at_test true e =
-          false≢true (sym (good.apart (path_of change) clash.other (ap (λ c. touches changes (path_of c)) is
-          ∙ touched changes good i change lt) (front_touches changes i clash.other e)) ∙ clash.nested)
-      at_test false e = can.free made_here (record {
-        other = clash.other;
-        is_file = ap is_some (sym (made.others clash.other e)) ∙ clash.is_file;
-        nested = clash.nested;
-      })
+  free_now can made_here clash =
+      can.free made_here (clashed_before changes good i lt change is before now made.others clash)
 
 -- ---- trees between which changes lead
 
@@ -180,7 +189,7 @@ leads_once direction changes before after other h k =
         subst (λ p. get after p ≡ get other p) (sym found.3) (applies_once_by direction
         (get_or changes found.0 found.1) _ _ _ (h.each found.0 found.1 found.2) (k.each found.0 found.1 found.2))
 
--- what the changes did they take back
+-- what the changes did they undo
 pub leads_back : (changes : List Change) (before after : Files) → LeadsBy Forward changes before after
     → LeadsBy Backward changes after before
 leads_back changes before after h = record { each = h.each; others = λ path e. sym (h.others path e) }

@@ -77,7 +77,7 @@ pub record Applies (change : Change) (before after : Option (List ℕ)) : Type 0
 abbrev pub IsBefore : Change → Option (List ℕ) → Type 0
 IsBefore change file = (after : Option (List ℕ)) × Applies change file after
 
--- the change can be taken back where the path holds this
+-- the change can be rolled back where the path holds this
 abbrev pub IsAfter : Change → Option (List ℕ) → Type 0
 IsAfter change file = (before : Option (List ℕ)) × Applies change before file
 
@@ -85,7 +85,7 @@ IsAfter change file = (before : Option (List ℕ)) × Applies change before file
 abbrev pub IsBeforeByRange : Change → Option (List ℕ) → Type 0
 IsBeforeByRange change file = (after : Option (List ℕ)) × AppliesByRange change file after
 
--- by range and length alone, the change can be taken back where the path holds this
+-- by range and length alone, the change can be rolled back where the path holds this
 abbrev pub IsAfterByRange : Change → Option (List ℕ) → Type 0
 IsAfterByRange change file = (before : Option (List ℕ)) × AppliesByRange change before file
 

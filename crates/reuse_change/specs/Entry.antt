@@ -154,7 +154,7 @@ abbrev pub opposite : Direction → Direction
 opposite Forward = Backward
 opposite Backward = Forward
 
--- a change that may have been made this way: it isn't, or it can be taken back
+-- a change that may have been made this way: it isn't, or it can be rolled back
 abbrev pub CanBeRolledBack : Direction → Files → Change → Type 0
 CanBeRolledBack direction tree change =
     IsReady direction change (get tree (path_of change)) ⊎ CanBeMade (opposite direction) tree change

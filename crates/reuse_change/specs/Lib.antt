@@ -8,3 +8,4 @@ pub mod Entry
 pub mod Tree
 pub mod Listing
 pub mod Clash
+pub mod CommandNames

@@ -1,13 +1,14 @@
 //! A change of one file, and its inverse.
-ghost use Rattle.std.specs.Prelude.{◌≡◌, ◌↔◌, ◌+◌, ◌≤◌, ◌++◌, ℕ, List, IfOk, IsTrue, length, take, drop};
+ghost use Rattle.std.specs.Prelude.{◌≡◌, ◌↔◌, ℕ, List, IfOk, IsTrue, length};
 ghost use Rattle.std.specs.Option.{option_copied, option_map};
 ghost use Rattle.reuse_text.specs.Text.{spliced};
 ghost use Rattle.reuse_change.specs.Digest.{IsDigestOf, IsSealOf, NothingHas, swapped};
 ghost use Rattle.reuse_change.specs.Change.{HoldsPart, IsBefore};
 ghost use Rattle.reuse_change.specs.Entry.{HasOwnDigest};
 
+use crate::file_range::{holds_part, is_file, spliced};
 use crate::{Digest, PathText, Seal};
-use reuse_text::{Bytes, splice};
+use reuse_text::Bytes;
 use std::alloc::{AllocError, Global};
 
 /// Where a file stands to a change.
@@ -354,52 +355,4 @@ fn swapped(seal: Option<Seal>) -> Option<Seal>
     ensures { result ≡ option_map swapped seal }
 {
     seal.map(|seal| seal.swapped())
-}
-
-// Whether the path holds these bytes.
-fn is_file(file: Option<&[u8]>, bytes: &Bytes) -> bool
-    ensures { IsTrue result ↔ (option_copied file.entry ≡ Some bytes.now) }
-{
-    match file {
-        None => false,
-        Some(file) => file == bytes.as_slice(),
-    }
-}
-
-// Whether the file is `at` bytes, the part, and `rest` bytes.
-fn holds_part(file: Option<&[u8]>, at: usize, part: &Bytes, rest: usize) -> bool
-    ensures { IsTrue result ↔ HoldsPart (option_copied file.entry) part.now at rest }
-{
-    match file {
-        None => false,
-        Some(file) => has_part(file, at, part.as_slice(), rest),
-    }
-}
-
-// Whether these bytes are `at` bytes, the part, and `rest` bytes.
-fn has_part(file: &[u8], at: usize, part: &[u8], rest: usize) -> bool
-    ensures { IsTrue result ↔ HoldsPart (Some file.now) part.now at rest }
-{
-    if file.len() < at || file.len() - at < part.len() || file.len() - at - part.len() != rest {
-        return false;
-    }
-    &file[at..at + part.len()] == part
-}
-
-// The file with the new bytes in place of those from `at` on.
-fn spliced(
-    alloc: Global,
-    file: &[u8],
-    at: usize,
-    old_len: usize,
-    new: &[u8],
-) -> Result<Bytes, AllocError>
-    requires { at + old_len ≤ length file.now }
-    ensures { IfOk result (λ bytes. bytes ≡ take at file.now ++ new.now ++ drop (at + old_len) file.now) }
-{
-    // No memory holds more bytes than can be counted.
-    if (file.len() - old_len).checked_add(new.len()).is_none() {
-        return Err(AllocError);
-    }
-    Ok(Bytes::from_vec(splice(alloc, file, at, old_len, new)?))
 }

@@ -7,6 +7,7 @@ mod command_name;
 mod digest;
 mod direction;
 mod entry_size;
+mod file_range;
 mod fixed_list;
 pub mod layout;
 mod listing;

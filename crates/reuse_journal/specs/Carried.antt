@@ -35,8 +35,8 @@ StopsRollingBack direction changes head start before after =
     (SomeMade direction changes start (tree_of after) × (undo_folder_of after ≡ undo_folder_of before))
     ⊎ ((tree_of after ≡ start) × SetsHead head before after)
 
--- rolling back stops: some of the changes are taken back under the head that was there, or all that were made are under
--- the new one
+-- rolling back stops: some of the changes are rolled back under the head that was there, or all that were made are
+-- under the new one
 abbrev pub StopsBack : Direction → List Change → List ℕ → Files → Files → Type 0
 StopsBack direction changes head before after =
     (SomeMade (opposite direction) changes (tree_of before) (tree_of after)

@@ -75,7 +75,7 @@ Replays direction [] old result new = (result ≡ Err (end_of direction)) × (ne
 Replays direction (step ∷ steps) old result new =
     GoesOneStep direction step (reply_of direction) (moved_on direction step steps old.journal) old result new
 
--- what undo answers and leaves: the last step done is taken back, and is the next to be redone
+-- what undo answers and leaves: the last step done is undone, and is the next to be redone
 abbrev pub Undoes : List Recorded → State → Result Response Refusal → State → Type 0
 Undoes = Replays direction.Backward
 

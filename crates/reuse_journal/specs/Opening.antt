@@ -68,7 +68,7 @@ IsFirstBad files path =
     ⊎ (NoFileAbove files × IsFirstBadIn (undo_folder_of files) path)
 
 -- The journal is without fault and a step is pending in it; the path is that of its first change that is neither made
--- nor not made, or that can't be taken back.
+-- nor not made, or that can't be rolled back.
 pub record IsStuckAt (files : Files) (path : List ℕ) : Type 0 where
   pub above : NoFileAbove files
   pub journal : Journal

@@ -80,7 +80,7 @@ impl History {
         self.done.len() >= MOST_LISTED || self.used >= LAST_NUMBER
     }
 
-    /// The entry that this way goes on with: an undo takes it back, or a redo makes it again.
+    /// The entry that this way goes on with: an undo undoes it, or a redo makes it again.
     pub fn next(&self, direction: Direction) -> Option<ListedEntry>
         ensures none { result ≡ None → entries_ahead direction self.now ≡ [] }
         ensures some { (entry : ListedEntry) → result ≡ Some entry → (front : List ListedEntry)

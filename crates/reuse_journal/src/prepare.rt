@@ -32,7 +32,7 @@ pub fn paths_of(alloc: Global, changes: &[Change]) -> Result<Paths, AllocError>
 pub enum Check {
     /// It can be made.
     Go,
-    /// It isn't made, or can be taken back.
+    /// It isn't made, or can be rolled back.
     RollingBack,
 }
 

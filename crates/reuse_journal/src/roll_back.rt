@@ -25,11 +25,11 @@ use reuse_store::apply_change::roll_back_change;
 use reuse_store::{Cause, Store};
 use std::alloc::Global;
 
-/// Tests that each change of a step that is pending this way is made or not, and can be taken back
-/// where it is made. Then takes back those that are made, and puts the head. It is refused as
+/// Tests that each change of a step that is pending this way is made or not, and can be rolled back
+/// where it is made. Then rolls back those that are made, and puts the head. It is refused as
 /// `Moved` at the first path where that can't be.
 ///
-/// A barrier stands before the first change that is taken back, so that the pending head is durable
+/// A barrier stands before the first change that is rolled back, so that the pending head is durable
 /// then; one stands behind the last change, before the head is put; and one behind the head.
 pub fn roll_back<S: Store>(
     alloc: Global,
@@ -70,7 +70,7 @@ pub fn roll_back<S: Store>(
     ensures refusal { IfErr result IsRollBackRefusal }
     ensures clash { S.honest store.new → IsEntry changes.now → ¬ (Clashes (S.files store.old) head_path)
         → IfErr result IsNoClash }
-    // It stops only where each change isn't made or can be taken back.
+    // It stops only where each change isn't made or can be rolled back.
     ensures tested { S.honest store.new → IsEntry changes.now → (cause : Cause)
         → result ≡ Err (refusals.Failed (failures.Interrupted cause))
         → All (CanBeRolledBack direction (tree_of (S.files store.old))) changes.now }
@@ -107,7 +107,7 @@ pub fn refusal_for(started: bool, cause: Cause) -> Refusal
     })
 }
 
-// Takes back each change that is made, and behind a barrier puts the head. It notes that puts and
+// Rolls back each change that is made, and behind a barrier puts the head. It notes that puts and
 // removals have started before it calls one.
 fn roll_back_changes<S: Store>(
     alloc: Global,

@@ -7,7 +7,7 @@ use Rattle.json.specs.Json as json
 use Rattle.json.specs.Json.{Parse, parse_map, after_end_array, read_key, if_last, items, members, value}
 use Rattle.json.specs.Lex.{tokens}
 use Rattle.json.proofs.Grammar.{items_end, items_fail, items_more, members_end, members_fail, members_more}
-use Rattle.json.proofs.Grammar.{members_no_key}
+use Rattle.json.proofs.Grammar.{members_no_key, value-begin_array, value-begin_object}
 use Rattle.serde_json.specs.Data.{Data, array, object, Items, no_items, item, Members, no_members, put}
 use Rattle.serde_json.specs.Read.{of_json, of_items, of_members, converted, read}
 
@@ -33,15 +33,30 @@ mapped_twice : {A B : Type 0} (f : A → B) (r : List Token) (o : Option A)
 mapped_twice f r None = refl
 mapped_twice f r (Some a) = refl
 
-pub array_converted : (o : Option (json.Items × List Token))
+array_converted : (o : Option (json.Items × List Token))
     → converted of_json (parse_map json.array o) ≡ parse_map array (converted of_items o)
 array_converted None = refl
 array_converted (Some p) = mapped_twice array p.1 (of_items p.0)
 
-pub object_converted : (o : Option (json.Members × List Token))
+object_converted : (o : Option (json.Members × List Token))
     → converted of_json (parse_map json.object o) ≡ parse_map object (converted (λ ms. of_members ms no_members) o)
 object_converted None = refl
 object_converted (Some p) = mapped_twice object p.1 (of_members p.0 no_members)
+
+-- ---- a value that begins with a bracket or with a brace
+
+module _ (depth : ℕ) (deep : 0 < depth) (ts s : List Token) where
+  pub array_begun : ts ≡ Token.begin_array ∷ s → converted of_json (value depth ts)
+      ≡ parse_map array (converted of_items (items (value (depth - 1)) (length s) s))
+  array_begun first =
+      ap (λ r. converted of_json (value depth r)) first ∙ ap (converted of_json) (value-begin_array depth s deep)
+      ∙ array_converted (items (value (depth - 1)) (length s) s)
+
+  pub object_begun : ts ≡ Token.begin_object ∷ s → converted of_json (value depth ts)
+      ≡ parse_map object (converted (λ js. of_members js no_members) (members (value (depth - 1)) (length s) s))
+  object_begun first =
+      ap (λ r. converted of_json (value depth r)) first ∙ ap (converted of_json) (value-begin_object depth s deep)
+      ∙ object_converted (members (value (depth - 1)) (length s) s)
 
 -- ---- the next item
 

@@ -2,6 +2,7 @@ pub mod Appending
 pub mod JsonParts
 pub mod JsonPrinting
 pub mod JsonTurns
+pub mod ReadSoFar
 pub mod Trimming
 pub mod PlainTexts
 pub mod SmallDigits

@@ -12,7 +12,6 @@ use Rattle.reuse_json.specs.JsonReading.{◌>>=◌, first_member, field_in, if_n
 use Rattle.reuse_change.specs.declared.change.Change.{Change}
 use Rattle.reuse_change.specs.declared.digest.Seal.{Seal}
 use Rattle.reuse_change.specs.declared.change.Change.TheVariants.{Make, Drop, Splice}
-use Rattle.reuse_json.specs.declared.entry.Entry.{Entry}
 use Rattle.reuse_change.specs.declared.command_name.CommandName.{CommandName}
 use Rattle.reuse_change.specs.declared.command_name.CommandName.TheVariants.{Annotate, ConvertDep5, Download, Revert}
 use Rattle.reuse_change.specs.declared.command_name.CommandName.TheVariants.{Amend, AddStyles}
@@ -167,15 +166,3 @@ abbrev pub with_next : Option (List Change) → Option Change → Option (List C
 with_next None next = None
 with_next (Some changes) next =
     if nat_lt (length changes) 100000 then option_map (λ change. changes ++ change ∷ []) next else None
-
-unfoldable pub entry_in : Data → Option Entry
-entry_in d = do
-  fields ← as_object d
-  changes ← first_member (codes "changes") fields
-  command ← field_in command_in (codes "command") changes.1
-  format ← field_in format_in (codes "format") command.1
-  _ ← if_known format.0 command.0
-  when ← field_in moment_in (codes "when") format.1
-  _ ← if_none_left when.1
-  cs ← changes_in format.0 changes.0
-  Some (record { changes = cs; command = command.0; when = when.0 })

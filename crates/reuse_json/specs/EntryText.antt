@@ -15,20 +15,9 @@ use Rattle.reuse_change.specs.Entry.{removed_by, written_by, AreAllSealed, IsEnt
 use Rattle.reuse_json.specs.Format.{format_number, knows}
 use Rattle.reuse_json.specs.Json.{IsJson, count, object_of, array_of}
 use Rattle.reuse_json.specs.declared.entry.Entry.{Entry}
-use Rattle.reuse_change.specs.declared.command_name.CommandName.{CommandName}
-use Rattle.reuse_change.specs.declared.command_name.CommandName.TheVariants.{Annotate, ConvertDep5, Download, Revert}
-use Rattle.reuse_change.specs.declared.command_name.CommandName.TheVariants.{Amend, AddStyles}
+use Rattle.reuse_change.specs.CommandNames.{command_name}
 
 -- ---- the text that is written
-
--- the name of a command
-abbrev pub command_name : CommandName → List ℕ
-command_name Annotate = codes "annotate"
-command_name ConvertDep5 = codes "convert-dep5"
-command_name Download = codes "download"
-command_name Revert = codes "revert"
-command_name Amend = codes "amend"
-command_name AddStyles = codes "styles"
 
 -- bytes in small hexadecimal digits, as a JSON string
 abbrev pub hex_text : List ℕ → List ℕ

@@ -1,4 +1,7 @@
 //! Why a text of the journal was not read.
+ghost use Rattle.std.specs.Prelude.{◌≡◌};
+ghost use Rattle.reuse_json.specs.declared.fault.DecodeFault.TheVariants.{Memory, NotGood};
+
 use json::Invalid;
 use std::alloc::{AllocError, AllocFailed};
 use thiserror::Error;
@@ -15,9 +18,6 @@ pub enum DecodeFault {
 }
 
 impl From<AllocError> for DecodeFault {
-    ghost use Rattle.std.specs.Prelude.{◌≡◌};
-    ghost use Rattle.reuse_json.specs.declared.fault.DecodeFault.TheVariants.{Memory};
-
     ghost from_gives = { λ _ e. e ≡ Memory };
 
     fn from(_error: AllocError) -> DecodeFault {
@@ -26,9 +26,6 @@ impl From<AllocError> for DecodeFault {
 }
 
 impl<T: Drop> From<AllocFailed<T>> for DecodeFault {
-    ghost use Rattle.std.specs.Prelude.{◌≡◌};
-    ghost use Rattle.reuse_json.specs.declared.fault.DecodeFault.TheVariants.{Memory};
-
     ghost from_gives = { λ _ e. e ≡ Memory };
 
     fn from(_error: AllocFailed<T>) -> DecodeFault {
@@ -37,9 +34,6 @@ impl<T: Drop> From<AllocFailed<T>> for DecodeFault {
 }
 
 impl From<Invalid> for DecodeFault {
-    ghost use Rattle.std.specs.Prelude.{◌≡◌};
-    ghost use Rattle.reuse_json.specs.declared.fault.DecodeFault.TheVariants.{NotGood};
-
     ghost from_gives = { λ _ e. e ≡ NotGood };
 
     fn from(_error: Invalid) -> DecodeFault {

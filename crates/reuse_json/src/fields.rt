@@ -142,11 +142,19 @@ pub fn next_path(alloc: Global, fields: &mut Fields<'_>, key: &str) -> Result<Pa
     path_of(alloc, field(fields, key)?)
 }
 
-/// A moment.
-pub fn moment_of(value: &Value) -> Result<Moment, DecodeFault>
+// A moment.
+fn moment_of(value: &Value) -> Result<Moment, DecodeFault>
     ensures { Gives result (moment_in (view value.now)) }
 {
     Moment::new(number_of(value)?).ok_or(DecodeFault::NotGood)
+}
+
+/// The moment of the next member, which has to have this key.
+pub fn next_moment(fields: &mut Fields<'_>, key: &str) -> Result<Moment, DecodeFault>
+    ensures { GivesBy (λ moment. (moment, members_view fields.new)) result
+        (field_in moment_in key.now (members_view fields.old)) }
+{
+    moment_of(field(fields, key)?)
 }
 
 // A number of 64 bits.

@@ -92,7 +92,7 @@ ReportsNames text_of expected old new (Err faults.Write) =
 ReportsNames text_of expected old new (Err faults.Memory) = new ≡ old
 ReportsNames text_of expected old new (Err fault) = ⊥
 
--- that the list couldn't be written is told exactly where the output failed
+-- that the list couldn't be written is reported exactly where the output failed
 abbrev pub TellsFailure : Bool → Bool → Result ℕ Fault → Type 0
 TellsFailure old new (Err faults.Write) = new ≡ true
 TellsFailure old new result = new ≡ old

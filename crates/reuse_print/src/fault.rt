@@ -1,4 +1,4 @@
-//! Why a line was not carried out.
+//! Why a call failed.
 ghost use Rattle.std.specs.Prelude.{◌≡◌, ◌↔◌, IfErr, IsOk, Some};
 ghost use Rattle.reuse_print.specs.RefusalTexts.{fault_text};
 ghost use Rattle.reuse_print.specs.declared.fault.Fault.TheVariants as faults;
@@ -10,13 +10,12 @@ use std::alloc::AllocError;
 use std::error::Error;
 use std::{fmt, io};
 
-/// Why a line was not carried out; its text is printed on standard error, but for that of a call
-/// that was only looked at.
+/// Why a call failed; its text is printed on standard error, but for that of a preview.
 #[derive(Debug, Drop)]
 pub enum Fault {
     /// The session refused.
     Refused(Refusal),
-    /// A call that was only looked at would be refused: each refusal is printed among
+    /// A call of which a preview was asked for would be refused: each refusal is printed among
     /// the path outcomes.
     WouldRefuse(PathOutcomes),
     /// What would change can't be printed as a diff, since a file or the journal can't be read

@@ -1,7 +1,7 @@
 //! The answer of a session in lines or as JSON objects, and what it is written to.
 //!
-//! Each text is made of values alone, and `output` says what the writer took. A fault, with which a
-//! line ends that is not carried out, is reported for the cause that was met. The program calls it.
+//! Each text is made of values alone, and `output` says what the writer took. A call that fails is
+//! reported with the cause that was met. The program calls it.
 //! Tested by `dry_run.sh`, `show_and_revert.sh` and `refusals.sh` in `tests/`.
 #![tactic(auto)]
 

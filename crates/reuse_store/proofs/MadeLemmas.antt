@@ -1,4 +1,4 @@
--- Some changes of an entry are made, and taken back.
+-- Some changes of an entry are made, and rolled back.
 use Rattle.std.proofs.Common.{◌≡◌, ◌≢◌, ◌⊎◌, inl, inr, ⊎_elim, ℕ, zero, suc, ◌+◌, ◌<◌, ◌≤◌, Bool, true, false, List, []}
 use Rattle.std.proofs.Common.{◌∷◌, length, get_or, take, Option, Some, None, is_some, refl, sym, ap, subst, ◌∙◌, arith}
 use Rattle.std.specs.List.{All}
@@ -21,7 +21,7 @@ use Rattle.reuse_change.specs.Tree.{is_of_tree, undo_folder_of}
 use Rattle.reuse_change.proofs.Differ.{touching}
 use Rattle.reuse_store.proofs.OfTree.{tree_at, step_of_tree, folder_stays}
 use Rattle.reuse_change.proofs.Walk.{front_touches, not_touched, touched, of_no_change, applies_once_by, untouched_more}
-use Rattle.reuse_change.proofs.Walk.{leads_none, leads_more, ready_now, made_is_file}
+use Rattle.reuse_change.proofs.Walk.{clashed_before, leads_none, leads_more, ready_now, made_is_file}
 
 -- what the changes don't touch, no front of them touches
 front_leaves : (changes : List Change) (count : ℕ) (path : List ℕ) → touches changes path ≡ false
@@ -138,7 +138,7 @@ pub reach_ready : (direction : Direction) (changes : List Change) (first after :
     → All (λ change. IsReady direction change (get first (path_of change))) changes
 reach_ready direction changes first after leads k d lt = (get after (path_of (get_or changes k d)), leads.each k d lt)
 
--- ---- changes are taken back
+-- ---- changes are rolled back
 
 pub applied : (direction : Direction) (change : Change) (old new : Option (List ℕ)) → AppliesBy direction change old new
     → AppliesBy (opposite direction) change new old
@@ -185,7 +185,7 @@ module _ (direction : Direction) (changes : List Change) (good : IsEntry changes
   not_yet : touches (take i changes) (path_of change) ≡ false
   not_yet = ap (λ c. touches (take i changes) (path_of c)) is ∙ not_touched changes good i change lt
 
-  -- before the change is taken back, its path holds what it held
+  -- before the change is rolled back, its path holds what it held
   pub stood : get old (path_of change) ≡ get now (path_of change)
   stood = back.made.others (path_of change) not_yet
 
@@ -215,7 +215,7 @@ module _ (direction : Direction) (changes : List Change) (good : IsEntry changes
         ready = All-more Ready changes i change lt ready_before (subst Ready is ready);
       }
 
-  -- one more change is taken back, or wasn't made
+  -- one more change is rolled back, or wasn't made
   pub back_more : (after : Files) → IsChangeRolledBack direction change now after
       → ArePartlyMade direction (take (i + 1) changes) after old
   back_more after (inl stays) = one_more after
@@ -230,7 +230,7 @@ module _ (direction : Direction) (changes : List Change) (good : IsEntry changes
       (inr (subst (AppliesBy direction change (get after (path_of change))) (sym stood)
       (returned direction change (get now (path_of change)) (get after (path_of change)) step.here)))
 
-  -- a change that could be set back can be, now
+  -- a change that could be rolled back can be, now
   pub still_made : CanBeRolledBack direction old change → (IsReady direction change (get now (path_of change)) → ⊥)
       → IsReady (opposite direction) change (get now (path_of change))
   still_made (inl ready) not_ready = absurd (not_ready (subst (IsReady direction change) stood ready))
@@ -239,19 +239,10 @@ module _ (direction : Direction) (changes : List Change) (good : IsEntry changes
   pub still_free : CanBeRolledBack direction old change → (IsReady direction change (get now (path_of change)) → ⊥)
       → makes (opposite direction) change ≡ true → Clashes now (path_of change) → ⊥
   still_free (inl ready) not_ready made_here clash = not_ready (subst (IsReady direction change) stood ready)
-  still_free (inr can) not_ready made_here clash = at_test (touches (take i changes) clash.other) refl
-    where
-      at_test : (b : Bool) → touches (take i changes) clash.other ≡ b → ⊥
-      at_test true e =
-          false≢true (sym (good.apart (path_of change) clash.other (ap (λ c. touches changes (path_of c)) is
-          ∙ touched changes good i change lt) (front_touches changes i clash.other e)) ∙ clash.nested)
-      at_test false e = can.free made_here (record {
-        other = clash.other;
-        is_file = ap is_some (back.made.others clash.other e) ∙ clash.is_file;
-        nested = clash.nested;
-      })
+  still_free (inr can) not_ready made_here clash = can.free made_here
+      (clashed_before changes good i lt change is old now (λ path e. sym (back.made.others path e)) clash)
 
--- a change of files is taken back in their tree, and the folder of the journal stays
+-- a change of files is rolled back in their tree, and the folder of the journal stays
 pub roll_back_of_tree : (direction : Direction) (change : Change) (m n : Files) → is_of_tree (path_of change) ≡ true
     → IsChangeRolledBack direction change m n → IsChangeRolledBack direction change (tree_of m) (tree_of n)
 roll_back_of_tree direction change m n of_tree (inl stays) =
@@ -289,7 +280,7 @@ module _ (direction : Direction) (changes : List Change) (good : IsEntry changes
         λ path none. sym (back.made.others path (front_leaves changes count path none)) ∙ partly.made.others path none;
   }
 
-  -- where all are taken back, the tree is that from before
+  -- where all are rolled back, the tree is that from before
   pub back_at_start : ArePartlyMade direction changes now old → now ≡ start
   back_at_start back = same_files now start (λ path. at_test path (touches changes path) refl)
     where
@@ -303,7 +294,7 @@ module _ (direction : Direction) (changes : List Change) (good : IsEntry changes
           found.0 found.1 found.2) (back.ready found.0 found.1 found.2) (partly.ready found.0 found.1 found.2)
           (back.made.each found.0 found.1 found.2) (partly.made.each found.0 found.1 found.2))
 
--- on the way from a tree, each change can be set back
+-- on the way from a tree, each change can be rolled back
 pub settles_from : (direction : Direction) (start now : Files) (changes : List Change) → IsEntry changes
     → AreFiles start → ArePartlyMade direction changes start now
     → All (CanBeRolledBack direction now) changes

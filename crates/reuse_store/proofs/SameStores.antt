@@ -1,8 +1,8 @@
 -- Stores that are alike, as one that hands each call on and the one inside it: what is asked of one is asked of both.
-use Rattle.std.proofs.Common.{◌≡◌, ◌∙◌, inl, inr, ℕ, List, Option, Some, None, Result, Ok, Err, sym, subst}
+use Rattle.std.proofs.Common.{◌≡◌, ◌∙◌, ◌⊎◌, inl, inr, ℕ, List, Option, Some, None, Result, Ok, Err, sym, subst}
 use Rattle.std.proofs.Common.{ap, arith, OnOk, IfErr}
 use Rattle.std.proofs.lemmas.Result.{on_ok_weaker}
-use Rattle.std.specs.FinMap.{remove}
+use Rattle.std.specs.FinMap.{insert, remove}
 use Rattle.std.specs.Result.{MatchResult}
 use Rattle.reuse_change.specs.Files.{Files, Clashes}
 use Rattle.reuse_change.specs.Parts.{joined}
@@ -42,6 +42,17 @@ module _ {W S : Type 0} (outer : Ghosts W) (inner : Ghosts S) (before after : W)
         mutations = omega (arith, l.mutations, b.mutations, a.mutations);
       }
 
+  -- a loss of power leaves the inside as it leaves the whole
+  left_inside : (made : Files → Files)
+      → ((left : Files) → outer.crash_states after left
+      → outer.crash_states before left ⊎ ((kept : Files) × outer.crash_states before kept × (left ≡ made kept)))
+      → (left : Files) → inner.crash_states new left
+      → inner.crash_states old left ⊎ ((kept : Files) × inner.crash_states old kept × (left ≡ made kept))
+  left_inside made may left is = elim (may left (a.gives_left left is)) [
+    | inl was ↦ inl (b.takes_left left was)
+    | inr was ↦ inr (was.0, b.takes_left was.0 was.1, was.2)
+  ]
+
   put : (path bytes : List ℕ) (answer : Result (Unit {0}) StoreFault) → IsPut outer path bytes before after answer
       → IsPut inner path bytes old new answer
   put path bytes answer p =
@@ -58,10 +69,7 @@ module _ {W S : Type 0} (outer : Ghosts W) (inner : Ghosts S) (before after : W)
             subst (λ f. IfErr answer (λ fault. PutFails fault path bytes f (inner.files new))) b.files
             (subst (λ f. IfErr answer (λ fault. PutFails fault path bytes (outer.files before) f)) a.files
             (p.err (a.gives honest)));
-        may = λ left is. elim (p.may left (a.gives_left left is)) [
-          | inl was ↦ inl (b.takes_left left was)
-          | inr made ↦ inr (made.0, b.takes_left made.0 made.1, made.2)
-        ];
+        may = left_inside (λ f. insert f path bytes) p.may;
         device = λ e. let rose = p.device e in omega (arith, rose, b.failures, a.failures);
         written = omega (arith, p.written, b.written, a.written);
         mutations = omega (arith, p.mutations, b.mutations, a.mutations);
@@ -80,10 +88,7 @@ module _ {W S : Type 0} (outer : Ghosts W) (inner : Ghosts S) (before after : W)
             subst (λ f. IfErr answer (λ fault. RemoveFails fault path f (inner.files new))) b.files
             (subst (λ f. IfErr answer (λ fault. RemoveFails fault path (outer.files before) f)) a.files
             (r.err (a.gives honest)));
-        may = λ left is. elim (r.may left (a.gives_left left is)) [
-          | inl was ↦ inl (b.takes_left left was)
-          | inr made ↦ inr (made.0, b.takes_left made.0 made.1, made.2)
-        ];
+        may = left_inside (λ f. remove f path) r.may;
         device = λ e. let rose = r.device e in omega (arith, rose, b.failures, a.failures);
         written = omega (arith, r.written, b.written, a.written);
         mutations = omega (arith, r.mutations, b.mutations, a.mutations);

@@ -32,7 +32,7 @@ cause_of faults.Device = causes.Device
 cause_of faults.Clash = causes.Clash
 cause_of faults.Memory = causes.Memory
 
--- the change was not made, or is taken back
+-- the change was not made, or is rolled back
 abbrev pub IsChangeRolledBack : Direction → Change → Files → Files → Type 0
 IsChangeRolledBack direction change before after =
     (IsReady direction change (get before (path_of change)) × (after ≡ before))

@@ -6,7 +6,7 @@ use crate::StoreFault;
 use std::alloc::AllocError;
 use thiserror::Error;
 
-/// Why going through changes stopped, before all were made or set back.
+/// Why going through changes stopped, before all were made or rolled back.
 #[derive(Clone, Copy, Debug, PartialEq, Eq, Error)]
 pub enum Cause {
     /// The device failed.

@@ -6,7 +6,8 @@ use Rattle.std.specs.Option.{option_map}
 use Rattle.std.specs.Str.{bytes_eq}
 use Rattle.std.proofs.lemmas.Slice.Eq.{bytes_eq-Decides}
 use Rattle.toml.specs.Data.{Data, string, integer, float, boolean, datetime, array, table}
-use Rattle.toml.specs.Data.{Items, no_items, item, Members, no_members, member}
+use Rattle.toml.specs.Data.{Items, no_items, item, Members, no_members, member, as_array, as_table}
+use Rattle.toml.proofs.Lines.{data_of_array, data_of_table}
 use Rattle.reuse_style.specs.Documents.{is_version}
 use Rattle.reuse_style.specs.CommentFile.{CommentTexts, NamedComments, StatedComments, style_members, named_members}
 use Rattle.reuse_style.specs.CommentFile.{comments_data, comments_document, texts_of_style, texts_of_data}
@@ -18,7 +19,7 @@ use Rattle.reuse_style.specs.Taken.{with_text, take_text, with_value, take_value
 use Rattle.reuse_style.proofs.TextLemmas.{taken, takes, passes, done}
 use Rattle.reuse_style.proofs.TakenLemmas.{begins, taken_value, takes_value, passes_value}
 use Rattle.reuse_style.proofs.RuleDocumentLemmas.{rules_are, rules_of_texts}
-use Rattle.reuse_style.proofs.DocumentLemmas.{if_some, both, version_is}
+use Rattle.reuse_style.proofs.DocumentLemmas.{if_some, both, given_by, version_is}
 
 -- ---- the list of texts of a key
 
@@ -54,13 +55,9 @@ items_of_texts (text ∷ texts) = ap (option_map (λ ts. text ∷ ts)) (items_of
 
 array_is : (value : Data) (texts : List (List ℕ)) → texts_of_array value ≡ Some texts
     → value ≡ array (text_items texts)
-array_is (array items) texts e = ap array (items_are items texts e)
-array_is (string s) texts e = absurd (let no : ⊥ = cc e in no)
-array_is (integer z) texts e = absurd (let no : ⊥ = cc e in no)
-array_is (float x) texts e = absurd (let no : ⊥ = cc e in no)
-array_is (boolean b) texts e = absurd (let no : ⊥ = cc e in no)
-array_is (datetime d) texts e = absurd (let no : ⊥ = cc e in no)
-array_is (table ms) texts e = absurd (let no : ⊥ = cc e in no)
+array_is value texts e =
+    let items = given_by texts_of_items array (as_array value) value (data_of_array value) texts e in
+    items.1 ∙ ap array (items_are items.0 texts items.2)
 
 -- a list that is taken off stood in front
 taken_list : (key : List ℕ) (ms : Members) → ms ≡ with_texts key (take_texts key ms).0 (take_texts key ms).1
@@ -230,13 +227,9 @@ table_is (member name value others) named e =
     by (λ more is. table_is others more is) (texts_of_data value) refl (comments_in_table others) refl e
   where
     value_is : (v : Data) (texts : CommentTexts) → texts_of_data v ≡ Some texts → v ≡ table (style_members texts)
-    value_is (table ms) texts e = ap table (style_is ms texts e)
-    value_is (string s) texts e = absurd (let no : ⊥ = cc e in no)
-    value_is (integer z) texts e = absurd (let no : ⊥ = cc e in no)
-    value_is (float x) texts e = absurd (let no : ⊥ = cc e in no)
-    value_is (boolean b) texts e = absurd (let no : ⊥ = cc e in no)
-    value_is (datetime d) texts e = absurd (let no : ⊥ = cc e in no)
-    value_is (array ds) texts e = absurd (let no : ⊥ = cc e in no)
+    value_is v texts e =
+        let style = given_by texts_of_style table (as_table v) v (data_of_table v) texts e in
+        style.1 ∙ ap table (style_is style.0 texts style.2)
 
     by : ((more : List NamedComments) → comments_in_table others ≡ Some more → others ≡ named_members more)
         → (t : Option CommentTexts) → texts_of_data value ≡ t
@@ -260,13 +253,9 @@ table_of_named (style ∷ named) =
 
 data_is : (value : Data) (named : List NamedComments) → comments_of_data value ≡ Some named
     → value ≡ table (named_members named)
-data_is (table ms) named e = ap table (table_is ms named e)
-data_is (string s) named e = absurd (let no : ⊥ = cc e in no)
-data_is (integer z) named e = absurd (let no : ⊥ = cc e in no)
-data_is (float x) named e = absurd (let no : ⊥ = cc e in no)
-data_is (boolean b) named e = absurd (let no : ⊥ = cc e in no)
-data_is (datetime d) named e = absurd (let no : ⊥ = cc e in no)
-data_is (array ds) named e = absurd (let no : ⊥ = cc e in no)
+data_is value named e =
+    let styles = given_by comments_in_table table (as_table value) value (data_of_table value) named e in
+    styles.1 ∙ ap table (table_is styles.0 named styles.2)
 
 -- members that are the version alone are just that
 version_alone : (ms : Members) → is_version_alone ms ≡ true

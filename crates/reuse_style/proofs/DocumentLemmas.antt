@@ -1,11 +1,14 @@
 -- A document of styles is just what it says.
 use Rattle.std.proofs.Common.{◌≡◌, Bool, true, false, cond, List, [], ◌∷◌, Option, Some, None, refl, ap, ◌∙◌, pos}
-use Rattle.std.specs.Prelude.{◌&&◌, ◌↔◌, codes}
+use Rattle.std.specs.Prelude.{◌&&◌, ◌↔◌, codes, option_and_then}
 use Rattle.std.specs.Option.{option_map}
 use Rattle.std.specs.Str.{bytes_eq}
 use Rattle.std.proofs.lemmas.Bool.Decides.{Decides-int_eq}
+use Rattle.std.proofs.lemmas.Option.{none-some}
 use Rattle.std.proofs.lemmas.Slice.Eq.{bytes_eq-Decides}
 use Rattle.toml.specs.Data.{Data, string, integer, float, boolean, datetime, array, table, Members, no_members, member}
+use Rattle.toml.specs.Data.{as_table}
+use Rattle.toml.proofs.Lines.{data_of_table}
 use Rattle.reuse_style.specs.Documents.{is_version}
 use Rattle.reuse_style.specs.StyleFile.{NamedText, texts_in, texts_of_value, texts_of_document}
 use Rattle.reuse_style.specs.StyleFile.{text_members, document_of}
@@ -17,6 +20,13 @@ if_some false o x e = absurd (let no : ⊥ = cc in no)
 pub both : (a b : Bool) → (a && b) ≡ true → (a ≡ true) × (b ≡ true)
 both true b e = (refl, e)
 both false b e = absurd (let no : ⊥ = cc in no)
+
+-- what is found in a part of a value was found in the part that the value is made of
+pub given_by : {A X : Type 0} (f : X → Option A) (make : X → Data) (part : Option X) (value : Data)
+    → ((x : X) → part ≡ Some x → value ≡ make x) → (found : A) → option_and_then f part ≡ Some found
+    → (x : X) × (value ≡ make x) × (f x ≡ Some found)
+given_by f make None value is found e = absurd (none-some found e)
+given_by f make (Some x) value is found e = (x, is x refl, e)
 
 -- a table of texts
 table_is : (ms : Members) (texts : List NamedText) → texts_in ms ≡ Some texts → ms ≡ text_members texts
@@ -45,13 +55,9 @@ texts_are (named ∷ texts) = ap (option_map (λ ts. named ∷ ts)) (texts_are t
 
 value_is : (value : Data) (texts : List NamedText) → texts_of_value value ≡ Some texts
     → value ≡ table (text_members texts)
-value_is (table ms) texts e = ap table (table_is ms texts e)
-value_is (string s) texts e = absurd (let no : ⊥ = cc e in no)
-value_is (integer z) texts e = absurd (let no : ⊥ = cc e in no)
-value_is (float x) texts e = absurd (let no : ⊥ = cc e in no)
-value_is (boolean b) texts e = absurd (let no : ⊥ = cc e in no)
-value_is (datetime d) texts e = absurd (let no : ⊥ = cc e in no)
-value_is (array ds) texts e = absurd (let no : ⊥ = cc e in no)
+value_is value texts e =
+    let names = given_by texts_in table (as_table value) value (data_of_table value) texts e in
+    names.1 ∙ ap table (table_is names.0 texts names.2)
 
 pub version_is : (value : Data) → is_version value ≡ true → value ≡ integer (pos 1)
 version_is (integer z) e = ap integer ((Decides-int_eq z (pos 1)).0 e)

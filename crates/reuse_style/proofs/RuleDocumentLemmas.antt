@@ -5,13 +5,14 @@ use Rattle.std.proofs.lemmas.List.{map-append}
 use Rattle.std.specs.Prelude.{codes, option_and_then}
 use Rattle.std.specs.Option.{option_map}
 use Rattle.toml.specs.Data.{Data, string, integer, float, boolean, datetime, array, table, as_bool}
-use Rattle.toml.specs.Data.{Items, no_items, item, Members, no_members, member}
+use Rattle.toml.specs.Data.{Items, no_items, item, Members, no_members, member, as_array, as_table}
+use Rattle.toml.proofs.Lines.{data_of_array, data_of_table}
 use Rattle.reuse_style.specs.RuleTexts.{RuleTexts, rule_members, rule_items, rules_data, rule_between, texts_of_rule}
 use Rattle.reuse_style.specs.RuleTexts.{rule_of_data, rules_of_items, rules_of_data}
 use Rattle.reuse_style.specs.Taken.{with_text, take_text, with_value, take_value, is_done}
 use Rattle.reuse_style.proofs.TakenLemmas.{begins, taken_value, takes_value, passes_value}
 use Rattle.reuse_style.proofs.TextLemmas.{taken, takes, passes, done}
-use Rattle.reuse_style.proofs.DocumentLemmas.{if_some}
+use Rattle.reuse_style.proofs.DocumentLemmas.{given_by, if_some}
 
 -- ---- a rule
 
@@ -88,13 +89,9 @@ rule_texts ms m1 m2 m3 m4 first_line name style over_table e1 e2 e3 e4 =
 -- ---- an array of rules
 
 data_is : (value : Data) (rule : RuleTexts) → rule_of_data value ≡ Some rule → value ≡ table (rule_members rule)
-data_is (table ms) rule e = ap table (rule_is ms rule e)
-data_is (string s) rule e = absurd (let no : ⊥ = cc e in no)
-data_is (integer z) rule e = absurd (let no : ⊥ = cc e in no)
-data_is (float x) rule e = absurd (let no : ⊥ = cc e in no)
-data_is (boolean b) rule e = absurd (let no : ⊥ = cc e in no)
-data_is (datetime d) rule e = absurd (let no : ⊥ = cc e in no)
-data_is (array ds) rule e = absurd (let no : ⊥ = cc e in no)
+data_is value rule e =
+    let texts = given_by texts_of_rule table (as_table value) value (data_of_table value) rule e in
+    texts.1 ∙ ap table (rule_is texts.0 rule texts.2)
 
 items_are : (items : Items) (rules : List RuleTexts) → rules_of_items items ≡ Some rules → items ≡ rule_items rules
 unfolding rules_of_items
@@ -122,13 +119,9 @@ items_of_rules (rule ∷ rules) =
     ∙ ap (option_map (λ rs. rule ∷ rs)) (items_of_rules rules)
 
 pub rules_are : (value : Data) (rules : List RuleTexts) → rules_of_data value ≡ Some rules → value ≡ rules_data rules
-rules_are (array items) rules e = ap array (items_are items rules e)
-rules_are (string s) rules e = absurd (let no : ⊥ = cc e in no)
-rules_are (integer z) rules e = absurd (let no : ⊥ = cc e in no)
-rules_are (float x) rules e = absurd (let no : ⊥ = cc e in no)
-rules_are (boolean b) rules e = absurd (let no : ⊥ = cc e in no)
-rules_are (datetime d) rules e = absurd (let no : ⊥ = cc e in no)
-rules_are (table ms) rules e = absurd (let no : ⊥ = cc e in no)
+rules_are value rules e =
+    let items = given_by rules_of_items array (as_array value) value (data_of_array value) rules e in
+    items.1 ∙ ap array (items_are items.0 rules items.2)
 
 pub rules_of_texts : (rules : List RuleTexts) → rules_of_data (rules_data rules) ≡ Some rules
 rules_of_texts rules = items_of_rules rules

@@ -7,6 +7,7 @@ use Rattle.std.specs.List.{list_all, filter_map, position_from}
 use Rattle.std.specs.Option.{option_or, option_map, option_map_or}
 use Rattle.std.specs.Str.{bytes_eq}
 use Rattle.toml.specs.Data.{Data, string, integer, array, table, Items, no_items, item, Members, no_members, member}
+use Rattle.toml.specs.Data.{as_array, as_table}
 use Rattle.reuse_text.specs.Text.{is_empty}
 use Rattle.reuse_style.specs.declared.comments_refusal.CommentsRefusal.{CommentsRefusal}
 use Rattle.reuse_style.specs.declared.comments_refusal.CommentsRefusal.TheVariants.{NotToml, BadShape, BadName}
@@ -89,8 +90,7 @@ texts_of_items (item (string text) others) = option_map (λ texts. text ∷ text
 texts_of_items (item value others) = None
 
 abbrev pub texts_of_array : Data → Option (List (List ℕ))
-texts_of_array (array items) = texts_of_items items
-texts_of_array value = None
+texts_of_array value = option_and_then texts_of_items (as_array value)
 
 -- a list of texts and the members behind it, or no list and all members
 abbrev pub texts_before : Option (List (List ℕ)) → Members → Members → Option (List (List ℕ)) × Members
@@ -128,8 +128,7 @@ texts_of_style members =
     }) else None
 
 abbrev pub texts_of_data : Data → Option CommentTexts
-texts_of_data (table members) = texts_of_style members
-texts_of_data value = None
+texts_of_data value = option_and_then texts_of_style (as_table value)
 
 -- the names and texts of a table, in its order, where each value is a style's table
 unfoldable pub comments_in_table : Members → Option (List NamedComments)
@@ -139,8 +138,7 @@ comments_in_table (member name value others) =
     (texts_of_data value)
 
 abbrev pub comments_of_data : Data → Option (List NamedComments)
-comments_of_data (table members) = comments_in_table members
-comments_of_data value = None
+comments_of_data value = option_and_then comments_in_table (as_table value)
 
 -- the only member is the version
 abbrev pub is_version_alone : Members → Bool

@@ -2,7 +2,7 @@
 use Rattle.std.specs.Prelude.{ℕ, Bool, List, [], ◌∷◌, Option, Some, None, option_and_then, if◌then◌else◌, codes}
 use Rattle.std.specs.Option.{option_map}
 use Rattle.toml.specs.Data.{Data, string, boolean, array, table, Items, no_items, item, Members, no_members, member}
-use Rattle.toml.specs.Data.{as_bool}
+use Rattle.toml.specs.Data.{as_array, as_bool, as_table}
 use Rattle.reuse_style.specs.Taken.{with_text, take_text, with_value, take_value, is_done}
 
 -- the texts of a rule: its globs, if they are there, and its style; and whether it says that it stands before the table
@@ -47,8 +47,7 @@ texts_of_rule members =
     rule_between first_line.0 name.0 over_table.0 (take_text (codes "style") over_table.1)
 
 abbrev pub rule_of_data : Data → Option RuleTexts
-rule_of_data (table members) = texts_of_rule members
-rule_of_data value = None
+rule_of_data value = option_and_then texts_of_rule (as_table value)
 
 -- the rules of an array, where it has nothing else
 unfoldable pub rules_of_items : Items → Option (List RuleTexts)
@@ -57,5 +56,4 @@ rules_of_items (item value others) =
     option_and_then (λ rule. option_map (λ rules. rule ∷ rules) (rules_of_items others)) (rule_of_data value)
 
 abbrev pub rules_of_data : Data → Option (List RuleTexts)
-rules_of_data (array items) = rules_of_items items
-rules_of_data value = None
+rules_of_data value = option_and_then rules_of_items (as_array value)

@@ -1,10 +1,10 @@
 -- The kinds that a project's file of styles gives to names (TOML 1.0, and this project's own keys).
 use Rattle.std.specs.Prelude.{◌≡◌, ℕ, pos, Bool, true, ◌&&◌, ◌==◌, List, [], ◌∷◌, ◌++◌, Option, Some, None}
-use Rattle.std.specs.Prelude.{is_none, find, Result, Ok, Err, if◌then◌else◌, codes}
+use Rattle.std.specs.Prelude.{is_none, option_and_then, find, Result, Ok, Err, if◌then◌else◌, codes}
 use Rattle.std.specs.List.{list_any, filter_map}
 use Rattle.std.specs.Option.{option_or, option_map}
 use Rattle.std.specs.Str.{bytes_eq, str_eq_ignore_ascii_case}
-use Rattle.toml.specs.Data.{Data, string, integer, table, Members, no_members, member}
+use Rattle.toml.specs.Data.{Data, string, integer, table, Members, no_members, member, as_table}
 use Rattle.reuse_style.specs.Documents.{read_document, is_version}
 use Rattle.reuse_style.specs.Marks.{GoodStyle}
 use Rattle.reuse_style.specs.declared.style.Kind.{Kind}
@@ -41,8 +41,7 @@ texts_in (member name value others) = None
 
 -- the same of a value that is a table
 abbrev pub texts_of_value : Data → Option (List NamedText)
-texts_of_value (table names) = texts_in names
-texts_of_value value = None
+texts_of_value value = option_and_then texts_in (as_table value)
 
 -- the names and texts of a document whose only keys are, in byte order, `styles` and `version`
 unfoldable pub texts_of_document : Members → Option (List NamedText)

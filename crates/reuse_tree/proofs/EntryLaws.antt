@@ -26,7 +26,8 @@ use Rattle.reuse_json.specs.Format.{format_number}
 use Rattle.reuse_change.specs.Change.{is_sealed}
 use Rattle.reuse_change.specs.declared.digest.Seal.{Seal}
 use Rattle.std.specs.Option.{option_map}
-use Rattle.reuse_json.specs.EntryText.{command_name, hex_text, digest_text, whole_text, is_any_sealed, change_text}
+use Rattle.reuse_change.specs.CommandNames.{command_name}
+use Rattle.reuse_json.specs.EntryText.{hex_text, digest_text, whole_text, is_any_sealed, change_text}
 use Rattle.reuse_json.specs.EntryText.{entry_text, AreDigestBytes, IsHex, IsHexDigest, IsChangeValue, IsChangeInMemory}
 use Rattle.reuse_json.specs.EntryText.{IsEntryInMemory, IsSoundEntry, IsGoodEntry}
 use Rattle.reuse_change.specs.declared.change.Change.{Change}

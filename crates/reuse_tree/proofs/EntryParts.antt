@@ -19,14 +19,15 @@ use Rattle.reuse_change.specs.Path.{is_path}
 use Rattle.reuse_change.specs.Change.{path_of, is_sealed}
 use Rattle.reuse_change.specs.declared.digest.Seal.{Seal}
 use Rattle.reuse_change.specs.Entry.{AreAllSealed}
-use Rattle.reuse_json.specs.Json.{count, array_of, members_of}
+use Rattle.reuse_json.specs.Json.{count, array_of, members_of, object_of}
 use Rattle.reuse_json.specs.Format.{knows, format_number}
-use Rattle.reuse_json.specs.EntryText.{command_name, whole_members, splice_members, IsWholeValue, IsHex, IsHexDigest}
+use Rattle.reuse_change.specs.CommandNames.{command_name}
+use Rattle.reuse_json.specs.EntryText.{whole_members, splice_members, IsWholeValue, IsHex, IsHexDigest}
 use Rattle.reuse_json.specs.EntryText.{IsChangeValue, IsEntryValue, HavePaths, IsGoodEntry}
-use Rattle.reuse_json.specs.JsonReading.{first_member, field_in, if_none_left, format_in, number_in, read_items}
+use Rattle.reuse_json.specs.JsonReading.{◌>>=◌, first_member, field_in, if_none_left, number_in, read_items}
 use Rattle.reuse_json.specs.EntryReading.{if_text, digest_in, first_digest, seal_of, hex_in, path_in, command_from}
 use Rattle.reuse_json.specs.EntryReading.{command_in, if_known, moment_in, whole_in, make_in, drop_in, splice_in}
-use Rattle.reuse_json.specs.EntryReading.{splice_bytes_in, splice_end_in, change_in, changes_in, entry_in}
+use Rattle.reuse_json.specs.EntryReading.{splice_bytes_in, splice_end_in, change_in, changes_in, frame_in}
 use Rattle.reuse_change.specs.declared.change.Change.{Change}
 use Rattle.reuse_change.specs.declared.change.Change.TheVariants.{Make, Drop, Splice}
 use Rattle.reuse_json.specs.declared.entry.Entry.{Entry}
@@ -173,19 +174,24 @@ whole_found sealed key kind name d w e =
     (whole_value sealed key digest.0.0 kind name bytes.0.0 path.0.0 held.0 fields.0 digest.0.1
     (first_digest_found sealed key fields.0 digest.0 digest.1) (hex_found held.0 bytes.0.0 held.1) first))
 
+-- the value is one of the change that is made of a whole file's parts
+change_of_whole : (sealed : Bool) (key kind name : List ℕ) (d : Data) (c : Change)
+    (change : List ℕ → List ℕ → Option (List ℕ) → Change)
+    → ((w : List ℕ × List ℕ × Option (List ℕ)) → IsWholeValue key w.2 kind name w.1 w.0 d × (is_some w.2 ≡ sealed)
+    → IsValueIn sealed (change w.0 w.1 w.2) d)
+    → (whole_in sealed key kind name d >>= (λ w. Some (change w.0 w.1 w.2))) ≡ Some c → IsValueIn sealed c d
+change_of_whole sealed key kind name d c change is e =
+    let w = bind_some _ (whole_in sealed key kind name d) c e in
+    subst (λ (x : Change). IsValueIn sealed x d) (same_Some (change w.0.0 w.0.1 w.0.2) c w.2)
+    (is w.0 (whole_found sealed key kind name d w.0 w.1))
+
 make_found : (sealed : Bool) (d : Data) (c : Change) → make_in sealed d ≡ Some c → IsValueIn sealed c d
 unfolding make_in
-make_found sealed d c e =
-    let w = bind_some _ (whole_in sealed (codes "after") (codes "make") (codes "new") d) c e in
-    subst (λ (x : Change). IsValueIn sealed x d) (same_Some (Make w.0.0 w.0.1 w.0.2) c w.2)
-    (whole_found sealed (codes "after") (codes "make") (codes "new") d w.0 w.1)
+make_found sealed d c e = change_of_whole sealed (codes "after") (codes "make") (codes "new") d c Make (λ w h. h) e
 
 drop_found : (sealed : Bool) (d : Data) (c : Change) → drop_in sealed d ≡ Some c → IsValueIn sealed c d
 unfolding drop_in
-drop_found sealed d c e =
-    let w = bind_some _ (whole_in sealed (codes "before") (codes "drop") (codes "old") d) c e in
-    subst (λ (x : Change). IsValueIn sealed x d) (same_Some (Drop w.0.0 w.0.1 w.0.2) c w.2)
-    (whole_found sealed (codes "before") (codes "drop") (codes "old") d w.0 w.1)
+drop_found sealed d c e = change_of_whole sealed (codes "before") (codes "drop") (codes "old") d c Drop (λ w h. h) e
 
 splice_end_found : (at : ℕ) (new old : List ℕ) (seal : Option Seal) (fields : Members) (c : Change)
     → splice_end_in at new old seal fields ≡ Some c
@@ -385,59 +391,44 @@ changes_again sealed cs values h are sound =
 
 -- ---- an entry
 
-pub known_again : (sealed : Bool) (command : CommandName) → knows sealed command ≡ true
-    → if_known sealed command ≡ Some tt
+-- an entry without its changes
+abbrev pub Frame : Type 0
+Frame = CommandName × Bool × ℕ
+
+abbrev pub entry_of : List Change → Frame → Entry
+entry_of cs f = record { changes = cs; command = f.0; when = f.2 }
+
+abbrev pub frame_value : Data → Frame → Data
+frame_value changes f = object_of (
+    (codes "changes", changes) ∷
+    (codes "command", string (command_name f.0)) ∷
+    (codes "format", count (format_number f.1)) ∷
+    (codes "when", count f.2) ∷ [])
+
+known_again : (sealed : Bool) (command : CommandName) → knows sealed command ≡ true → if_known sealed command ≡ Some tt
 known_again sealed command is = ap (λ b. cond b (Some tt) None) is
 
--- what is read as an entry is a value of it
-entry_found : (d : Data) (entry : Entry) → entry_in d ≡ Some entry
-    → IsEntryValue entry d × (entry.when ≤ 250_000_000_000)
-unfolding entry_in
-entry_found d entry e =
-    let fields = bind_some _ (as_object d) entry e in
-    let changes = bind_some _ (first_member (codes "changes") fields.0) entry fields.2 in
-    let command = bind_some _ (field_in command_in (codes "command") changes.0.1) entry changes.2 in
-    let format = bind_some _ (field_in format_in (codes "format") command.0.1) entry command.2 in
-    let known = bind_some _ (if_known format.0.0 command.0.0) entry format.2 in
-    let when = bind_some _ (field_in moment_in (codes "when") format.0.1) entry known.2 in
-    let end = bind_some _ (if_none_left when.0.1) entry when.2 in
-    let cs = bind_some _ (changes_in format.0.0 changes.0.0) entry end.2 in
-    let reported = field_found moment_in (codes "when") format.0.1 when.0 when.1 in
-    let moment = moment_found reported.0 when.0.0 reported.1 in
-    let values = changes_found format.0.0 changes.0.0 cs.0 cs.1 in
-    let IsAs : Change → Type 0 = λ c. is_sealed c ≡ format.0.0 in
-    let fourth = reported.2 ∙ ap₂ (member (codes "when")) moment.0 (none_left_found when.0.1 end.0 end.1) in
-    let third =
-    field_is format_in (λ b. count (format_number b)) format_found (codes "format") command.0.1 format.0 format.1
-    ∙ ap (member (codes "format") (count (format_number format.0.0))) fourth in
-    let second =
-    field_is command_in (λ w. string (command_name w)) command_there (codes "command") changes.0.1 command.0 command.1
-    ∙ ap (member (codes "command") (string (command_name command.0.0))) third in
-    let first = first_member_found (codes "changes") fields.0 changes.0 changes.1
-    ∙ ap₂ (member (codes "changes")) values.1 second in
-    let found : Entry = record { changes = cs.0; command = command.0.0; when = when.0.0 } in
-    subst (λ (x : Entry). IsEntryValue x d × (x.when ≤ 250_000_000_000)) (same_Some found entry cs.2) (
-      (
-        format.0.0,
-        values.0,
-        All-from_recursion IsAs cs.0 values.2.0,
-        (cond_some (knows format.0.0 command.0.0) tt known.0 known.1).0,
-        values.2.1,
-        object_found d fields.0 fields.1 ∙ ap object first,
-      ),
-      moment.1,
-    )
+pub frame_again : (changes : Data) (f : Frame) → knows f.1 f.0 ≡ true → f.2 ≤ 250_000_000_000
+    → frame_in (frame_value changes f) ≡ Some f
+unfolding frame_in
+frame_again changes f known when =
+    rw (command_again f.0, format_again f.1, known_again f.1 f.0 known, moment_again f.2 when) refl
+
+-- the entry that a value is read as
+abbrev entry_in : Data → Option Entry
+entry_in d = do
+  fields ← as_object d
+  changes ← first_member (codes "changes") fields
+  frame ← frame_in d
+  cs ← changes_in frame.1 changes.0
+  Some (entry_of cs frame)
 
 -- a value of an entry is read as the entry
 entry_again : (d : Data) (entry : Entry) → HavePaths entry.changes → entry.when ≤ 250_000_000_000 → IsEntryValue entry d
     → entry_in d ≡ Some entry
-unfolding entry_in
 entry_again d entry paths when h =
     rw h.5 (rw (
-      command_again entry.command,
-      format_again h.0,
-      known_again h.0 entry.command h.3,
-      moment_again entry.when when,
+      frame_again (array_of h.1) (entry.command, h.0, entry.when) h.3 when,
       changes_again h.0 entry.changes h.1 h.4 h.2 paths,
     ) refl)
 

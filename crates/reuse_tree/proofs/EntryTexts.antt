@@ -5,7 +5,8 @@ use Rattle.std.specs.List.{join_with_byte}
 use Rattle.json.specs.Print.{escape_byte, quoted}
 use Rattle.serde_json.specs.Written.{compact_text, items_text}
 use Rattle.serde_json.specs.View.{items_of}
-use Rattle.reuse_json.specs.EntryText.{command_name, hex_text, digest_text, is_any_sealed, change_text, entry_text}
+use Rattle.reuse_change.specs.CommandNames.{command_name}
+use Rattle.reuse_json.specs.EntryText.{hex_text, digest_text, is_any_sealed, change_text, entry_text}
 use Rattle.reuse_json.specs.Format.{format_number}
 use Rattle.reuse_change.specs.declared.change.Change.{Change}
 use Rattle.reuse_change.specs.declared.change.Change.TheVariants.{Make, Drop, Splice}

@@ -5,7 +5,8 @@ use Rattle.hex.specs.Hex.{encode_lower}
 use Rattle.serde_json.specs.Data.{Data, string}
 use Rattle.reuse_change.specs.declared.change.Change.{Change}
 use Rattle.reuse_change.specs.declared.change.Change.TheVariants.{Make, Drop, Splice}
-use Rattle.reuse_json.specs.EntryText.{command_name, is_any_sealed, whole_members, splice_members}
+use Rattle.reuse_change.specs.CommandNames.{command_name}
+use Rattle.reuse_json.specs.EntryText.{is_any_sealed, whole_members, splice_members}
 use Rattle.reuse_json.specs.Format.{format_number}
 use Rattle.reuse_json.specs.Json.{count, object_of, array_of}
 use Rattle.reuse_json.specs.declared.entry.Entry.{Entry}

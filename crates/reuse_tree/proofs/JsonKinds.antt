@@ -1,21 +1,21 @@
 -- A value that doesn't begin with a bracket is no array, and one that doesn't begin with a brace is no object.
-use Rattle.std.proofs.Common.{◌≡◌, ℕ, ◌-◌, ◌<◌, length, List, [], ◌∷◌, Option, Some, None, option_map, refl, sym, ap}
-use Rattle.std.proofs.Common.{◌∙◌, arith}
+use Rattle.std.proofs.Common.{◌≡◌, ℕ, ◌<◌, length, List, [], ◌∷◌, Option, Some, None, option_map, ◌⊎◌, inl, inr, refl}
+use Rattle.std.proofs.Common.{sym, ap, ◌∙◌, arith}
 use Rattle.std.specs.Prelude.{MatchOption, is_some, true}
 use Rattle.std.proofs.lemmas.Bool.{false≢true}
 use Rattle.std.proofs.lemmas.Option.{none-some, same_Some}
 use Rattle.json.specs.Token.{Token}
-use Rattle.json.specs.Json.{parse_map, items, members, value}
+use Rattle.json.specs.Json.{parse_map, members, value}
 use Rattle.json.specs.Lex.{tokens}
 use Rattle.json.specs.Reads.{token_of}
 use Rattle.json.specs.declared.token.Token.{Token as Read}
 use Rattle.json.specs.declared.token.Token.TheVariants.{BeginObject, EndObject, BeginArray, EndArray, Key, String}
 use Rattle.json.specs.declared.token.Token.TheVariants.{Number, Bool, Null, Bad}
-use Rattle.json.proofs.Grammar.{value_is, value-begin_array, value-begin_object}
+use Rattle.json.proofs.Grammar.{value_is}
 use Rattle.serde_json.specs.Data.{Num, Data, null, boolean, number, string, array, object, Items, Members, no_members}
 use Rattle.serde_json.specs.Find.{as_array, as_object}
 use Rattle.serde_json.specs.Read.{of_json, of_members, converted, number_of, read}
-use Rattle.reuse_json.proofs.JsonTurns.{array_converted, object_converted, whole_and_more, whole_read, whole_refused}
+use Rattle.reuse_json.proofs.JsonTurns.{array_begun, object_begun, whole_and_more, whole_read, whole_refused}
 use Rattle.reuse_json.proofs.JsonTurns.{whole_was}
 
 -- the first value of a pair that was read
@@ -38,62 +38,62 @@ object_is None d r e = absurd (none-some (d, r) e)
 object_is (Some p) d r e = (p.0, first_is (object p.0) d p.1 r e)
 
 module _ (depth : ℕ) (deep : 0 < depth) (s r : List Token) (d : Data) where
+  -- a value of a token that is one by itself
+  alone : (t : Token) (x : Data) → converted of_json (value depth (t ∷ s)) ≡ Some (x, s)
+      → converted of_json (value depth (t ∷ s)) ≡ Some (d, r) → x ≡ d
+  alone t x is e = first_is x d s r (sym is ∙ e)
+
+  refused : {A : Type 0} (t : Token) → converted of_json (value depth (t ∷ s)) ≡ None
+      → converted of_json (value depth (t ∷ s)) ≡ Some (d, r) → A
+  refused t is e = absurd (none-some (d, r) (sym is ∙ e))
+
+  -- it begins with a bracket or is no array, and with a brace or is no object
+  kinds : (t : Read) → converted of_json (value depth (token_of t ∷ s)) ≡ Some (d, r)
+      → ((t ≡ BeginArray) ⊎ (as_array d ≡ None)) × ((t ≡ BeginObject) ⊎ (as_object d ≡ None))
+  kinds BeginArray e =
+      let o = array_is _ d r (sym (array_begun depth deep _ s refl) ∙ e) in (inl refl, inr (sym (ap as_object o.1)))
+  kinds BeginObject e =
+      let o = object_is _ d r (sym (object_begun depth deep _ s refl) ∙ e) in (inr (sym (ap as_array o.1)), inl refl)
+  kinds EndObject e = refused Token.end_object (ap (converted of_json) (value_is depth (Token.end_object ∷ s))) e
+  kinds EndArray e = refused Token.end_array (ap (converted of_json) (value_is depth (Token.end_array ∷ s))) e
+  kinds (Key k) e = refused (Token.key k.now) (ap (converted of_json) (value_is depth (Token.key k.now ∷ s))) e
+  kinds Bad e = refused Token.bad (ap (converted of_json) (value_is depth (Token.bad ∷ s))) e
+  kinds (String text) e =
+      let is = alone (Token.string text.now) (string text.now)
+      (ap (converted of_json) (value_is depth (Token.string text.now ∷ s))) e in
+      (inr (sym (ap as_array is)), inr (sym (ap as_object is)))
+  kinds (Number text) e =
+      let n = number_is (number_of text.now) d s r
+      (sym (ap (converted of_json) (value_is depth (Token.number text.now ∷ s))) ∙ e) in
+      (inr (sym (ap as_array n.1)), inr (sym (ap as_object n.1)))
+  kinds (Bool b) e =
+      let is =
+      alone (Token.boolean b) (boolean b) (ap (converted of_json) (value_is depth (Token.boolean b ∷ s))) e in
+      (inr (sym (ap as_array is)), inr (sym (ap as_object is)))
+  kinds Null e =
+      let is = alone Token.null null (ap (converted of_json) (value_is depth (Token.null ∷ s))) e in
+      (inr (sym (ap as_array is)), inr (sym (ap as_object is)))
+
   pub no_array : (t : Read) → (t ≡ BeginArray → ⊥) → converted of_json (value depth (token_of t ∷ s)) ≡ Some (d, r)
       → as_array d ≡ None
-  no_array BeginObject other e =
-      let rest = members (value (depth - 1)) (length s) s in
-      let o = object_is _ d r
-      (sym (object_converted rest) ∙ sym (ap (converted of_json) (value-begin_object depth s deep)) ∙ e) in
-      sym (ap as_array o.1)
-  no_array EndObject other e =
-      absurd (none-some (d, r) (sym (ap (converted of_json) (value_is depth (Token.end_object ∷ s))) ∙ e))
-  no_array BeginArray other e = absurd (other refl)
-  no_array EndArray other e =
-      absurd (none-some (d, r) (sym (ap (converted of_json) (value_is depth (Token.end_array ∷ s))) ∙ e))
-  no_array (Key k) other e =
-      absurd (none-some (d, r) (sym (ap (converted of_json) (value_is depth (Token.key k.now ∷ s))) ∙ e))
-  no_array (String text) other e = sym (ap as_array (first_is (string text.now) d s r
-      (sym (ap (converted of_json) (value_is depth (Token.string text.now ∷ s))) ∙ e)))
-  no_array (Number text) other e = let n = number_is (number_of text.now) d s r
-      (sym (ap (converted of_json) (value_is depth (Token.number text.now ∷ s))) ∙ e) in sym (ap as_array n.1)
-  no_array (Bool b) other e = sym (ap as_array
-      (first_is (boolean b) d s r (sym (ap (converted of_json) (value_is depth (Token.boolean b ∷ s))) ∙ e)))
-  no_array Null other e =
-      sym (ap as_array (first_is (null) d s r (sym (ap (converted of_json) (value_is depth (Token.null ∷ s))) ∙ e)))
-  no_array Bad other e = absurd (none-some (d, r) (sym (ap (converted of_json) (value_is depth (Token.bad ∷ s))) ∙ e))
+  no_array t other e = elim (kinds t e).0 [
+    | inl is ↦ absurd (other is)
+    | inr none ↦ none
+  ]
 
   pub no_object : (t : Read) → (t ≡ BeginObject → ⊥) → converted of_json (value depth (token_of t ∷ s)) ≡ Some (d, r)
       → as_object d ≡ None
-  no_object BeginObject other e = absurd (other refl)
-  no_object EndObject other e =
-      absurd (none-some (d, r) (sym (ap (converted of_json) (value_is depth (Token.end_object ∷ s))) ∙ e))
-  no_object BeginArray other e =
-      let rest = items (value (depth - 1)) (length s) s in
-      let o =
-      array_is _ d r (sym (array_converted rest) ∙ sym (ap (converted of_json) (value-begin_array depth s deep)) ∙ e) in
-      sym (ap as_object o.1)
-  no_object EndArray other e =
-      absurd (none-some (d, r) (sym (ap (converted of_json) (value_is depth (Token.end_array ∷ s))) ∙ e))
-  no_object (Key k) other e =
-      absurd (none-some (d, r) (sym (ap (converted of_json) (value_is depth (Token.key k.now ∷ s))) ∙ e))
-  no_object (String text) other e = sym (ap as_object (first_is (string text.now) d s r
-      (sym (ap (converted of_json) (value_is depth (Token.string text.now ∷ s))) ∙ e)))
-  no_object (Number text) other e = let n = number_is (number_of text.now) d s r
-      (sym (ap (converted of_json) (value_is depth (Token.number text.now ∷ s))) ∙ e) in sym (ap as_object n.1)
-  no_object (Bool b) other e = sym (ap as_object
-      (first_is (boolean b) d s r (sym (ap (converted of_json) (value_is depth (Token.boolean b ∷ s))) ∙ e)))
-  no_object Null other e =
-      sym (ap as_object (first_is (null) d s r (sym (ap (converted of_json) (value_is depth (Token.null ∷ s))) ∙ e)))
-  no_object Bad other e = absurd (none-some (d, r) (sym (ap (converted of_json) (value_is depth (Token.bad ∷ s))) ∙ e))
+  no_object t other e = elim (kinds t e).1 [
+    | inl is ↦ absurd (other is)
+    | inr none ↦ none
+  ]
 
 -- ---- a text that is an object, or none
 
 module _ (text : List ℕ) (s : List Token) where
   object_text : tokens text ≡ Token.begin_object ∷ s → converted of_json (value 127 (tokens text)) ≡ parse_map object
       (converted (λ js. of_members js no_members) (members (value 126) (length s) s))
-  object_text first =
-      ap (λ ts. converted of_json (value 127 ts)) first ∙ ap (converted of_json)
-      (value-begin_object 127 s (omega arith)) ∙ object_converted (members (value 126) (length s) s)
+  object_text first = object_begun 127 (omega arith) (tokens text) s first
 
   pub object_read : (ms : Members) → tokens text ≡ Token.begin_object ∷ s → converted (λ js. of_members js no_members)
       (members (value 126) (length s) s) ≡ Some (ms, []) → read text ≡ Some (object ms)

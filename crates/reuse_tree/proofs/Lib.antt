@@ -1,3 +1,4 @@
+pub mod ChangeLists
 pub mod DistinctNumbers
 pub mod EntryLaws
 pub mod EntryParts
@@ -11,5 +12,4 @@ pub mod JoinedTexts
 pub mod JsonKinds
 pub mod TrimmedEntries
 pub mod TrimmedHeads
-pub mod StoppedReading
 pub mod WrittenEntries

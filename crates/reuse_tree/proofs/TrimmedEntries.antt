@@ -19,7 +19,8 @@ use Rattle.reuse_change.specs.Change.{is_sealed}
 use Rattle.reuse_json.specs.Decoded.{Gives, IsAnswer}
 use Rattle.reuse_json.specs.EntryReading.{change_in, changes_in, frame_in, command_in, moment_in, if_known}
 use Rattle.reuse_json.specs.EntryReading.{if_few_changes, listed_in, with_next}
-use Rattle.reuse_json.specs.EntryText.{command_name, whole_members, splice_members, IsChangeValue, IsJsonEntry}
+use Rattle.reuse_change.specs.CommandNames.{command_name}
+use Rattle.reuse_json.specs.EntryText.{whole_members, splice_members, IsChangeValue, IsJsonEntry}
 use Rattle.reuse_json.specs.EntryText.{HavePaths}
 use Rattle.reuse_json.specs.Format.{format_number, knows}
 use Rattle.reuse_json.specs.Json.{count, array_of, members_of, object_of, IsJson}
@@ -33,8 +34,8 @@ use Rattle.reuse_json.specs.declared.fault.DecodeFault.{DecodeFault}
 use Rattle.reuse_json.specs.declared.fault.DecodeFault.TheVariants.{NotGood, Memory}
 use Rattle.reuse_json.specs.declared.length_limit.LengthLimit.{LengthLimit}
 use Rattle.reuse_json.specs.declared.length_limit.LengthLimit.TheVariants as room
-use Rattle.reuse_tree.proofs.EntryParts.{change_found, changes_found, changes_again, command_there, command_again}
-use Rattle.reuse_tree.proofs.EntryParts.{moment_found, moment_again, known_again}
+use Rattle.reuse_tree.proofs.EntryParts.{change_found, changes_found, changes_again, command_there, moment_found}
+use Rattle.reuse_tree.proofs.EntryParts.{Frame, entry_of, frame_value, frame_again}
 use Rattle.reuse_json.proofs.JsonParts.{bind_some, first_member_found, field_found, field_is, none_left_found}
 use Rattle.reuse_json.proofs.JsonParts.{object_found, format_found, format_again, same_json, IfOk-from_gives}
 
@@ -214,16 +215,6 @@ few_again cs h = ap (λ b. cond b (Some cs) None) (le-leb (length cs) 100000 h)
 
 -- ---- an entry without its changes
 
-abbrev pub Frame : Type 0
-Frame = CommandName × Bool × ℕ
-
-abbrev pub frame_value : Data → Frame → Data
-frame_value changes f = object_of (
-    (codes "changes", changes) ∷
-    (codes "command", string (command_name f.0)) ∷
-    (codes "format", count (format_number f.1)) ∷
-    (codes "when", count f.2) ∷ [])
-
 -- the value has these parts, and its format knows its command
 pub record IsFrame (d : Data) (f : Frame) : Type 0 where
   pub changes : Data
@@ -266,12 +257,6 @@ frame_found d f e =
       known = known_found format.0.0 command.0.0 known.0 known.1;
       when = moment.1;
     })
-
-frame_again : (changes : Data) (f : Frame) → knows f.1 f.0 ≡ true → f.2 ≤ 250_000_000_000
-    → frame_in (frame_value changes f) ≡ Some f
-unfolding frame_in
-frame_again changes f known when =
-    rw (command_again f.0, format_again f.1, known_again f.1 f.0 known, moment_again f.2 when) refl
 
 -- ---- what a trimmed object was
 
@@ -468,9 +453,6 @@ list_missed text d f entry h paths when few is e missed =
     let value : IsJson text (object ms) = subst (IsJson text) h.2.5 h.1 in
     let read : listed_in h.2.0 ms ≡ Some entry.changes = list_read text ms entry h paths few value in
     not_none (listed_in f.1 ms) entry.changes (missed ms value) (ap (λ (b : Bool). listed_in b ms) sealed ∙ read)
-
-abbrev pub entry_of : List Change → Frame → Entry
-entry_of cs f = record { changes = cs; command = f.0; when = f.2 }
 
 -- what was read is the entry
 pub entry_answers : (text : List ℕ) (d : Data) (f : Frame) (ms : Members) (cs found : List Change) (entry : Entry)

@@ -8,7 +8,8 @@ use Rattle.std.proofs.lemmas.List.Elements.{recursion_from_All}
 use Rattle.reuse_change.specs.Change.{is_sealed}
 use Rattle.reuse_change.specs.Entry.{AreAllSealed}
 use Rattle.reuse_tree.specs.EntryTests.{Passes}
-use Rattle.reuse_json.specs.EntryText.{change_text, command_name, entry_text, is_any_sealed, IsChangeInMemory}
+use Rattle.reuse_change.specs.CommandNames.{command_name}
+use Rattle.reuse_json.specs.EntryText.{change_text, entry_text, is_any_sealed, IsChangeInMemory}
 use Rattle.reuse_json.specs.EntryText.{IsGoodEntry}
 use Rattle.reuse_json.specs.Format.{format_number, knows}
 use Rattle.reuse_change.specs.declared.command_name.CommandName.{CommandName}

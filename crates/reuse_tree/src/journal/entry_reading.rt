@@ -17,7 +17,7 @@ use crate::journal::written_entry::{knows, read_written};
 use reuse_change::layout::{LARGEST_ENTRY, MOST_CHANGES};
 use reuse_change::{Change, CommandName, Digest, Moment, PathText, Seal};
 use reuse_json::fields::{
-    Fields, expect_next, field, fields, finish, moment_of, next_bytes, next_digest, next_format,
+    Fields, expect_next, field, fields, finish, next_bytes, next_digest, next_format, next_moment,
     next_number, next_path, text_of,
 };
 use reuse_json::trimmed::parse_trimmed;
@@ -92,7 +92,7 @@ fn frame_of(value: &Value) -> Result<(CommandName, bool, Moment), DecodeFault>
     let command = next_command(&mut members)?;
     let sealed = next_format(&mut members, "format")?;
     expect_known(sealed, command)?;
-    let when = moment_of(field(&mut members, "when")?)?;
+    let when = next_moment(&mut members, "when")?;
     finish(members)?;
     Ok((command, sealed, when))
 }

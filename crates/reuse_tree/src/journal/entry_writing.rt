@@ -5,11 +5,11 @@ ghost use Rattle.std.specs.Option.{option_map};
 ghost use Rattle.hex.specs.Hex.{IsBytes};
 ghost use Rattle.reuse_change.specs.Entry.{entry_size, IsEntry};
 ghost use Rattle.reuse_change.specs.declared.change.Change.TheVariants.{Splice};
-ghost use Rattle.reuse_json.specs.EntryText.{command_name, change_text, entry_text, comma_before, is_any_sealed};
+ghost use Rattle.reuse_json.specs.EntryText.{change_text, entry_text, comma_before, is_any_sealed};
 ghost use Rattle.reuse_json.specs.EntryText.{whole_text, AreDigestBytes, IsChangeInMemory, IsGoodEntry};
 ghost use Rattle.reuse_json.specs.Format.{format_number, knows};
 
-use reuse_change::{Change, CommandName, Digest, PathText, Seal};
+use reuse_change::{Change, Digest, PathText, Seal};
 use reuse_json::Entry;
 use reuse_json::json_writing::{append_digest, append_hex, append_number, append_string};
 use std::alloc::{AllocError, Global};
@@ -108,7 +108,7 @@ fn append_entry(alloc: Global, text: &mut Vec<u8>, entry: &Entry) -> Result<(), 
     text.extend_from_slice(b"{\"changes\":[")?;
     append_changes(alloc, text, entry.changes.as_slice())?;
     text.extend_from_slice(b"],\"command\":\"")?;
-    text.extend_from_slice(name_of(entry.command).as_bytes())?;
+    text.extend_from_slice(entry.command.as_str().as_bytes())?;
     text.extend_from_slice(b"\",\"format\":")?;
     append_number(text, format_of(entry.changes.as_slice()))?;
     text.extend_from_slice(b",\"when\":")?;
@@ -128,20 +128,6 @@ fn is_any_sealed(changes: &[Change]) -> bool
     ensures { result ≡ is_any_sealed changes.now }
 {
     changes.iter().any(|change| change.is_sealed())
-}
-
-// The word that stands for a command in an entry.
-fn name_of(command: CommandName) -> &'static str
-    ensures { result.now ≡ command_name command }
-{
-    match command {
-        CommandName::Annotate => "annotate",
-        CommandName::ConvertDep5 => "convert-dep5",
-        CommandName::Download => "download",
-        CommandName::Revert => "revert",
-        CommandName::Amend => "amend",
-        CommandName::AddStyles => "styles",
-    }
 }
 
 fn append_changes(alloc: Global, text: &mut Vec<u8>, changes: &[Change]) -> Result<(), AllocError>

@@ -1,16 +1,19 @@
 //! The head as text, and back.
-ghost use Rattle.std.specs.Prelude.{◌≡◌, ◌≢◌, ◌≤◌, ◌+◌, ◌*◌, ◌↔◌, true, AllPairs, IfOk, IsTrue, length};
-ghost use Rattle.serde_json.specs.View.{view};
-ghost use Rattle.reuse_json.specs.Decoded.{Gives, IsAnswer};
+ghost use Rattle.std.specs.Prelude.{◌≡◌, ◌≢◌, ◌≤◌, ◌+◌, ◌*◌, ◌↔◌, true, AllPairs, IfOk, IsTrue, codes, length};
+ghost use Rattle.serde_json.specs.View.{view, members_view};
+ghost use Rattle.reuse_json.specs.Decoded.{Gives, GivesBy, IsAnswer};
 ghost use Rattle.reuse_tree.specs.Head.{head_text, listed, head_value, pending_value as value_of_pending, IsGoodHead};
 ghost use Rattle.reuse_tree.specs.Head.{IsJsonHead, IsSoundHead, PendingFits};
 ghost use Rattle.reuse_tree.specs.HeadReading.{head_in, pending_in, some_pending_in, direction_from};
 ghost use Rattle.reuse_json.specs.Json.{counts};
+ghost use Rattle.reuse_json.specs.JsonReading.{field_in};
 ghost use Rattle.reuse_tree.specs.declared.journal.head.Head.{Head};
 
 use crate::journal::head::{Head, Pending, PendingDirection};
 use reuse_change::layout::{LATEST_FORMAT, MOST_LISTED};
-use reuse_json::fields::{field, fields, finish, next_format, next_numbers, next_small, text_of};
+use reuse_json::fields::{
+    Fields, field, fields, finish, next_format, next_numbers, next_small, text_of,
+};
 use reuse_json::trimmed::parse_trimmed;
 use reuse_json::{DecodeFault, LengthLimit};
 use reuse_text::LONGEST_FILE;
@@ -97,7 +100,7 @@ fn head_of(alloc: Global, value: &Value) -> Result<Head, DecodeFault>
     let done = next_numbers(alloc, &mut members, "done")?;
     let _second = next_format(&mut members, "format")?;
     let next = next_small(&mut members, "next")?;
-    let pending = pending_of(field(&mut members, "pending")?)?;
+    let pending = next_pending(&mut members)?;
     let undone = next_numbers(alloc, &mut members, "undone")?;
     finish(members)?;
     Ok(Head {
@@ -106,6 +109,13 @@ fn head_of(alloc: Global, value: &Value) -> Result<Head, DecodeFault>
         next,
         pending,
     })
+}
+
+fn next_pending(members: &mut Fields<'_>) -> Result<Option<Pending>, DecodeFault>
+    ensures { GivesBy (λ pending. (pending, members_view members.new)) result
+        (field_in pending_in (codes "pending") (members_view members.old)) }
+{
+    pending_of(field(members, "pending")?)
 }
 
 fn pending_of(value: &Value) -> Result<Option<Pending>, DecodeFault>

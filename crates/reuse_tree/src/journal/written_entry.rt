@@ -6,7 +6,8 @@ ghost use Rattle.std.specs.Option.{option_map};
 ghost use Rattle.reuse_change.specs.declared.digest.Seal.{Seal};
 ghost use Rattle.reuse_change.specs.Entry.{AreAllSealed};
 ghost use Rattle.reuse_tree.specs.EntryTests.{Passes};
-ghost use Rattle.reuse_json.specs.EntryText.{change_text, command_name, digest_text, AreDigestBytes, IsChangeInMemory};
+ghost use Rattle.reuse_change.specs.CommandNames.{command_name};
+ghost use Rattle.reuse_json.specs.EntryText.{change_text, digest_text, AreDigestBytes, IsChangeInMemory};
 ghost use Rattle.reuse_json.specs.EntryText.{IsGoodEntry};
 ghost use Rattle.reuse_json.specs.Format.{format_number, knows};
 

@@ -1,8 +1,8 @@
-use Rattle.std.proofs.Common.{◌≡◌, ℕ, ◌+◌, ◌*◌, ◌≤◌, List, length}
-use Rattle.json.specs.Json.{items, members, value, parse_map}
-use Rattle.serde_json.specs.Data.{Data, Members, no_members}
-use Rattle.serde_json.specs.Read.{of_items, of_members, converted}
-use Rattle.reuse_json.proofs.Trimming.{before, Kept, KeptMembers}
+use Rattle.std.proofs.Common.{◌+◌, ◌*◌, List, length}
+use Rattle.json.specs.Json.{value}
+use Rattle.serde_json.specs.Data.{Data, Members}
+use Rattle.reuse_json.proofs.ReadSoFar.{ItemsRead, MembersRead}
+use Rattle.reuse_json.proofs.Trimming.{Kept, KeptMembers}
 use Rattle.reuse_json.proofs.trimmed.+read.Given as goal
 
 abbrev pub decreases-read : goal.decreases-read
@@ -20,11 +20,7 @@ decreases-read_members l = 3 * l.depth + 2
 -- the items so far, and those that are left, are all
 abbrev pub invariant-read_items-items : goal.invariant-read_items-items
 invariant-read_items-items l =
-    (n : ℕ) × (length l.reader ≤ n) × (ds : List Data)
-    × (converted of_items (items (value l.depth) (length l.initial.reader) l.initial.reader) ≡ parse_map (before ds)
-    (converted of_items (items (value l.depth) n l.reader)))
-    × Kept l.room ds l.found.items
-    × (length l.reader ≤ length l.initial.reader)
+    (ds : List Data) × ItemsRead (value l.depth) l.initial.reader l.reader ds × Kept l.room ds l.found.items
 
 abbrev pub decreases-read_items-items : goal.decreases-read_items-items
 decreases-read_items-items l = length l.reader
@@ -32,11 +28,7 @@ decreases-read_items-items l = length l.reader
 -- so are the members
 abbrev pub invariant-read_members-members : goal.invariant-read_members-members
 invariant-read_members-members l =
-    (n : ℕ) × (length l.reader ≤ n) × (ms : Members)
-    × (converted (λ js. of_members js no_members) (members (value l.depth) (length l.initial.reader) l.initial.reader)
-    ≡ converted (λ js. of_members js ms) (members (value l.depth) n l.reader))
-    × KeptMembers l.room ms l.found.entries
-    × (length l.reader ≤ length l.initial.reader)
+    (ms : Members) × MembersRead (value l.depth) l.initial.reader l.reader ms × KeptMembers l.room ms l.found.entries
 
 abbrev pub decreases-read_members-members : goal.decreases-read_members-members
 decreases-read_members-members l = length l.reader

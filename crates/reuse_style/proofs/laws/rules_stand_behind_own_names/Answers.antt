@@ -2,17 +2,11 @@ use Rattle.reuse_style.proofs.RuleLemmas.{kind_without_rules, unread_without_rul
 use Rattle.reuse_style.proofs.RuleLemmas.{kind_if_unread}
 use Rattle.reuse_style.proofs.laws.rules_stand_behind_own_names.Goals as goal
 
-pub returns-clause-none : goal.returns-clause-none
-returns-clause-none c = kind_without_rules
-
-pub returns-clause-none_unread : goal.returns-clause-none_unread
-returns-clause-none_unread c = unread_without_rules
-
-pub returns-clause-own : goal.returns-clause-own
-returns-clause-own c = kind_of_own_name
-
-pub returns-clause-first : goal.returns-clause-first
-returns-clause-first c = kind_by_first
-
-pub returns-clause-unread : goal.returns-clause-unread
-returns-clause-unread c = kind_if_unread
+pub returns : goal.returns
+returns c = record {
+  none = kind_without_rules;
+  none_unread = unread_without_rules;
+  own = kind_of_own_name;
+  first = kind_by_first;
+  unread = kind_if_unread;
+}

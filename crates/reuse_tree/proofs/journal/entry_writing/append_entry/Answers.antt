@@ -1,6 +1,7 @@
 use Rattle.std.proofs.Common.{◌++◌, ◌∙◌, List, ℕ, codes, decimal, map, ap}
 use Rattle.std.specs.List.{join_with_byte}
-use Rattle.reuse_json.specs.EntryText.{change_text, command_name, is_any_sealed}
+use Rattle.reuse_change.specs.CommandNames.{command_name}
+use Rattle.reuse_json.specs.EntryText.{change_text, is_any_sealed}
 use Rattle.reuse_json.specs.Format.{format_number}
 use Rattle.reuse_json.proofs.Appending.{first, then, last}
 use Rattle.reuse_tree.proofs.journal.entry_writing.append_entry.Goals as goal
@@ -11,7 +12,7 @@ returns c =
     let changes_put = c.in_ok-append_changes.ensures
     ∙ ap (λ l. c.extend_from_slice.new.self.items ++ join_with_byte 44 (map change_text l)) c.as_slice.ensures in
     let name_put = c.in_ok-extend_from_slice-3.ensures.items
-    ∙ ap (λ (l : List ℕ). c.extend_from_slice-2.new.self.items ++ l) (c.as_bytes.ensures.value ∙ c.name_of.ensures) in
+    ∙ ap (λ (l : List ℕ). c.extend_from_slice-2.new.self.items ++ l) (c.as_bytes.ensures.value ∙ c.as_str.ensures) in
     let format_put = c.in_ok-append_number.ensures ∙ ap (λ (n : ℕ). c.extend_from_slice-4.new.self.items ++ decimal n)
     (c.format_of.ensures ∙ ap (λ l. format_number (is_any_sealed l)) c.as_slice-2.ensures) in
     let when_put = c.in_ok-append_number-2.ensures

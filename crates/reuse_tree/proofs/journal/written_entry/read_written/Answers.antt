@@ -3,7 +3,8 @@ use Rattle.std.specs.List.{join_with_byte}
 use Rattle.std.proofs.lemmas.List.{append-nil}
 use Rattle.reuse_change.specs.Entry.{AreAllSealed}
 use Rattle.reuse_tree.specs.EntryTests.{Passes}
-use Rattle.reuse_json.specs.EntryText.{change_text, command_name, IsGoodEntry}
+use Rattle.reuse_change.specs.CommandNames.{command_name}
+use Rattle.reuse_json.specs.EntryText.{change_text, IsGoodEntry}
 use Rattle.reuse_json.specs.Format.{format_number}
 use Rattle.reuse_change.specs.declared.change.Change.{Change}
 use Rattle.reuse_json.proofs.WrittenTexts.{four_steps}

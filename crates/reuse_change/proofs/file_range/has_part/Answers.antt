@@ -2,7 +2,7 @@ use Rattle.std.proofs.Common.{◌≡◌, ◌+◌, length, arith}
 use Rattle.std.proofs.lemmas.Slice.Eq.{slice_eq-Decides}
 use Rattle.std.proofs.lemmas.Bool.Decides.{Decides-eqb}
 use Rattle.reuse_change.proofs.Cuts.{cuts, holds_part}
-use Rattle.reuse_change.proofs.change.has_part.Goals as goal
+use Rattle.reuse_change.proofs.file_range.has_part.Goals as goal
 
 pub returns : goal.returns
 returns c =
