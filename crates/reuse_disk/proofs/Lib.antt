@@ -1,4 +1,5 @@
 pub mod AlongLemmas
+pub mod AtLemmas
 pub mod LastNames
 pub mod Listed
 pub mod MadeFolders

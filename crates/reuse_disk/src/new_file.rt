@@ -10,6 +10,7 @@ ghost use Rattle.reuse_system.specs.TempFiles.{name_in, place_of, key_of, beside
 ghost use Rattle.reuse_system.specs.TempFiles.{IsNewPlace};
 ghost use Rattle.reuse_system.specs.declared.owner.Owner.{Owner};
 ghost use Rattle.reuse_disk.specs.Due.{asked_for, due_of};
+ghost use Rattle.reuse_disk.specs.Noted.{StayNoted};
 ghost use Rattle.reuse_disk.specs.Written.{StandsAlone, IsWritten, IsPlaced, LeavesNone, is_kept, is_named};
 
 mod numbered;
@@ -168,7 +169,7 @@ impl NewFile {
     ) -> io::Result<()>
         ensures folder { self.new.folder ≡ self.old.folder }
         ensures syncs { unsynced.new.syncs ≡ unsynced.old.syncs }
-        ensures folders { unsynced.new.folders ≡ unsynced.old.folders }
+        ensures noted { StayNoted unsynced.old unsynced.new }
         ensures filled { MatchResult result
             (λ _. IsFilled (key_of temp_file.old) (joined content.entry.parts) (is_kept unsynced.old.syncs)
             (S.holds system.old) (S.holds system.new))
@@ -196,7 +197,7 @@ impl NewFile {
     ) -> Result<bool, FolderFault>
         ensures folder { self.new.folder ≡ self.old.folder }
         ensures syncs { unsynced.new.syncs ≡ unsynced.old.syncs }
-        ensures folders { unsynced.new.folders ≡ unsynced.old.folders }
+        ensures noted { StayNoted unsynced.old unsynced.new }
         ensures placed { StandsAlone (place_of temp_file.old) (key_of temp_file.old) [] false (S.holds system.old)
             → IsPlaced (S.honest system.new) (place_of temp_file.old)
             (name_in target.entry.folder.now target.entry.name.now) (joined content.entry.parts)
@@ -225,7 +226,7 @@ impl NewFile {
     ) -> Result<bool, FolderFault>
         ensures folder { self.new.folder ≡ self.old.folder }
         ensures syncs { unsynced.new.syncs ≡ unsynced.old.syncs }
-        ensures folders { unsynced.new.folders ≡ unsynced.old.folders }
+        ensures noted { StayNoted unsynced.old unsynced.new }
         ensures placed { StandsAlone (place_of temp_file.old) (key_of temp_file.old) [] false (S.holds system.old)
             → IsPlaced (S.honest system.new) (place_of temp_file.old)
             (name_in target.entry.folder.now target.entry.name.now) (joined content.entry.parts)
@@ -283,7 +284,7 @@ impl NewFile {
     ) -> Result<bool, FolderFault>
         ensures folder { self.new.folder ≡ self.old.folder }
         ensures syncs { unsynced.new.syncs ≡ unsynced.old.syncs }
-        ensures folders { unsynced.new.folders ≡ unsynced.old.folders }
+        ensures noted { StayNoted unsynced.old unsynced.new }
         ensures placed { IsPlaced (S.honest system.new) (name_in self.old.folder (codes "new"))
             (name_in target.entry.folder.now target.entry.name.now) (joined content.entry.parts)
             (is_kept unsynced.old.syncs) (S.holds system.old) (S.holds system.new) (is_named result) (is_ok result) }
@@ -308,7 +309,7 @@ impl NewFile {
     ) -> Result<(), FolderFault>
         ensures folder { self.new.folder ≡ self.old.folder }
         ensures syncs { unsynced.new.syncs ≡ unsynced.old.syncs }
-        ensures folders { unsynced.new.folders ≡ unsynced.old.folders }
+        ensures noted { StayNoted unsynced.old unsynced.new }
         ensures placed { IsPlaced (S.honest system.new)
             (name_in target.entry.folder.now (beside_name self.old.folder.identity))
             (name_in target.entry.folder.now target.entry.name.now) (joined content.entry.parts)
@@ -343,7 +344,7 @@ impl NewFile {
     ) -> Result<(), FolderFault>
         ensures folder { self.new.folder ≡ self.old.folder }
         ensures syncs { unsynced.new.syncs ≡ unsynced.old.syncs }
-        ensures folders { unsynced.new.folders ≡ unsynced.old.folders }
+        ensures noted { StayNoted unsynced.old unsynced.new }
         ensures written { IsWritten (IsNewPlace self.old.folder.identity target.entry.folder.now.identity)
             (name_in target.entry.folder.now target.entry.name.now) (joined content.entry.parts)
             (is_kept unsynced.old.syncs) (S.holds system.old) (S.holds system.new) (is_ok result) }

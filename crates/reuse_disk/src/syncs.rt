@@ -2,15 +2,16 @@
 //! synced before the file is given its name. Which folders got or lost a name is noted, and a
 //! barrier syncs each of them once. The system reports a fault of a sync once, and may then drop
 //! what it could not write: so a store whose sync has failed believes no later one.
-ghost use Rattle.std.specs.Prelude.{◌≡◌, ℕ, List, IfErr, IfOk, IfSome, IsOk, MatchResult, None, OnOk, Some, true};
+ghost use Rattle.std.specs.Prelude.{◌≡◌, ℕ, List, IfErr, IfOk, IfSome, IsOk, MatchResult, None, OnErr, OnOk, Some};
+ghost use Rattle.std.specs.Prelude.{true, false, length};
 ghost use Rattle.std.specs.BTreeSet.{contains_text, IsEmpty};
 ghost use Rattle.std.specs.Option.{unwrap_or};
 ghost use Rattle.reuse_system.specs.SystemLaws.{IsAlikeButFile};
 ghost use Rattle.reuse_system.specs.TempFiles.{key_of};
-ghost use Rattle.reuse_disk.specs.Noted.{IsNoted, StayNoted};
+ghost use Rattle.reuse_disk.specs.Noted.{IsListed, IsNoted, StayNoted};
 ghost use Rattle.reuse_disk.specs.OpenFolders.{AreOpenedIf};
 ghost use Rattle.reuse_disk.specs.ReadsOnly.{EntersOnly};
-ghost use Rattle.reuse_disk.specs.Synced.{AreSynced, HaveFolders};
+ghost use Rattle.reuse_disk.specs.Synced.{AreAbove, AreSynced, HaveFolders, IsSyncedAt};
 ghost use Rattle.reuse_disk.specs.Written.{IsSyncedIf, is_kept};
 ghost use Rattle.reuse_system.specs.declared.fault.FolderFault.TheVariants.{Device};
 ghost use Rattle.reuse_system.specs.declared.fault.IoReason.{IoReason};
@@ -59,6 +60,7 @@ impl Unsynced {
     pub fn new(alloc: Global, syncs: Syncs) -> Unsynced
         ensures syncs { result.syncs ≡ syncs }
         ensures folders { IsEmpty result.folders }
+        ensures journal { result.is_journal_durable ≡ false }
         ensures failed { result.failed ≡ None }
     {
         Unsynced {
@@ -77,7 +79,8 @@ impl Unsynced {
 
     /// This folder, which is empty for the root, is to get or lose a name.
     pub fn note(&mut self, alloc: Global, folder: &str) -> Result<(), AllocError>
-        ensures noted { self.old.syncs ≡ Syncs.Kept → IfOk result (λ _. IsNoted self.new folder.now) }
+        ensures noted { self.old.syncs ≡ Syncs.Kept → IfOk result (λ _. IsListed self.new folder.now) }
+        ensures listed { (other : List ℕ) → IsListed self.old other → IsListed self.new other }
         ensures kept { StayNoted self.old self.new }
         ensures syncs { self.new.syncs ≡ self.old.syncs }
         ensures failed { self.new.failed ≡ self.old.failed }
@@ -91,7 +94,7 @@ impl Unsynced {
     /// A sync failed for this. The first one stays known.
     fn fail(&mut self, obstacle: IoReason)
         ensures syncs { self.new.syncs ≡ self.old.syncs }
-        ensures folders { self.new.folders ≡ self.old.folders }
+        ensures noted { StayNoted self.old self.new }
         ensures failed { self.new.failed ≡ Some (unwrap_or self.old.failed obstacle) }
     {
         if self.failed.is_none() {
@@ -107,7 +110,7 @@ impl Unsynced {
         path: &str,
     ) -> io::Result<()>
         ensures syncs { self.new.syncs ≡ self.old.syncs }
-        ensures folders { self.new.folders ≡ self.old.folders }
+        ensures noted { StayNoted self.old self.new }
         ensures ok { OnOk result (self.new.failed ≡ self.old.failed) }
         ensures failed { IfErr result (λ error. self.new.failed ≡ Some (unwrap_or self.old.failed (System error))) }
         ensures synced { MatchResult result
@@ -133,7 +136,7 @@ impl Unsynced {
     /// For an allocation failure the path is left out.
     fn set_last(&mut self, path: &str)
         ensures syncs { self.new.syncs ≡ self.old.syncs }
-        ensures folders { self.new.folders ≡ self.old.folders }
+        ensures noted { StayNoted self.old self.new }
         ensures failed { self.new.failed ≡ self.old.failed }
     {
         self.last.clear();
@@ -150,6 +153,7 @@ impl Unsynced {
         changes: &[Change],
     ) -> Result<(), FolderFault>
         ensures left_out { self.old.syncs ≡ Syncs.LeftOut → IsOk result }
+        ensures no_sync { self.old.syncs ≡ Syncs.LeftOut → S.synced system.new ≡ S.synced system.old }
         ensures durable { self.old.syncs ≡ Syncs.Kept → OnOk result (IsEmpty self.new.folders) }
         // Once one has failed, no later one is believed.
         ensures failed { self.old.syncs ≡ Syncs.Kept
@@ -159,8 +163,16 @@ impl Unsynced {
         // Each folder that is noted, and there, was synced since.
         ensures synced { self.old.syncs ≡ Syncs.Kept
             → AreOpenedIf (S.honest system.old) (S.folders system.old) open_folders.old → S.honest system.new
-            → IfOk result (λ _. AreSynced self.old (S.folders system.new) (S.holds system.new) (S.synced system.old)
-            (S.synced system.new)) }
+            → IfOk result (λ _. AreSynced (IsNoted self.old) (S.folders system.new) (S.holds system.new)
+            (S.synced system.old) (S.synced system.new)) }
+        // So was the folder above the path of each change.
+        ensures above { self.old.syncs ≡ Syncs.Kept
+            → AreOpenedIf (S.honest system.old) (S.folders system.old) open_folders.old → S.honest system.new
+            → IfOk result (λ _. AreAbove (IsSyncedAt (S.folders system.new) (S.holds system.new)
+            (S.synced system.old) (S.synced system.new)) changes.now (length changes.now)) }
+        ensures syncs { self.new.syncs ≡ self.old.syncs }
+        // What a barrier that fails was to sync is left to the next one.
+        ensures kept { OnErr result (StayNoted self.old self.new) }
     {
         if self.syncs == Syncs::LeftOut {
             return Ok(());
@@ -188,12 +200,14 @@ impl Unsynced {
         open_folders: &mut OpenFolders,
     ) -> Result<(), FolderFault>
         ensures failed { self.new.failed ≡ self.old.failed }
+        ensures syncs { self.new.syncs ≡ self.old.syncs }
+        ensures kept { StayNoted self.old self.new }
         ensures enters { EntersOnly S.System system.old system.new open_folders.old open_folders.new }
-        // Each folder that is noted, and there, was synced since.
+        // Each folder that is listed, and there, was synced since.
         ensures synced { AreOpenedIf (S.honest system.old) (S.folders system.old) open_folders.old
             → S.honest system.new
-            → IfOk result (λ _. AreSynced self.old (S.folders system.new) (S.holds system.new) (S.synced system.old)
-            (S.synced system.new)) }
+            → IfOk result (λ _. AreSynced (IsListed self.old) (S.folders system.new) (S.holds system.new)
+            (S.synced system.old) (S.synced system.new)) }
     {
         let there = self.folders_there(system, alloc, open_folders)?;
         for folder in &there {
@@ -204,22 +218,41 @@ impl Unsynced {
         Ok(())
     }
 
+    /// Notes the journal's folder, if it isn't known to be durable.
+    fn note_journal(&mut self, alloc: Global) -> Result<(), AllocError>
+        ensures failed { self.new.failed ≡ self.old.failed }
+        ensures syncs { self.new.syncs ≡ self.old.syncs }
+        ensures kept { StayNoted self.old self.new }
+        // What was noted is listed now.
+        ensures listed { self.old.syncs ≡ Syncs.Kept
+            → IfOk result (λ _. (folder : List ℕ) → IsNoted self.old folder → IsListed self.new folder) }
+    {
+        if self.is_journal_durable {
+            return Ok(());
+        }
+        self.note(alloc, JOURNAL)
+    }
+
     /// Notes the journal's folder, if it isn't known to be durable, and the folders above the paths
     /// of the changes.
     fn note_changes(&mut self, alloc: Global, changes: &[Change]) -> Result<(), AllocError>
         ensures failed { self.new.failed ≡ self.old.failed }
+        ensures syncs { self.new.syncs ≡ self.old.syncs }
         ensures kept { StayNoted self.old self.new }
+        // What was noted is listed now, and so is the folder above the path of each change.
+        ensures listed { self.old.syncs ≡ Syncs.Kept
+            → IfOk result (λ _. (folder : List ℕ) → IsNoted self.old folder → IsListed self.new folder) }
+        ensures above { self.old.syncs ≡ Syncs.Kept → IfOk result
+            (λ _. AreAbove (IsListed self.new) changes.now (length changes.now)) }
     {
-        if !self.is_journal_durable {
-            self.note(alloc, JOURNAL)?;
-        }
+        self.note_journal(alloc)?;
         for change in changes {
             self.note(alloc, folder_and_name(change.path().text()).0)?;
         }
         Ok(())
     }
 
-    /// The folders that are noted, each once. In place of one that isn't there stands the nearest
+    /// The folders that are listed, each once. In place of one that isn't there stands the nearest
     /// one above it that is.
     fn folders_there<S: System>(
         &self,
@@ -231,7 +264,7 @@ impl Unsynced {
         ensures no_sync { S.synced system.new ≡ S.synced system.old }
         ensures there { AreOpenedIf (S.honest system.old) (S.folders system.old) open_folders.old
             → S.honest system.new
-            → IfOk result (λ there. HaveFolders self.now (λ path. contains_text there path ≡ true)
+            → IfOk result (λ there. HaveFolders (IsListed self.now) (λ path. contains_text there path ≡ true)
             (S.folders system.new) (S.holds system.new)) }
     {
         let mut there = BTreeSet::new(alloc);

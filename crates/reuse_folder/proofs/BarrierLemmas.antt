@@ -1,8 +1,7 @@
 -- Which folders are noted for the next barrier.
 use Rattle.std.proofs.Common.{◌≡◌, ◌≢◌, ◌⊎◌, ◌<◌, ◌+◌, inl, inr, ℕ, suc, List, [], ◌∷◌, ◌++◌, length, get_or}
-use Rattle.std.proofs.Common.{drop, true}
+use Rattle.std.proofs.Common.{drop}
 use Rattle.std.proofs.Common.{slice_index, length-drop, refl, sym, ◌∙◌, ap, subst, arith}
-use Rattle.std.specs.BTreeSet.{contains_text}
 use Rattle.std.proofs.lemmas.List.{get_or-drop}
 use Rattle.reuse_store.specs.declared.file_write.FileWrite.{FileWrite}
 use Rattle.reuse_system.specs.TempFiles.{IsNewIn, IsNewPlace}
@@ -12,13 +11,14 @@ use Rattle.reuse_system.specs.Names.{IsNameOf, IsSplit}
 use Rattle.reuse_system.specs.NewFiles.{Due}
 use Rattle.reuse_system.specs.declared.place.Identity.{Identity}
 use Rattle.reuse_disk.specs.Noted.{IsNoted, StayNoted}
+use Rattle.reuse_disk.specs.Noted.Note.{Folder}
 use Rattle.reuse_disk.specs.declared.syncs.Unsynced.{Unsynced}
+use Rattle.reuse_disk.proofs.AtLemmas.{front_or_last, same_at}
 use Rattle.reuse_disk.proofs.EditLemmas.{only_none, only_then, only_weaker}
 use Rattle.reuse_folder.specs.Barriers.{AreNotedAbove, HasNoted, HaveNoted, IsNotedAbove, IsNotedAt, IsNotedOf}
 use Rattle.reuse_folder.specs.Seen.{IsNewFile, LosesNoEdit}
 use Rattle.reuse_folder.specs.declared.folder.seen.Expected.{Expected}
 use Rattle.reuse_folder.proofs.ReadLemmas.{named_of}
-use Rattle.reuse_folder.proofs.RoundLemmas.{front_or_last, same_at}
 
 -- ---- a path has one name
 
@@ -65,7 +65,7 @@ above_later old new path stay noted =
       above = noted.above;
       name = noted.name;
       is_split = noted.is_split;
-      is_noted = stay noted.above noted.is_noted;
+      is_one = stay (Folder noted.above) noted.is_one;
     }
 
 at_later : (old new : Unsynced) (path : List ℕ) (place : Place) → StayNoted old new → IsNotedAt old path place
@@ -106,7 +106,7 @@ at_own unsynced path name folder place noted named at =
 pub above_of : (unsynced : Unsynced) (path above name : List ℕ) → IsSplit path above name → IsNoted unsynced above
     → IsNotedAbove unsynced path
 above_of unsynced path above name split noted =
-    record { above = above; name = name; is_split = split; is_noted = noted }
+    record { above = above; name = name; is_split = split; is_one = noted }
 
 each_noted : (unsynced : Unsynced) (path name : List ℕ) (folder : Identity) (P : Place → Type 0)
     (due : Due) → IsNotedAbove unsynced path → IsNameOf path name
@@ -145,21 +145,13 @@ pub has_then : (unsynced : Unsynced) (path : List ℕ) (a b c : List NameChange)
 has_then unsynced path a b c one two =
     only_then (λ place. IsNewFile place ⊎ IsNotedAt unsynced path place) a b c one two
 
--- the same folders are noted
-pub above_same : (old new : Unsynced) (path : List ℕ) → new.folders ≡ old.folders → IsNotedAbove old path
-    → IsNotedAbove new path
-above_same old new path same noted =
-    above_of new path noted.above noted.name noted.is_split
-    (subst (λ folders. contains_text folders noted.above ≡ true) (sym same) noted.is_noted)
-
-pub has_later : (old new : Unsynced) (path : List ℕ) (a b : List NameChange) → new.folders ≡ old.folders
+pub has_later : (old new : Unsynced) (path : List ℕ) (a b : List NameChange) → StayNoted old new
     → HasNoted old path a b → HasNoted new path a b
-has_later old new path a b same noted =
+has_later old new path a b stay noted =
     only_weaker (λ place. IsNewFile place ⊎ IsNotedAt old path place)
     (λ place. IsNewFile place ⊎ IsNotedAt new path place)
     (λ place. either (IsNewFile place) (IsNotedAt old path place) (IsNotedAt new path place)
-    (at_later old new path place
-    (λ folder noted. subst (λ folders. contains_text folders folder ≡ true) (sym same) noted))) a b noted
+    (at_later old new path place stay)) a b noted
 
 -- ---- several writes
 
@@ -234,9 +226,6 @@ have_behind unsynced writes n a b noted =
 
 -- ---- from one write to the next
 
-pub stay_same : (old new : Unsynced) → new.folders ≡ old.folders → StayNoted old new
-stay_same old new same folder noted = subst (λ folders. contains_text folders folder ≡ true) (sym same) noted
-
 -- one more of the writes is noted
 pub above_more : (old new : Unsynced) (writes : List FileWrite) (n : ℕ) (write : FileWrite) → n < length writes
     → write ≡ get_or writes n write → StayNoted old new → AreNotedAbove old writes n → IsNotedAbove new write.path.now
@@ -251,8 +240,8 @@ above_more old new writes n write short is stay noted here k other less at = by 
 
 -- the write at a place is made, as those before it
 pub have_more : (old new : Unsynced) (writes : List FileWrite) (k : ℕ) (write : FileWrite) (a b c : List NameChange)
-    → k < length writes → write ≡ get_or writes k write → new.folders ≡ old.folders → HaveNoted old writes a b
+    → k < length writes → write ≡ get_or writes k write → StayNoted old new → HaveNoted old writes a b
     → HasNoted new write.path.now b c → HaveNoted new writes a c
-have_more old new writes k write a b c short is same noted one =
-    have_then new writes a b c (have_later old new writes a b (stay_same old new same) noted)
+have_more old new writes k write a b c short is stay noted one =
+    have_then new writes a b c (have_later old new writes a b stay noted)
     (have_one new writes k write b c short is one)

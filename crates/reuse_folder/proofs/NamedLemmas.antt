@@ -17,7 +17,8 @@ use Rattle.reuse_folder.specs.Batches.{Disk, IsWriteOn}
 use Rattle.reuse_folder.specs.FolderWrites.{IsNewOf, IsPutIn}
 use Rattle.reuse_folder.specs.Rounds.{new_place, AreGone, HasPlace, IsNamed, IsNumbered, StandsTempFile}
 use Rattle.reuse_folder.specs.declared.folder.batch.NewContent.{NewContent}
-use Rattle.reuse_folder.proofs.RoundLemmas.{front_or_last, numbered_is_new, other_place, place_decided, place_is_new}
+use Rattle.reuse_disk.proofs.AtLemmas.{front_or_last}
+use Rattle.reuse_folder.proofs.RoundLemmas.{numbered_is_new, other_place, place_decided, place_is_new}
 
 -- ---- a file of this write and another one
 

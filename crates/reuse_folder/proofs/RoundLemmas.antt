@@ -15,18 +15,13 @@ use Rattle.reuse_system.specs.FileStates.{FileKey, FileState, StateFile, Place, 
 use Rattle.reuse_system.specs.SystemLaws.{IsAlikeBut, IsAlikeButFile, IsAlikeUnless}
 use Rattle.reuse_system.specs.declared.place.Identity.{Identity}
 use Rattle.reuse_disk.specs.Written.{IsSyncedIf, StandsAlone}
+use Rattle.reuse_disk.proofs.AtLemmas.{front_or_last, same_at}
 use Rattle.reuse_disk.proofs.PlaceLemmas.{numbered_in, numbers_of_place}
 use Rattle.reuse_folder.specs.Rounds.{new_place, AreApart, AreTempFile, AreBegun, HasPlace, HavePlaces, IsNumbered}
 use Rattle.reuse_folder.specs.Rounds.{StandsTempFile}
 use Rattle.reuse_folder.specs.declared.folder.batch.NewContent.{NewContent}
 
 -- ---- lists
-
-pub same_at : {X : Type 0} (xs : List X) (k : ℕ) (x y : X) → k < length xs → x ≡ get_or xs k x
-    → y ≡ get_or xs k y → x ≡ y
-same_at [] k x y short one other = absurd (omega (arith, short))
-same_at (z ∷ zs) zero x y short one other = one ∙ sym other
-same_at (z ∷ zs) (suc k) x y short one other = same_at zs k x y (omega (arith, short)) one other
 
 -- the one behind
 last_at : {X : Type 0} (xs : List X) (x one : X) (k : ℕ) → k ≡ length xs → one ≡ get_or (xs ++ (x ∷ [])) k one → one ≡ x
@@ -36,13 +31,6 @@ last_at xs x one k last at = at ∙ ap (λ n. get_or (xs ++ (x ∷ [])) n one) l
 front_at : {X : Type 0} (xs : List X) (x one : X) (k : ℕ) → k < length xs → one ≡ get_or (xs ++ (x ∷ [])) k one
     → one ≡ get_or xs k one
 front_at xs x one k short at = at ∙ get_or_append_left xs (x ∷ []) one k short
-
-pub front_or_last : (k n : ℕ) → k < n + 1 → (k < n) ⊎ (k ≡ n)
-front_or_last k n short = by (nat_lt k n) refl
-  where
-    by : (b : Bool) → nat_lt k n ≡ b → (k < n) ⊎ (k ≡ n)
-    by true is = inl ((Decides-ltb k n).0 is)
-    by false is = inr (omega (arith, short, λ (less : k < n). true≢false (sym ((Decides-ltb k n).1 less) ∙ is)))
 
 -- ---- places
 

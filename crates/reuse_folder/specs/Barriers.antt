@@ -3,21 +3,18 @@ use Rattle.std.specs.Prelude.{◌≡◌, ◌⊎◌, ℕ, ◌<◌, List, length, 
 use Rattle.reuse_store.specs.declared.file_write.FileWrite.{FileWrite}
 use Rattle.reuse_system.specs.FileStates.{Place, place_in}
 use Rattle.reuse_system.specs.NameChanges.{NameChange, OnlyChanges}
-use Rattle.reuse_system.specs.Names.{IsSplit}
 use Rattle.reuse_system.specs.declared.place.Identity.{Identity}
 use Rattle.reuse_system.specs.declared.system.System.{Ghosts}
-use Rattle.reuse_disk.specs.Noted.{IsNoted}
+use Rattle.reuse_disk.specs.Noted.{IsNoted, StayNoted}
+use Rattle.reuse_disk.specs.Synced.{IsAbove}
 use Rattle.reuse_disk.specs.declared.syncs.Unsynced.{Unsynced}
 use Rattle.reuse_folder.specs.Seen.{AreKnown, IsNewFile, LoseNoEdits}
 use Rattle.reuse_folder.specs.declared.folder.batch.NewContent.{NewContent}
 use Rattle.reuse_folder.specs.declared.folder.seen.ReadPath.{ReadPath}
 
 -- the folder above the path is noted
-pub record IsNotedAbove (unsynced : Unsynced) (path : List ℕ) : Type 0 where
-  pub above : List ℕ
-  pub name : List ℕ
-  pub is_split : IsSplit path above name
-  pub is_noted : IsNoted unsynced above
+abbrev pub IsNotedAbove : Unsynced → (path : List ℕ) → Type 0
+IsNotedAbove unsynced path = IsAbove (IsNoted unsynced) path
 
 -- so it is, and the place has the path's own name, in some folder
 pub record IsNotedAt (unsynced : Unsynced) (path : List ℕ) (place : Place) : Type 0 where
@@ -48,12 +45,12 @@ AreNotedAbove unsynced writes count =
     (k : ℕ) (write : FileWrite) → k < count → write ≡ slice_index_or writes k write
     → IsNotedAbove unsynced write.path.now
 
--- New files were given their names, or some of them. Of what was known no edit is lost, and the folders above are noted
--- that were so before.
+-- New files were given their names, or some of them. Of what was known no edit is lost, and what was noted is noted
+-- still, the folders above too.
 pub record NamesKnown {S : Type 0} (system : Ghosts S) (old new : S) (unsynced notes : Unsynced)
     (writes : List FileWrite) (temp_files : List NewContent) : Type 0 where
   pub syncs : notes.syncs ≡ unsynced.syncs
-  pub folders : notes.folders ≡ unsynced.folders
+  pub stays : StayNoted unsynced notes
   pub noted : (reads : List ReadPath) → AreKnown reads writes temp_files
       → AreNotedAbove unsynced writes (length temp_files)
       → HaveNoted notes writes (system.changes old) (system.changes new)

@@ -1,9 +1,10 @@
 //! A folder of the file system: its regular files by their paths.
-ghost use Rattle.std.specs.Prelude.{◌≡◌, All, false, IfOk, IsTrue, None, true};
+ghost use Rattle.std.specs.Prelude.{◌≡◌, All, false, length, IfOk, IsTrue, None, OnErr, Some, true};
 ghost use Rattle.std.specs.List.Sorted.{IsSorted};
 ghost use Rattle.std.specs.Ordering.{nat_cmp};
 ghost use Rattle.std.specs.Cmp.Lexicographic.{slice_cmp};
 ghost use Rattle.std.proofs.Props.{props};
+ghost use Rattle.reuse_change.specs.Layout.{journal_folder};
 ghost use Rattle.reuse_system.specs.Ignored.{is_ignored};
 ghost use Rattle.reuse_disk.specs.OpenFolders.{AreOpenedIf};
 
@@ -58,15 +59,18 @@ pub struct RootFolder<S: DiskSystem + Drop> {
 impl<S: DiskSystem + Drop> RootFolder<S> {
     ghost use Rattle.reuse_folder.specs.FolderReads.{IsPlaceAt, LiesIn};
     ghost use Rattle.reuse_disk.specs.LeftFiles.{ClearsLeft};
-    ghost use Rattle.reuse_disk.specs.Noted.{StayNoted};
+    ghost use Rattle.reuse_disk.specs.Noted.{IsNoted, StayNoted};
     ghost use Rattle.reuse_disk.specs.ReadsOnly.{ReadsOnly};
-    ghost use Rattle.reuse_disk.specs.Synced.{AreSynced};
+    ghost use Rattle.reuse_disk.specs.Synced.{AreAbove, AreSynced, IsSyncedAt};
+    ghost use Rattle.reuse_system.specs.declared.fault.FolderFault.TheVariants.{Device};
+    ghost use Rattle.reuse_system.specs.declared.fault.IoReason.{IoReason};
     ghost use Rattle.reuse_system.specs.declared.syncs.Syncs.TheVariants.{Kept};
     ghost use Rattle.reuse_disk.specs.OpenFolders.{current_of};
     ghost use Rattle.reuse_system.specs.FolderPlaces.{IsNoFile};
     /// The folder at this path, in which what is written is made durable or not.
     pub fn new(system: S, root: String, syncs: Syncs, ownership: OwnershipPolicy) -> RootFolder<S>
-        ensures { result.unsynced.syncs ≡ syncs }
+        ensures syncs { result.unsynced.syncs ≡ syncs }
+        ensures noted { IsNoted result.unsynced journal_folder }
     {
         let alloc = system.rt().alloc();
         let open_folders = OpenFolders::new(alloc, root, ownership.process());
@@ -91,26 +95,47 @@ impl<S: DiskSystem + Drop> RootFolder<S> {
     }
 
     /// How files keep their owners here.
-    pub fn ownership(&mut self) -> &mut OwnershipPolicy {
-        &mut self.ownership
+    pub fn ownership(&self) -> &OwnershipPolicy {
+        &self.ownership
+    }
+
+    /// From now on a call is held before its first put if it reads a file that can't keep its
+    /// owner.
+    pub fn watch_writes(&mut self)
+        ensures unsynced { self.new.unsynced ≡ self.old.unsynced }
+    {
+        self.ownership.watch();
+    }
+
+    /// No call is held any more; whether one was.
+    pub fn release_writes(&mut self) -> bool
+        ensures unsynced { self.new.unsynced ≡ self.old.unsynced }
+    {
+        self.ownership.release()
     }
 
     /// Short files that are read from now on are remembered, for a call that began at this time
     /// since 1970.
-    pub fn remember_files(&mut self, since: Option<Duration>) {
+    pub fn remember_files(&mut self, since: Option<Duration>)
+        ensures unsynced { self.new.unsynced ≡ self.old.unsynced }
+    {
         self.remembered.begin(since);
     }
 
     /// Goes to where the system shows the handles of the process, so that paths are short, until
     /// `come_back`.
-    pub fn go_to_handles(&mut self, env: &impl Env, alloc: Global) {
+    pub fn go_to_handles(&mut self, env: &impl Env, alloc: Global)
+        ensures unsynced { self.new.unsynced ≡ self.old.unsynced }
+    {
         self.new_file = None;
         self.open_folders
             .go_to_handles(&mut self.system, env, alloc);
     }
 
     /// Comes back to the folder that the process was called in.
-    pub fn come_back(&mut self, env: &impl Env, alloc: Global) {
+    pub fn come_back(&mut self, env: &impl Env, alloc: Global)
+        ensures unsynced { self.new.unsynced ≡ self.old.unsynced }
+    {
         self.new_file = None;
         self.open_folders.come_back(env, alloc);
     }
@@ -148,6 +173,7 @@ impl<S: DiskSystem + Drop> RootFolder<S> {
     /// What stands at the path. The folder that it lies in is entered, if it is there.
     fn look(&mut self, alloc: Global, path: &PathText) -> Result<Place, FolderFault>
         ensures reads { ReadsOnly S.System self.old.system self.new.system }
+        ensures unsynced { self.new.unsynced ≡ self.old.unsynced }
         ensures remembered { self.new.remembered ≡ self.old.remembered }
         ensures lies { S.honest self.new.system
             → IfOk result (LiesIn (S.folders self.new.system) path.now (current_of self.new.open_folders)) }
@@ -169,6 +195,7 @@ impl<S: DiskSystem + Drop> RootFolder<S> {
         ensures reads { ReadsOnly S.System self.old.system self.new.system }
         ensures unsynced { self.new.unsynced ≡ self.old.unsynced }
         ensures new_file { self.new.new_file ≡ self.old.new_file }
+        ensures ownership { self.new.ownership ≡ self.old.ownership }
         ensures remembered { self.new.remembered ≡ self.old.remembered }
         ensures lies { S.honest self.new.system
             → IfOk result (LiesIn (S.folders self.new.system) path.now (current_of self.new.open_folders)) }
@@ -210,6 +237,7 @@ impl<S: DiskSystem + Drop> RootFolder<S> {
     ) -> Result<Vec<PathText>, FolderFault>
         ensures sorted { IfOk result (λ paths. IsSorted (slice_cmp nat_cmp) paths.items) }
         ensures ignored { IfOk result (λ paths. All (λ path. is_ignored path ≡ false) paths.items) }
+        ensures unsynced { self.new.unsynced ≡ self.old.unsynced }
     {
         let mut listing = Listing::new(alloc, pruning);
         if folders.is_empty() {
@@ -240,7 +268,9 @@ impl<S: DiskSystem + Drop> RootFolder<S> {
         alloc: Global,
         place: &PathText,
         listing: &mut Listing<P>,
-    ) -> Result<(), FolderFault> {
+    ) -> Result<(), FolderFault>
+        ensures unsynced { self.new.unsynced ≡ self.old.unsynced }
+    {
         let text = place.text();
         for (at, byte) in text.as_bytes().iter().enumerate() {
             if *byte == b'/' && listing.passes_over(&text[..at]) {
@@ -257,13 +287,17 @@ impl<S: DiskSystem + Drop> RootFolder<S> {
     }
 
     /// Whose the journal is.
-    pub fn journal_owners(&mut self, alloc: Global) -> Result<JournalOwners, FolderFault> {
+    pub fn journal_owners(&mut self, alloc: Global) -> Result<JournalOwners, FolderFault>
+        ensures unsynced { self.new.unsynced ≡ self.old.unsynced }
+    {
         journal_owners(&mut self.system, alloc, &mut self.open_folders)
     }
 
     /// Whether the file at the path can be written anew: it keeps its owner, or needn't. What isn't
     /// there can.
-    pub fn may_write(&mut self, alloc: Global, path: &PathText) -> Result<bool, FolderFault> {
+    pub fn may_write(&mut self, alloc: Global, path: &PathText) -> Result<bool, FolderFault>
+        ensures unsynced { self.new.unsynced ≡ self.old.unsynced }
+    {
         match self.look(alloc, path)? {
             Place::File(status) => Ok(self.ownership.may_write(status)),
             _ => Ok(true),
@@ -305,8 +339,18 @@ impl<S: DiskSystem + Drop> RootFolder<S> {
         ensures over { rolled_back.is_over ≡ true → S.changes self.new.system ≡ S.changes self.old.system }
         // Each folder that is noted, and there, was synced since.
         ensures synced { self.old.unsynced.syncs ≡ Kept → S.honest self.new.system
-            → IfOk result (λ _. AreSynced self.old.unsynced (S.folders self.new.system) (S.holds self.new.system)
-            (S.synced self.old.system) (S.synced self.new.system)) }
+            → IfOk result (λ _. AreSynced (IsNoted self.old.unsynced) (S.folders self.new.system)
+            (S.holds self.new.system) (S.synced self.old.system) (S.synced self.new.system)) }
+        // So was the folder above the path of each change.
+        ensures above { self.old.unsynced.syncs ≡ Kept → S.honest self.new.system
+            → IfOk result (λ _. AreAbove (IsSyncedAt (S.folders self.new.system) (S.holds self.new.system)
+            (S.synced self.old.system) (S.synced self.new.system)) changes.now (length changes.now)) }
+        ensures syncs { self.new.unsynced.syncs ≡ self.old.unsynced.syncs }
+        // What a barrier that fails was to sync is left to the next one.
+        ensures kept { OnErr result (StayNoted self.old.unsynced self.new.unsynced) }
+        // Once a sync has failed, no barrier is believed.
+        ensures failed { (obstacle : IoReason) → self.old.unsynced.syncs ≡ Kept
+            → self.old.unsynced.failed ≡ Some obstacle → result ≡ Err (Device obstacle) }
     {
         self.clear_left(alloc, rolled_back);
         self.unsynced

@@ -7,21 +7,25 @@
 //! `folder.sh`, `races.sh`, `syncs.sh`, `owners.sh` and `fail_system_calls.sh` in `tests/`.
 #![tactic(auto)]
 
-ghost use Rattle.std.specs.Prelude.{◌≡◌, ◌≢◌, ◌+◌, [], IfOk, MatchResult, is_ok, length, min, true};
+ghost use Rattle.std.specs.Prelude.{◌≡◌, ◌≢◌, ◌+◌, [], IfOk, IsErr, MatchResult, OnErr, Some, is_ok, length, min};
+ghost use Rattle.std.specs.Prelude.{true};
 ghost use Rattle.std.specs.FinMap as map;
 ghost use Rattle.reuse_store.specs.Store.{reading_of};
 ghost use Rattle.reuse_folder.specs.FolderReads.{IsReadWith};
 ghost use Rattle.reuse_folder.specs.Barriers.{HasNoted, HaveNoted};
 ghost use Rattle.reuse_folder.specs.Batches.{disk_of, IsBatch};
 ghost use Rattle.reuse_folder.specs.FolderWrites.{IsGone, IsPutTidily, IsRemovedIn, IsStoredAt};
+ghost use Rattle.reuse_system.specs.declared.fault.IoReason.{IoReason};
 ghost use Rattle.reuse_system.specs.declared.place.Identity.{Identity};
 ghost use Rattle.reuse_folder.specs.RolledBack.{foreign_of};
 ghost use Rattle.reuse_folder.specs.Seen.{LoseNoEdits, LosesNoEditAfter};
 ghost use Rattle.reuse_disk.specs.LeftFiles.{ClearsLeft};
-ghost use Rattle.reuse_disk.specs.Synced.{AreSynced};
+ghost use Rattle.reuse_disk.specs.Noted.{IsNoted, StayNoted};
+ghost use Rattle.reuse_disk.specs.Synced.{AreAbove, AreSynced, IsSyncedAt};
 ghost use Rattle.reuse_disk.specs.Written.{is_kept};
 ghost use Rattle.reuse_store.specs.Asked.{FailsAsRead, OnlyReads, IsLater, IsPut, IsRemoval, AreWrites};
 ghost use Rattle.reuse_store.specs.Asked.{IsBarrier};
+ghost use Rattle.reuse_change.specs.Layout.{journal_folder};
 ghost use Rattle.reuse_change.specs.Parts.{joined};
 ghost use Rattle.reuse_store.specs.Calls.{Start};
 ghost use Rattle.reuse_change.specs.Files.{AreFiles};
@@ -84,6 +88,9 @@ impl<R: Files<File = File> + AllocGlobal + Clone + Drop> DiskStore<HostSystem<R>
         ghost start: { Start }
         ensures files { ⟦<HostStore<R> as Store>⟧.files result ≡ start.files }
         ensures honest { AreFiles start.files → ⟦<HostStore<R> as Store>⟧.honest result }
+        // Syncs are made as it is asked for, and the journal is noted for the first barrier.
+        ensures syncs { result.folder.unsynced.syncs ≡ syncs }
+        ensures noted { IsNoted result.folder.unsynced journal_folder }
         ensures failures { ⟦<HostStore<R> as Store>⟧.failures result ≡ 0 }
         ensures written { ⟦<HostStore<R> as Store>⟧.written result ≡ 0 }
         ensures mutations { ⟦<HostStore<R> as Store>⟧.mutations result ≡ 0 }
@@ -108,7 +115,9 @@ fn host_system<R: Files<File = File> + AllocGlobal + Clone + Drop>(rt: R) -> Hos
 impl<S: DiskSystem + Drop> DiskStore<S> {
     /// Whether the journal belongs to another user than the process. If that can't be seen, it
     /// isn't reported here: opening the journal fails.
-    pub fn is_journal_of_other(&mut self, alloc: Global) -> bool {
+    pub fn is_journal_of_other(&mut self, alloc: Global) -> bool
+        ensures unsynced { self.new.folder.unsynced ≡ self.old.folder.unsynced }
+    {
         let user = self.folder.ownership().user();
         match self.folder.journal_owners(alloc) {
             Ok(owners) => owners.is_journal_of_other(user),
@@ -118,31 +127,41 @@ impl<S: DiskSystem + Drop> DiskStore<S> {
 
     /// From now on the first put of a call fails if a file was read that can't keep its owner,
     /// unless that is allowed, or if a name was asked for that no file can have.
-    pub fn watch_writes(&mut self) {
-        self.folder.ownership().watch();
+    pub fn watch_writes(&mut self)
+        ensures unsynced { self.new.folder.unsynced ≡ self.old.folder.unsynced }
+    {
+        self.folder.watch_writes();
     }
 
     /// Short files that are read from now on are remembered, for a call that began at this time
     /// since 1970: they aren't read again as long as the system reports the same of them.
-    pub fn remember_files(&mut self, since: Option<Duration>) {
+    pub fn remember_files(&mut self, since: Option<Duration>)
+        ensures unsynced { self.new.folder.unsynced ≡ self.old.folder.unsynced }
+    {
         self.folder.remember_files(since);
     }
 
     /// Goes to where the system shows the handles of the process, so that paths through them are
     /// short, until `come_back`. Meanwhile no other path may start where the process was.
-    pub fn go_to_handles(&mut self, env: &impl Env, alloc: Global) {
+    pub fn go_to_handles(&mut self, env: &impl Env, alloc: Global)
+        ensures unsynced { self.new.folder.unsynced ≡ self.old.folder.unsynced }
+    {
         self.folder.go_to_handles(env, alloc);
     }
 
     /// Comes back to the folder that the process was called in.
-    pub fn come_back(&mut self, env: &impl Env, alloc: Global) {
+    pub fn come_back(&mut self, env: &impl Env, alloc: Global)
+        ensures unsynced { self.new.folder.unsynced ≡ self.old.folder.unsynced }
+    {
         self.folder.come_back(env, alloc);
     }
 
     /// A pending step is rolled back from now on, until the journal is first written. Meanwhile
     /// what stands at a path and is neither a file nor a folder, as a link or a pipe, is read as a
     /// file that is too long: so it isn't taken for a path without a file, where one could be made.
-    pub fn expect_rollback(&mut self) {
+    pub fn expect_rollback(&mut self)
+        ensures unsynced { self.new.folder.unsynced ≡ self.old.folder.unsynced }
+    {
         self.rolled_back.expect();
     }
 
@@ -152,19 +171,23 @@ impl<S: DiskSystem + Drop> DiskStore<S> {
     }
 
     /// No put fails for that any more, but those of such files; whether one has failed.
-    pub fn release_writes(&mut self) -> bool {
-        self.folder.ownership().release()
+    pub fn release_writes(&mut self) -> bool
+        ensures unsynced { self.new.folder.unsynced ≡ self.old.folder.unsynced }
+    {
+        self.folder.release_writes()
     }
 
     /// Whether the file at the path, if there is one, can be written anew and keep its owner, or
     /// needn't.
-    pub fn may_write(&mut self, alloc: Global, path: &PathText) -> Result<bool, StoreFault> {
+    pub fn may_write(&mut self, alloc: Global, path: &PathText) -> Result<bool, StoreFault>
+        ensures unsynced { self.new.folder.unsynced ≡ self.old.folder.unsynced }
+    {
         let answer = self.folder.may_write(alloc, path);
         answer.map_err(StoreFault::from)
     }
 
     /// What was done so far to owners and names of files.
-    pub fn owner_report(&mut self) -> OwnerReport {
+    pub fn owner_report(&self) -> OwnerReport {
         self.folder.ownership().owner_report()
     }
 
@@ -184,7 +207,9 @@ impl<S: DiskSystem + Drop> DiskStore<S> {
     }
 
     /// The last call that failed, where one did since the last asking.
-    pub fn take_failure(&mut self) -> Option<Failure> {
+    pub fn take_failure(&mut self) -> Option<Failure>
+        ensures unsynced { self.new.folder.unsynced ≡ self.old.folder.unsynced }
+    {
         self.failure.take()
     }
 }
@@ -231,6 +256,7 @@ impl<S: DiskSystem + Drop> Store for DiskStore<S> {
             limit) }
         ensures fails { FailsAsRead ⟦<DiskStore<S> as Store>⟧ self.old self.new result }
         ensures reads { OnlyReads ⟦<DiskStore<S> as Store>⟧ self.old self.new }
+        ensures unsynced { self.new.folder.unsynced ≡ self.old.folder.unsynced }
         // What is read is what the file at the path holds on the disk, if none is remembered.
         ensures read { S.honest self.new.folder.system → self.old.folder.remembered.files.items ≡ []
             → IfOk result (IsReadWith (foreign_of self.old.rolled_back) (S.folders self.new.folder.system)
@@ -260,6 +286,8 @@ impl<S: DiskSystem + Drop> Store for DiskStore<S> {
         ensures noted { self.old.folder.unsynced.syncs ≡ Syncs.Kept
             → HasNoted self.new.folder.unsynced path.now (S.changes self.old.folder.system)
             (S.changes self.new.folder.system) }
+        ensures syncs { self.new.folder.unsynced.syncs ≡ self.old.folder.unsynced.syncs }
+        ensures stay_noted { StayNoted self.old.folder.unsynced self.new.folder.unsynced }
         // The file at the path stays if it isn't what was read there.
         ensures keeps_edits { LosesNoEditAfter self.old.folder.reads.items path.now (S.changes self.old.folder.system)
             (S.changes self.new.folder.system) (S.holds self.old.folder.system) (S.holds self.new.folder.system) }
@@ -282,6 +310,8 @@ impl<S: DiskSystem + Drop> Store for DiskStore<S> {
         ensures noted { self.old.folder.unsynced.syncs ≡ Syncs.Kept
             → HasNoted self.new.folder.unsynced path.now (S.changes self.old.folder.system)
             (S.changes self.new.folder.system) }
+        ensures syncs { self.new.folder.unsynced.syncs ≡ self.old.folder.unsynced.syncs }
+        ensures stay_noted { StayNoted self.old.folder.unsynced self.new.folder.unsynced }
         // The file at the path stays if it isn't what was read there.
         ensures keeps_edits { LosesNoEditAfter self.old.folder.reads.items path.now (S.changes self.old.folder.system)
             (S.changes self.new.folder.system) (S.holds self.old.folder.system) (S.holds self.new.folder.system) }
@@ -302,6 +332,8 @@ impl<S: DiskSystem + Drop> Store for DiskStore<S> {
         ensures noted { self.old.folder.unsynced.syncs ≡ Syncs.Kept
             → HaveNoted self.new.folder.unsynced writes.now (S.changes self.old.folder.system)
             (S.changes self.new.folder.system) }
+        ensures syncs { self.new.folder.unsynced.syncs ≡ self.old.folder.unsynced.syncs }
+        ensures stay_noted { StayNoted self.old.folder.unsynced self.new.folder.unsynced }
         // No path changes at which something else stands than was read there.
         ensures keeps_edits { LoseNoEdits self.old.folder.reads.items writes.now (S.changes self.old.folder.system)
             (S.changes self.new.folder.system) }
@@ -326,8 +358,19 @@ impl<S: DiskSystem + Drop> Store for DiskStore<S> {
             → S.changes self.new.folder.system ≡ S.changes self.old.folder.system }
         // Each folder that is noted, and there, was synced since the barrier began, if it succeeds.
         ensures synced { self.old.folder.unsynced.syncs ≡ Syncs.Kept → S.honest self.new.folder.system
-            → IfOk result (λ _. AreSynced self.old.folder.unsynced (S.folders self.new.folder.system)
+            → IfOk result (λ _. AreSynced (IsNoted self.old.folder.unsynced) (S.folders self.new.folder.system)
             (S.holds self.new.folder.system) (S.synced self.old.folder.system) (S.synced self.new.folder.system)) }
+        // So was the folder above the path of each change.
+        ensures above { self.old.folder.unsynced.syncs ≡ Syncs.Kept → S.honest self.new.folder.system
+            → IfOk result (λ _. AreAbove (IsSyncedAt (S.folders self.new.folder.system)
+            (S.holds self.new.folder.system) (S.synced self.old.folder.system) (S.synced self.new.folder.system))
+            changes.now (length changes.now)) }
+        ensures syncs { self.new.folder.unsynced.syncs ≡ self.old.folder.unsynced.syncs }
+        // What a barrier that fails was to sync is left to the next one.
+        ensures kept { OnErr result (StayNoted self.old.folder.unsynced self.new.folder.unsynced) }
+        // Once a sync has failed, no barrier is believed.
+        ensures failed { (obstacle : IoReason) → self.old.folder.unsynced.syncs ≡ Syncs.Kept
+            → self.old.folder.unsynced.failed ≡ Some obstacle → IsErr result }
     {
         let answer = self.folder.sync(alloc, changes, self.rolled_back);
         self.failure

@@ -2,10 +2,10 @@
 //! anew, unless that is allowed. A call is held before its first put if it has read such a file, or
 //! asked for one whose name is too long, so that it can be looked at, before it begins, whether it
 //! would write that file.
-ghost use Rattle.std.specs.Prelude.{◌≡◌, ◌↔◌, IsErr, IfErr, true};
+ghost use Rattle.std.specs.Prelude.{◌≡◌, ◌↔◌, IsErr, IfErr, IfOk, true};
 ghost use Rattle.reuse_system.specs.Ignored.{begins_journal};
 ghost use Rattle.reuse_system.specs.Owners.{cannot_keep, rights_of_mode};
-ghost use Rattle.reuse_folder.specs.OwnerChanges.{is_lost, may_write, owner_for};
+ghost use Rattle.reuse_folder.specs.OwnerChanges.{is_lost, may_write, owner_for, MayReplace};
 ghost use Rattle.reuse_system.specs.Names.{between_slashes};
 ghost use Rattle.reuse_system.specs.declared.fault.FolderFault.TheVariants.{Device};
 ghost use Rattle.reuse_system.specs.declared.fault.IoReason.TheVariants.{Owned};
@@ -115,7 +115,10 @@ impl OwnershipPolicy {
     }
 
     /// Fails before the first put of a call that is to be held.
-    pub fn check_guard(&mut self) -> Result<(), FolderFault> {
+    pub fn check_guard(&mut self) -> Result<(), FolderFault>
+        ensures process { self.new.process ≡ self.old.process }
+        ensures owner_change { self.new.owner_change ≡ self.old.owner_change }
+    {
         if matches!(self.guard, PutGuard::Due | PutGuard::Held) {
             self.guard = PutGuard::Held;
             return Err(FolderFault::Device(IoReason::Owned));
@@ -129,6 +132,7 @@ impl OwnershipPolicy {
         ensures refused { IsErr result ↔ (is_lost (begins_journal (between_slashes path.now)) self.now.owner_change
             (cannot_keep self.now.process status.owner (rights_of_mode status.mode)) ≡ true) }
         ensures fault { IfErr result (λ fault. fault ≡ Device Owned) }
+        ensures may { IfOk result (λ _. MayReplace self.now path.now status) }
     {
         if is_in_journal(path) || self.may_write(status) {
             Ok(())

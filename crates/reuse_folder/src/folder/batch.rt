@@ -126,6 +126,8 @@ impl<S: DiskSystem + Drop> RootFolder<S> {
         // The folder above each path that got or lost a file is noted for the next barrier.
         ensures noted { self.old.unsynced.syncs ≡ Kept
             → HaveNoted self.new.unsynced writes.now (S.changes self.old.system) (S.changes self.new.system) }
+        ensures syncs { self.new.unsynced.syncs ≡ self.old.unsynced.syncs }
+        ensures stay_noted { StayNoted self.old.unsynced self.new.unsynced }
         // No path changes at which something else stands than was read there.
         ensures keeps_edits { LoseNoEdits self.old.reads.items writes.now (S.changes self.old.system)
             (S.changes self.new.system) }

@@ -5,6 +5,7 @@ ghost use Rattle.std.specs.Prelude.{MatchResult, length};
 ghost use Rattle.reuse_system.specs.TempFiles.{key_of};
 ghost use Rattle.reuse_system.specs.SystemLaws.{IsAlikeButFile, IsAlikeUnless};
 ghost use Rattle.reuse_system.specs.declared.place.Identity.{Identity};
+ghost use Rattle.reuse_disk.specs.Noted.{StayNoted};
 ghost use Rattle.reuse_disk.specs.Written.{is_kept, IsSyncedIf};
 ghost use Rattle.reuse_folder.specs.Barriers.{HasNoted, IsNotedAbove, NamesKnown};
 ghost use Rattle.reuse_folder.specs.Batches.{disk_of};
@@ -69,7 +70,7 @@ impl<S: DiskSystem + Drop> RootFolder<S> {
             × IsAlikeUnless (IsNumbered new_files (length temp_files.now)) (S.holds self.old.system)
             (S.holds self.new.system) }
         ensures syncs { self.new.unsynced.syncs ≡ self.old.unsynced.syncs }
-        ensures folders { self.new.unsynced.folders ≡ self.old.unsynced.folders }
+        ensures stay_noted { StayNoted self.old.unsynced self.new.unsynced }
         ensures still { S.folders self.new.system ≡ S.folders self.old.system }
         ensures earlier { S.honest self.new.system → S.honest self.old.system }
         ensures changes { S.changes self.new.system ≡ S.changes self.old.system }
@@ -89,7 +90,7 @@ impl<S: DiskSystem + Drop> RootFolder<S> {
             (S.holds self.old.system) (S.holds self.new.system)) (λ _. IsAlikeButFile (key_of temp_file.now)
             (S.holds self.old.system) (S.holds self.new.system)) }
         ensures syncs { self.new.unsynced.syncs ≡ self.old.unsynced.syncs }
-        ensures folders { self.new.unsynced.folders ≡ self.old.unsynced.folders }
+        ensures stay_noted { StayNoted self.old.unsynced self.new.unsynced }
         ensures still { S.folders self.new.system ≡ S.folders self.old.system }
         ensures earlier { S.honest self.new.system → S.honest self.old.system }
         ensures changes { S.changes self.new.system ≡ S.changes self.old.system }
@@ -145,7 +146,7 @@ impl<S: DiskSystem + Drop> RootFolder<S> {
             → IsNamed new_file.old.folder.identity count (is_kept self.old.unsynced.syncs) number write.now new.now
             (disk_of S.System self.old.system) (disk_of S.System self.new.system) (is_ok result) }
         ensures syncs { self.new.unsynced.syncs ≡ self.old.unsynced.syncs }
-        ensures folders { self.new.unsynced.folders ≡ self.old.unsynced.folders }
+        ensures stay_noted { StayNoted self.old.unsynced self.new.unsynced }
         ensures noted { (reads : List ReadPath) → IsKnownTempFile reads write.now.path.now new.now
             → IsNotedAbove self.old.unsynced write.now.path.now
             → HasNoted self.new.unsynced write.now.path.now (S.changes self.old.system) (S.changes self.new.system) }

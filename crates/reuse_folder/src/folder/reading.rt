@@ -36,6 +36,7 @@ impl<S: DiskSystem + Drop> RootFolder<S> {
         ensures within { IfOk result (IsWithin limit) }
         ensures ignored { IsTrue (is_ignored path.now) → IfOk result (λ reading. reading ≡ Reading.Absent) }
         ensures reads { ReadsOnly S.System self.old.system self.new.system }
+        ensures unsynced { self.new.unsynced ≡ self.old.unsynced }
         // Of a file that is remembered the bytes aren't read again.
         ensures read { S.honest self.new.system → self.old.remembered.files.items ≡ []
             → IfOk result (IsReadAt (S.folders self.new.system) (S.holds self.new.system) path.now limit) }
@@ -61,6 +62,7 @@ impl<S: DiskSystem + Drop> RootFolder<S> {
     ) -> Result<Option<FileStatus>, FolderFault>
         ensures ignored { IsTrue (is_ignored path.now) → IfOk result (λ seen. seen ≡ None) }
         ensures reads { ReadsOnly S.System self.old.system self.new.system }
+        ensures unsynced { self.new.unsynced ≡ self.old.unsynced }
         ensures remembered { IfOk result
             (λ seen. IfSome seen (λ _. self.new.remembered ≡ self.old.remembered)) }
         ensures found { S.honest self.new.system
@@ -90,6 +92,7 @@ impl<S: DiskSystem + Drop> RootFolder<S> {
     ) -> Result<Reading, FolderFault>
         ensures within { IfOk result (IsWithin limit) }
         ensures reads { ReadsOnly S.System self.old.system self.new.system }
+        ensures unsynced { self.new.unsynced ≡ self.old.unsynced }
         ensures read { S.honest self.new.system → self.old.remembered.files.items ≡ []
             → IfOk result (IsReadWith foreign (S.folders self.new.system) (S.holds self.new.system) path.now limit) }
     {
@@ -113,6 +116,7 @@ impl<S: DiskSystem + Drop> RootFolder<S> {
     ) -> Result<Reading, FolderFault>
         ensures within { (limit : ℕ) → IsWithin limit reading → IfOk result (IsWithin limit) }
         ensures reads { ReadsOnly S.System self.old.system self.new.system }
+        ensures unsynced { self.new.unsynced ≡ self.old.unsynced }
         ensures reported { S.honest self.new.system
             → IfOk result (λ reported. (reported ≡ reading) ⊎ ((reported ≡ Reading.TooLong)
             × IsPlaceAt (S.folders self.new.system) (S.holds self.new.system) path.now
@@ -133,6 +137,7 @@ impl<S: DiskSystem + Drop> RootFolder<S> {
         limit: usize,
     ) -> Option<Bytes>
         ensures system { self.new.system ≡ self.old.system }
+        ensures unsynced { self.new.unsynced ≡ self.old.unsynced }
         ensures open_folders { self.new.open_folders ≡ self.old.open_folders }
         ensures within { IfSome result (λ bytes. length bytes ≤ limit) }
         ensures none { self.old.remembered.files.items ≡ [] → result ≡ None }
@@ -159,6 +164,7 @@ impl<S: DiskSystem + Drop> RootFolder<S> {
     ) -> Result<Reading, FolderFault>
         ensures within { IfOk result (IsWithin limit) }
         ensures reads { ReadsOnly S.System self.old.system self.new.system }
+        ensures unsynced { self.new.unsynced ≡ self.old.unsynced }
         ensures read { S.honest self.new.system
             → LiesIn (S.folders self.old.system) path.now (current_of self.old.open_folders) (Place.File status)
             → IsPlaceAt (S.folders self.old.system) (S.holds self.old.system) path.now
@@ -181,6 +187,7 @@ impl<S: DiskSystem + Drop> RootFolder<S> {
     ) -> Result<Reading, FolderFault>
         ensures within { IfOk result (IsWithin limit) }
         ensures reads { ReadsOnly S.System self.old.system self.new.system }
+        ensures unsynced { self.new.unsynced ≡ self.old.unsynced }
         ensures read { S.honest self.new.system
             → IfOk result (IsReadAt (S.folders self.new.system) (S.holds self.new.system) path.now limit) }
         ensures noted { IfOk result (λ _. IsNoted self.new.reads.items path.now) }
@@ -205,6 +212,7 @@ impl<S: DiskSystem + Drop> RootFolder<S> {
     ) -> Result<Option<Reading>, FolderFault>
         ensures within { IfOk result (λ read. IfSome read (IsWithin limit)) }
         ensures reads { ReadsOnly S.System self.old.system self.new.system }
+        ensures unsynced { self.new.unsynced ≡ self.old.unsynced }
         ensures open_folders { self.new.open_folders ≡ self.old.open_folders }
         ensures read { S.honest self.new.system
             → IsPlaceAt (S.folders self.old.system) (S.holds self.old.system) path.now
@@ -236,6 +244,7 @@ impl<S: DiskSystem + Drop> RootFolder<S> {
         reading: &Reading,
     ) -> Result<(), AllocError>
         ensures system { self.new.system ≡ self.old.system }
+        ensures unsynced { self.new.unsynced ≡ self.old.unsynced }
         ensures open_folders { self.new.open_folders ≡ self.old.open_folders }
         ensures noted { IfOk result (λ _. IsNoted self.new.reads.items path.now) }
     {
@@ -248,6 +257,7 @@ impl<S: DiskSystem + Drop> RootFolder<S> {
     /// Forgets the older half of the paths that were read, if there are too many.
     fn forget_older_reads(&mut self)
         ensures system { self.new.system ≡ self.old.system }
+        ensures unsynced { self.new.unsynced ≡ self.old.unsynced }
         ensures open_folders { self.new.open_folders ≡ self.old.open_folders }
     {
         if self.reads.len() >= MOST_SEEN {
@@ -265,6 +275,7 @@ impl<S: DiskSystem + Drop> RootFolder<S> {
         seen: Option<FileStatus>,
     ) -> Result<(), AllocError>
         ensures system { self.new.system ≡ self.old.system }
+        ensures unsynced { self.new.unsynced ≡ self.old.unsynced }
         ensures open_folders { self.new.open_folders ≡ self.old.open_folders }
         ensures seen { IfOk result (λ _. IsSeenBefore self.new.reads.items path.now (expected_of seen)) }
         ensures noted { IfOk result (λ _. IsNoted self.new.reads.items path.now) }

@@ -1,6 +1,6 @@
 //! Putting and removing a file. What a put makes of the names is stated by what each call of the
 //! system makes of them, whatever was there.
-ghost use Rattle.std.specs.Prelude.{◌≡◌, is_ok, IfOk, IsErr, IsTrue, None};
+ghost use Rattle.std.specs.Prelude.{◌≡◌, ◌⊎◌, is_ok, IfOk, IfSome, IsErr, IsTrue, None};
 ghost use Rattle.reuse_system.specs.declared.place.Identity.{Identity};
 ghost use Rattle.reuse_system.specs.Ignored.{is_ignored};
 
@@ -19,7 +19,8 @@ impl<S: DiskSystem + Drop> RootFolder<S> {
     ghost use Rattle.reuse_folder.specs.FolderWrites.{IsPutTidily, IsStoredAt};
     ghost use Rattle.reuse_disk.specs.Noted.{StayNoted};
     ghost use Rattle.reuse_disk.specs.Written.{is_kept, LeavesNone};
-    ghost use Rattle.reuse_folder.specs.Barriers.{HasNoted};
+    ghost use Rattle.reuse_folder.specs.Barriers.{HasNoted, IsNotedAbove};
+    ghost use Rattle.reuse_folder.specs.OwnerChanges.{MayReplace};
     ghost use Rattle.reuse_system.specs.declared.syncs.Syncs.TheVariants.{Kept};
     ghost use Rattle.reuse_folder.specs.Seen.{IsSeenAs, IsSeenBefore, LosesNoEdit, LosesNoEditAfter};
     ghost use Rattle.reuse_change.specs.Parts.{joined};
@@ -51,6 +52,8 @@ impl<S: DiskSystem + Drop> RootFolder<S> {
         // The folder above the path is noted for the next barrier, if that got or lost a file.
         ensures noted { self.old.unsynced.syncs ≡ Kept
             → HasNoted self.new.unsynced path.now (S.changes self.old.system) (S.changes self.new.system) }
+        ensures syncs { self.new.unsynced.syncs ≡ self.old.unsynced.syncs }
+        ensures stay_noted { StayNoted self.old.unsynced self.new.unsynced }
         ensures earlier { S.honest self.new.system → S.honest self.old.system }
         ensures ignored { IsTrue (is_ignored path.now) → IsErr result }
         // The file at the path stays if it isn't what was read there.
@@ -77,6 +80,8 @@ impl<S: DiskSystem + Drop> RootFolder<S> {
         ensures stay_noted { StayNoted self.old.unsynced self.new.unsynced }
         ensures ignored { IsTrue (is_ignored path.now) → IsErr result }
         ensures seen { IfOk result (IsSeenAs expected) }
+        // A file that can't keep its owner stays, unless that may change.
+        ensures may { IfOk result (λ found. IfSome found (MayReplace self.old.ownership path.now)) }
     {
         let (folder, _) = folder_and_name(path.text());
         self.ownership.check_guard()?;
@@ -88,8 +93,9 @@ impl<S: DiskSystem + Drop> RootFolder<S> {
                 Ok(None)
             }
             Place::File(status) => {
-                self.ownership.check(path.text(), status)?;
-                Ok(Some(expected.file(status)?))
+                let seen = expected.file(status)?;
+                self.ownership.check(path.text(), seen)?;
+                Ok(Some(seen))
             }
             Place::BelowFile => Err(FolderFault::Clash),
             Place::Folder => {
@@ -115,6 +121,8 @@ impl<S: DiskSystem + Drop> RootFolder<S> {
         // The folder above the path is noted for the next barrier, if that got or lost a file.
         ensures noted { self.old.unsynced.syncs ≡ Kept
             → HasNoted self.new.unsynced path.now (S.changes self.old.system) (S.changes self.new.system) }
+        ensures syncs { self.new.unsynced.syncs ≡ self.old.unsynced.syncs }
+        ensures stay_noted { StayNoted self.old.unsynced self.new.unsynced }
         ensures place { S.honest self.new.system
             → IsPutTidily (S.folders self.new.system) path.now (joined parts.entry) (is_kept self.old.unsynced.syncs)
             (S.holds self.old.system) (S.holds self.new.system) (is_ok result) }
@@ -200,6 +208,9 @@ impl<S: DiskSystem + Drop> RootFolder<S> {
         ensures earlier { S.honest self.new.system → S.honest self.old.system }
         ensures syncs { self.new.unsynced.syncs ≡ self.old.unsynced.syncs }
         ensures stay_noted { StayNoted self.old.unsynced self.new.unsynced }
+        // The folder above the path is noted for the next barrier, if a folder is removed.
+        ensures noted { self.old.unsynced.syncs ≡ Kept
+            → (S.folders self.new.system ≡ S.folders self.old.system) ⊎ IsNotedAbove self.new.unsynced path.now }
     {
         let (system, open_folders) = (&mut self.system, &mut self.open_folders);
         let files = list_below(system, alloc, open_folders, path.text(), &mut self.listed)?;
@@ -222,6 +233,8 @@ impl<S: DiskSystem + Drop> RootFolder<S> {
         // The folder above the path is noted for the next barrier, if that got or lost a file.
         ensures noted { self.old.unsynced.syncs ≡ Kept
             → HasNoted self.new.unsynced path.now (S.changes self.old.system) (S.changes self.new.system) }
+        ensures syncs { self.new.unsynced.syncs ≡ self.old.unsynced.syncs }
+        ensures stay_noted { StayNoted self.old.unsynced self.new.unsynced }
         // The file at the path stays if it isn't what was read there.
         ensures keeps_edits { LosesNoEditAfter self.old.reads.items path.now (S.changes self.old.system)
             (S.changes self.new.system) (S.holds self.old.system) (S.holds self.new.system) }

@@ -54,6 +54,8 @@ loop-folder-preserved g c =
           subst (IsSyncedSince first (s.synced after)) (sym is)
           (since_now first (s.synced before) (s.synced after) one synced was.2))),
       (λ honest. was.5 (early honest)),
+      (λ note has. c.set_last.ensures.noted note (was.6 note has)),
+      c.set_last.ensures.syncs ∙ was.7,
     )
 
 pub returns-clause-synced : goal.returns-clause-synced

@@ -1,6 +1,7 @@
 use Rattle.std.proofs.Common.{◌≡◌, ◌++◌, map, string_bytes}
 use Rattle.std.specs.Map.Iter.{deref}
 use Rattle.reuse_disk.proofs.SyncLemmas.{EachText, IsGrownBy, IsSyncedThere}
+use Rattle.reuse_disk.specs.Noted.{StayNoted}
 use Rattle.reuse_disk.specs.OpenFolders.{AreOpenedIf}
 use Rattle.reuse_disk.specs.ReadsOnly.{EntersOnly}
 use Rattle.reuse_disk.proofs.syncs.Unsynced.sync_all.Given as goal
@@ -15,4 +16,6 @@ invariant-loop-folder g l =
     (AreOpenedIf (s.honest l.fn.system) (s.folders l.fn.system) l.fn.open_folders → s.honest l.system
     → EachText (λ key. string_bytes (deref key)) (IsSyncedThere (s.folders l.system) (s.synced l.fn.system)
     (s.synced l.system)) l.yielded) ×
-    (s.honest l.system → s.honest l.initial.system)
+    (s.honest l.system → s.honest l.initial.system) ×
+    StayNoted l.fn.self l.self ×
+    (l.self.syncs ≡ l.fn.self.syncs)

@@ -4,7 +4,7 @@ use Rattle.reuse_folder.specs.Rounds.{AreTempFile, AreNamed}
 use Rattle.reuse_folder.proofs.BatchLemmas.{none_made}
 use Rattle.reuse_folder.proofs.RoundEnds.{alike_then, all_new, temp_file_begins, named_behind, numbered_alike}
 use Rattle.reuse_folder.proofs.SeenLemmas.{lose_none, lose_only, lose_then, new_at}
-use Rattle.reuse_folder.proofs.BarrierLemmas.{above_same, have_none, have_only, have_then}
+use Rattle.reuse_folder.proofs.BarrierLemmas.{above_all_later, have_none, have_only, have_then}
 use Rattle.reuse_folder.specs.Batches.{disk_of}
 use Rattle.reuse_folder.specs.Seen.{AreKnown}
 use Rattle.reuse_folder.specs.declared.folder.seen.ReadPath.{ReadPath}
@@ -55,7 +55,7 @@ returns-in-Err-clause-names g c =
     c.remove_all.ensures.changes (λ k one short. new_at reads writes c.args.temp_files.now k one known short) in
     record {
       syncs = c.sync_all.ensures.syncs;
-      folders = c.sync_all.ensures.folders;
+      stays = c.sync_all.ensures.stay_noted;
       noted = λ reads known above.
           have_then unsynced writes _ b d (have_none unsynced writes _ b c.sync_all.ensures.changes)
           (have_only unsynced writes b d (only reads known));
@@ -70,10 +70,10 @@ returns-clause-names g c =
     let names = c.name_each.ensures.names in
     record {
       syncs = names.syncs ∙ c.sync_all.ensures.syncs;
-      folders = names.folders ∙ c.sync_all.ensures.folders;
+      stays = λ note has. names.stays note (c.sync_all.ensures.stay_noted note has);
       noted = λ reads known above. rw c.sync_all.ensures.changes at (names.noted reads known
-          (λ k write short at. above_same c.args.self.now.unsynced c.sync_all.new.self.unsynced write.path.now
-          c.sync_all.ensures.folders (above k write short at)));
+          (above_all_later c.args.self.now.unsynced c.sync_all.new.self.unsynced c.args.writes.now _
+          c.sync_all.ensures.stay_noted above));
       keeps_edits = λ reads known. rw c.sync_all.ensures.changes at (names.keeps_edits reads known);
       earlier = λ honest. c.sync_all.ensures.earlier (names.earlier honest);
     }

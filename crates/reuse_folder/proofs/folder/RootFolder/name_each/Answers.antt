@@ -12,7 +12,7 @@ use Rattle.reuse_folder.proofs.NamedLemmas.{gone_more}
 use Rattle.reuse_folder.proofs.RoundEnds.{new_behind}
 use Rattle.reuse_folder.proofs.SeenLemmas.{known_here, lose_at, lose_only, lose_then}
 use Rattle.reuse_folder.proofs.SeenLemmas.{new_behind as known_behind}
-use Rattle.reuse_folder.proofs.BarrierLemmas.{above_same, have_more, have_only, have_then}
+use Rattle.reuse_folder.proofs.BarrierLemmas.{above_later, have_more, have_only, have_then}
 use Rattle.reuse_folder.proofs.folder.RootFolder.name_each.Given.{Over}
 use Rattle.reuse_folder.proofs.folder.RootFolder.name_each.Goals.{After-name_one}
 use Rattle.reuse_folder.proofs.folder.RootFolder.name_each.Goals as goal
@@ -61,9 +61,9 @@ module _ (g : Over) (c : After-name_one g) where
         let old = c.loop-made.self.unsynced in
         have_more old c.name_one.new.self.unsynced c.args.writes.now c.loop-made.made write _
         (g.S.System.changes c.loop-made.self.system) _ c.loop-made-test.true c.index-writes-made.is
-        c.name_one.ensures.folders (c.loop-made.invariant.names.noted reads known above)
+        c.name_one.ensures.stay_noted (c.loop-made.invariant.names.noted reads known above)
         (c.name_one.ensures.noted reads here
-        (above_same c.args.self.now.unsynced old write.path.now c.loop-made.invariant.names.folders
+        (above_later c.args.self.now.unsynced old write.path.now c.loop-made.invariant.names.stays
         (above c.loop-made.made write c.in-Some.ensures.lookup.3.0 c.index-writes-made.is)))
 
 names_so_far : (g : Over) (c : After-name_one g) → NamesKnown g.S.System c.args.self.now.system
@@ -72,7 +72,7 @@ names_so_far : (g : Over) (c : After-name_one g) → NamesKnown g.S.System c.arg
 names_so_far g c =
     record {
       syncs = c.name_one.ensures.syncs ∙ c.loop-made.invariant.names.syncs;
-      folders = c.name_one.ensures.folders ∙ c.loop-made.invariant.names.folders;
+      stays = λ note has. c.name_one.ensures.stay_noted note (c.loop-made.invariant.names.stays note has);
       noted = noted_so_far g c;
       keeps_edits = lose_so_far g c;
       earlier = λ honest. c.loop-made.invariant.names.earlier (c.name_one.ensures.earlier honest);
@@ -146,7 +146,7 @@ returns-in-Err-clause-names g c =
     c.remove_all.ensures.changes (known_behind reads writes c.args.temp_files.now c.loop-made.made known) in
     record {
       syncs = so_far.syncs;
-      folders = so_far.folders;
+      stays = so_far.stays;
       noted = λ reads known above.
           have_then new writes _ d e (so_far.noted reads known above) (have_only new writes d e (only reads known));
       keeps_edits = λ reads known.

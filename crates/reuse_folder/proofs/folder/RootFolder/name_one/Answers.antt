@@ -20,7 +20,7 @@ use Rattle.reuse_folder.proofs.Disks.{disk_with}
 use Rattle.reuse_folder.proofs.PutLemmas.{above_here}
 use Rattle.reuse_folder.proofs.EditLemmas.{owner_kept}
 use Rattle.reuse_folder.proofs.SeenLemmas.{lose_beside, lose_named, lose_none, lose_only, lose_then}
-use Rattle.reuse_folder.proofs.BarrierLemmas.{above_same, guarded_noted, has_later, has_none, has_only, has_then}
+use Rattle.reuse_folder.proofs.BarrierLemmas.{above_later, guarded_noted, has_later, has_none, has_only, has_then}
 use Rattle.reuse_folder.proofs.folder.RootFolder.name_one.Given.{Over}
 use Rattle.reuse_folder.proofs.folder.RootFolder.name_one.Goals.{After-discard, After-name_temp_file}
 use Rattle.reuse_folder.proofs.folder.RootFolder.name_one.Goals as goal
@@ -287,9 +287,9 @@ returns-clause-noted g c reads known above =
     let e = s.changes c.discard.new.self in
     let f = s.changes c.write_beside.new.system in
     has_then last path _ e f
-    (has_later unsynced last path _ e c.write_beside.ensures.folders (noted_discarded g at.After-discard reads known
+    (has_later unsynced last path _ e c.write_beside.ensures.noted (noted_discarded g at.After-discard reads known
     (noted_naming g at.After-name_temp_file reads known above)))
     (guarded_noted last path c.folder_and_name.result.1.now folder
     (IsNewPlace c.args.new_file.now.folder.identity folder) _ e f _ _
-    (above_same unsynced last path c.write_beside.ensures.folders above) (named g at.After-name_temp_file)
+    (above_later unsynced last path c.write_beside.ensures.noted above) (named g at.After-name_temp_file)
     (λ place is. (c.args.new_file.now.folder.identity, folder, is)) c.write_beside.ensures.guarded)

@@ -12,7 +12,7 @@ use Rattle.reuse_system.specs.FileStates.{place_in}
 use Rattle.reuse_disk.specs.Written.{LeavesNone}
 use Rattle.reuse_folder.proofs.PutLemmas.{none_by_removal}
 use Rattle.reuse_system.specs.Names.{IsSplit}
-use Rattle.reuse_disk.specs.Noted.{IsNoted}
+use Rattle.reuse_disk.specs.Noted.{Has}
 use Rattle.reuse_folder.proofs.BarrierLemmas.{above_of, has_none, has_noted}
 use Rattle.reuse_folder.proofs.folder.RootFolder.remove_expected.Given.{Over}
 use Rattle.reuse_folder.proofs.folder.RootFolder.remove_expected.Goals.{After-look_unless_seen, After-remove_seen}
@@ -131,8 +131,8 @@ returns-in_default g c =
           (λ at any. inl (ap (λ f. f at) c.look_unless_seen.ensures.reads.kept));
       earlier = c.look_unless_seen.ensures.reads.earlier;
       syncs = ap (λ unsynced. unsynced.syncs) c.look_unless_seen.ensures.unsynced;
-      stay_noted = λ folder noted.
-          subst (λ unsynced. IsNoted unsynced folder) (sym c.look_unless_seen.ensures.unsynced) noted;
+      stay_noted = λ note has.
+          subst (λ unsynced. Has unsynced note) (sym c.look_unless_seen.ensures.unsynced) has;
       noted = λ kept. has_none _ path _ _ c.look_unless_seen.ensures.reads.changes;
       new_file = c.look_unless_seen.ensures.new_file;
       keeps_edits = lose_nothing g (goal.at.returns-in_default g c).After-look_unless_seen;
@@ -156,5 +156,6 @@ returns-in_ok-current-in-File-clause-noted g c kept =
     let noted =
     c.in_ok-note-in-File.ensures.noted (ap (λ unsynced. unsynced.syncs) c.look_unless_seen.ensures.unsynced ∙ kept)
     in
-    has_noted _ path c.args.expected _ _ _ _ (above_of _ path above name split noted)
+    let unsynced = c.note.new.self in
+    has_noted unsynced path c.args.expected _ _ _ _ (above_of unsynced path above name split (inl noted))
     (returns-in_ok-current-in-File-clause-keeps_edits g c)

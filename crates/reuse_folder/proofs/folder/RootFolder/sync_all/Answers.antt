@@ -53,7 +53,7 @@ loop-at-preserved g c =
                 (stands g (goal.at.loop-at-preserved g c).After-sync_temp_file new_files few apart temp_file)),
           );
       syncs = c.sync_temp_file.ensures.syncs ∙ c.loop-at.invariant.syncs;
-      folders = c.sync_temp_file.ensures.folders ∙ c.loop-at.invariant.folders;
+      stays = λ note has. c.sync_temp_file.ensures.stay_noted note (c.loop-at.invariant.stays note has);
       still = c.sync_temp_file.ensures.still ∙ c.loop-at.invariant.still;
       earlier = λ honest. c.loop-at.invariant.earlier (c.sync_temp_file.ensures.earlier honest);
       changes = c.sync_temp_file.ensures.changes ∙ c.loop-at.invariant.changes;

@@ -1,6 +1,7 @@
 use Rattle.std.proofs.Common.{◌≡◌, ◌≤◌, false, length}
 use Rattle.reuse_system.specs.SystemLaws.{IsAlikeUnless}
 use Rattle.reuse_system.specs.declared.place.Identity.{Identity}
+use Rattle.reuse_disk.specs.Noted.{StayNoted}
 use Rattle.reuse_disk.specs.Written.{is_kept}
 use Rattle.reuse_folder.specs.Rounds.{AreApart, AreTempFile, IsNumbered}
 use Rattle.reuse_folder.proofs.RoundLemmas.{AreSynced}
@@ -18,7 +19,7 @@ invariant-loop-at g l =
           → AreSynced new_files (is_kept l.fn.self.unsynced.syncs) (s.holds now) l.at l.writes l.temp_files
           × IsAlikeUnless (IsNumbered new_files (length l.temp_files)) (s.holds first) (s.holds now);
       syncs : l.self.unsynced.syncs ≡ l.fn.self.unsynced.syncs;
-      folders : l.self.unsynced.folders ≡ l.fn.self.unsynced.folders;
+      stays : StayNoted l.fn.self.unsynced l.self.unsynced;
       still : s.folders now ≡ s.folders first;
       earlier : s.honest now → s.honest first;
       changes : s.changes now ≡ s.changes first;

@@ -1,4 +1,4 @@
-use Rattle.std.proofs.Common.{rules, ◌≡◌, Bool, false, true, is_ok, refl, subst, sym}
+use Rattle.std.proofs.Common.{rules, ◌≡◌, inl, Bool, false, is_ok, refl, subst, sym}
 use Rattle.reuse_change.specs.Parts.{joined}
 use Rattle.reuse_system.specs.TempFiles.{IsNewIn, IsNewPlace}
 use Rattle.reuse_system.specs.FileStates.{place_in}
@@ -12,8 +12,8 @@ use Rattle.reuse_folder.specs.FolderWrites.{IsPutBy, IsPutTidily}
 use Rattle.reuse_folder.proofs.PutLemmas.{not_put_by, not_put_in, nothing_put_by, nothing_put_in, of_ok, put_by, put_in}
 use Rattle.reuse_folder.proofs.ReadLemmas.{named_of}
 use Rattle.reuse_folder.proofs.EditLemmas.{loses_none, loses_only, loses_put, owner_kept}
-use Rattle.std.specs.BTreeSet.{contains_text}
 use Rattle.reuse_disk.specs.Noted.{IsNoted}
+use Rattle.reuse_disk.specs.Noted.Note.{Folder}
 use Rattle.reuse_folder.specs.declared.folder.seen.Expected.TheVariants as expected
 use Rattle.reuse_folder.proofs.BarrierLemmas.{above_of, has_noted, has_only, new_only}
 use Rattle.reuse_folder.proofs.folder.RootFolder.write.Given.{Over}
@@ -226,10 +226,9 @@ returns-clause-noted g c kept =
     let above = c.folder_and_name.result.0.now in
     let name = c.folder_and_name.result.1.now in
     let split : IsSplit path above name = search rules in
-    let first = c.in_ok-note.ensures.noted kept in
-    let second = c.take_new_file.ensures.stay_noted above first in
-    let last : IsNoted c.write-written.new.unsynced above =
-    subst (λ folders. contains_text folders above ≡ true) (sym c.write-written.ensures.folders) second in
+    let first : IsNoted c.note.new.self above = inl (c.in_ok-note.ensures.noted kept) in
+    let last = c.write-written.ensures.noted (Folder above) (c.take_new_file.ensures.stay_noted (Folder above) first) in
     let loses = returns-clause-keeps_edits g c expected.Found tt in
+    let unsynced = c.write-written.new.unsynced in
     rw c.note_written.ensures.unsynced
-    (has_noted _ path expected.Found _ _ _ _ (above_of _ path above name split last) loses)
+    (has_noted unsynced path expected.Found _ _ _ _ (above_of unsynced path above name split last) loses)

@@ -54,6 +54,7 @@ loop-made-preserved g c =
       few = more;
       reads = c.write_some.ensures.reads ∙ so_far.reads;
       syncs = c.write_some.ensures.syncs ∙ so_far.syncs;
+      stays = λ note has. c.write_some.ensures.stay_noted note (so_far.stays note has);
       earlier = λ honest. so_far.earlier (c.write_some.ensures.earlier honest);
       made = λ honest new_files was.
           let writes = c.args.writes.now in

@@ -1,5 +1,6 @@
 use Rattle.std.proofs.Common.{◌≡◌, length, ◌-◌, ◌≤◌, true, take}
 use Rattle.reuse_system.specs.declared.place.Identity.{Identity}
+use Rattle.reuse_disk.specs.Noted.{StayNoted}
 use Rattle.reuse_disk.specs.Written.{is_kept}
 use Rattle.reuse_folder.specs.Batches.{disk_of, DisksAfter}
 use Rattle.reuse_system.specs.declared.syncs.Syncs.TheVariants.{Kept}
@@ -26,6 +27,7 @@ invariant-loop-made g l =
           × IsTidy new_files (s.holds first) (s.holds now) true;
       noted : l.fn.self.unsynced.syncs ≡ Kept
           → HaveNoted l.self.unsynced l.writes (s.changes first) (s.changes now);
+      stays : StayNoted l.fn.self.unsynced l.self.unsynced;
       keeps_edits : LoseNoEdits l.fn.self.reads.items l.writes (s.changes first) (s.changes now);
     }
 
