@@ -15,6 +15,7 @@ use crate::prefixes::Prefix;
 use crate::tags::{Years, parse_year};
 use crate::text_lists::Texts;
 use crate::trims::{trim_end_with, trim_start_with};
+use memchr::memmem;
 use reuse_text::Bytes;
 use std::alloc::{AllocError, Global};
 use std::error::Error;
@@ -179,12 +180,7 @@ fn has_control(text: &[u8]) -> bool
 pub fn has_part(text: &[u8], part: &[u8]) -> bool
     ensures { result ≡ holds part.now text.now }
 {
-    for i in 0..text.len() {
-        if text[i..].starts_with(part) {
-            return true;
-        }
-    }
-    part.is_empty()
+    memmem::find(text, part).is_some()
 }
 
 // The first licence outside the grammar, without its outer spaces, and the place.

@@ -8,8 +8,10 @@ ghost use Rattle.reuse_text.specs.Text.{IsText, TextLine, AreLines, text_of, lin
 ghost use Rattle.reuse_text.specs.Text.{kind_of, ending_bytes, file_lines, StandsIn, spliced};
 
 mod bytes;
+mod difference;
 
 pub use bytes::Bytes;
+pub use difference::{Difference, difference_of};
 use memchr::{memchr, memrchr};
 use simdutf8::is_utf8_baseline;
 use std::alloc::{AllocError, Global};
