@@ -1,48 +1,35 @@
 -- Notices that are written as an addition is are read so, and are amended to such.
-use Rattle.std.proofs.Common.{◌≡◌, ℕ, zero, suc, ◌+◌, ◌<◌, ◌≤◌, nat_eq, nat_lt, Bool, true, false, cond, List, [], ◌∷◌}
-use Rattle.std.proofs.Common.{◌++◌, length, take, drop, Option, Some, None, refl, sym, ap, subst, ◌∙◌, arith}
-use Rattle.std.proofs.Common.{append_assoc, inl, inr, ◌⊎◌}
-use Rattle.std.specs.Prelude.{not, ◌&&◌, ◌||◌, ◌==◌, codes, unwrap_or}
-use Rattle.std.specs.List.{starts_with, AllByRecursion}
+use Rattle.std.proofs.Common.{◌≡◌, ℕ, ◌≤◌, Bool, true, false, cond, List, [], ◌∷◌}
+use Rattle.std.proofs.Common.{◌++◌, length, drop, Option, Some, None, refl, sym, ap, subst, ◌∙◌, arith}
+use Rattle.std.proofs.Common.{append_assoc, inl, inr}
+use Rattle.std.specs.Prelude.{◌||◌, ◌==◌, codes}
 use Rattle.std.specs.Option.{option_map, option_map_or, option_and_then}
-use Rattle.std.specs.Str.{bytes_eq}
-use Rattle.std.proofs.lemmas.Bool.{false≢true, and_parts, eqb-true, eq-eqb, ltb-true, ne_eqb, cases_Bool as truth}
+use Rattle.std.proofs.lemmas.Bool.{eqb-true, cases_Bool as truth}
 use Rattle.std.proofs.lemmas.List.{append-nil}
-use Rattle.std.proofs.lemmas.Slice.Eq.{bytes_eq-Decides}
 use Rattle.std.proofs.Math.Seq.{drop-append_seam, drop-length}
 use Rattle.reuse_notice.specs.declared.prefixes.Prefix.{Prefix}
 use Rattle.reuse_notice.specs.declared.tags.Years.{Years}
 use Rattle.reuse_notice.specs.Prefixes.{prefix_text}
-use Rattle.reuse_notice.specs.Tags.{is_blank, all_blank, drop_front, drop_end, needs_no_space, year_of}
+use Rattle.reuse_notice.specs.Tags.{is_blank, drop_front, drop_end, needs_no_space}
 use Rattle.reuse_notice.specs.Adding.{four_digits, years_text, notice_written}
-use Rattle.reuse_notice.specs.MergeSteps.{is_among}
-use Rattle.reuse_notice.specs.Plain.{IsPlain}
 use Rattle.reuse_notice.proofs.BlankLemmas.{drop_front-nil, drop_end-nil, drop_end-twice}
-use Rattle.reuse_amend.specs.declared.amendments.Amendments.{Amendments}
-use Rattle.reuse_amend.specs.declared.replacements.Replacement.{Replacement}
-use Rattle.reuse_amend.specs.YearSpans.{SpanText, RunText, ends_word, upto, span_to, span_front, next_span, spans_of}
+use Rattle.reuse_amend.specs.YearSpans.{SpanText, RunText, upto, span_to, span_front, next_span}
 use Rattle.reuse_amend.specs.YearSpans.{run_of, run_front}
-use Rattle.reuse_amend.specs.NoticeParts.{Parts, parts_text, value_behind, wide_prefix_of, starts_blank, holder_behind}
+use Rattle.reuse_amend.specs.NoticeParts.{Parts, value_behind, holder_behind}
 use Rattle.reuse_amend.specs.NoticeParts.{leaves_holder, if_leaves_holder, tail_of, cut_years_first, cut_holder_first}
 use Rattle.reuse_amend.specs.NoticeParts.{parts_from, parts_behind, parts_of}
-use Rattle.reuse_amend.specs.Amending.{range_text, is_before, span_until, years_until, is_front, front_with}
-use Rattle.reuse_amend.specs.Amending.{if_concerned, text_replaced, text_amended, parts_amended, holder_amended}
-use Rattle.reuse_amend.specs.Amending.{notice_amended}
-use Rattle.reuse_amend.specs.InPlace.{reaching, years_reaching}
-use Rattle.reuse_amend.specs.Settled.{may_be_read_on, CanBeWritten, HasFourDigits, WritePlainTexts, ReadsAsAmended}
-use Rattle.reuse_amend.proofs.ChoiceLemmas.{not_some}
+use Rattle.reuse_amend.specs.Amending.{range_text}
+use Rattle.reuse_amend.specs.Settled.{CanBeWritten}
 use Rattle.reuse_amend.proofs.EndLemmas.{upto_is}
 use Rattle.reuse_amend.proofs.PartLemmas.{Anything, full_kept, full_some}
-use Rattle.reuse_amend.proofs.ShapeLemmas.{IsWhole, plain_whole}
+use Rattle.reuse_amend.proofs.ShapeLemmas.{IsWhole}
 use Rattle.reuse_amend.proofs.ReadAgainLemmas.{year_again}
-use Rattle.reuse_amend.proofs.WrittenLemmas.{chosen_short}
-use Rattle.reuse_amend.proofs.ShapedLemmas.{no_years}
 use Rattle.reuse_amend.proofs.AgainLemmas.{is_dated, IsApart, blanks_again}
 use Rattle.reuse_amend.proofs.SpanAgainLemmas.{first_digit, spanned, lone_again, range_front}
 use Rattle.reuse_amend.proofs.SpansLemmas.{spans_are}
 use Rattle.reuse_amend.proofs.AlikeLemmas.{IsBehind, wide_found, dated_behind, dated_value, plain_value, IsStill}
 use Rattle.reuse_amend.proofs.AlikeLemmas.{still_apart, still_last, still_behind, still_leaves}
-use Rattle.reuse_amend.proofs.AdditionLemmas.{added, added_text, IsClear, is_clear, no_run, tail_none}
+use Rattle.reuse_amend.proofs.AdditionLemmas.{added, IsClear, no_run, tail_none}
 
 -- ---- a notice without years
 

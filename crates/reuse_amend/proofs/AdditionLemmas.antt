@@ -1,45 +1,30 @@
 -- Notices that are written as an addition is are read so, and are amended to such.
-use Rattle.std.proofs.Common.{◌≡◌, ℕ, zero, suc, ◌+◌, ◌<◌, ◌≤◌, nat_eq, nat_lt, Bool, true, false, cond, List, [], ◌∷◌}
-use Rattle.std.proofs.Common.{◌++◌, length, take, drop, Option, Some, None, refl, sym, ap, subst, ◌∙◌, arith}
+use Rattle.std.proofs.Common.{◌≡◌, ℕ, zero, suc, nat_eq, Bool, true, false, cond, List, [], ◌∷◌}
+use Rattle.std.proofs.Common.{◌++◌, length, take, Option, Some, None, refl, sym, ap, ◌∙◌}
 use Rattle.std.proofs.Common.{append_assoc, inl, inr, ◌⊎◌}
-use Rattle.std.specs.Prelude.{not, ◌&&◌, ◌||◌, ◌==◌, codes, find, unwrap_or}
+use Rattle.std.specs.Prelude.{not, ◌&&◌, ◌||◌, ◌==◌, codes}
 use Rattle.std.specs.Char.{is_ascii_digit}
-use Rattle.std.specs.List.{starts_with, list_any, AllByRecursion}
-use Rattle.std.specs.Option.{option_map, option_map_or, option_and_then, option_or}
-use Rattle.std.specs.Str.{bytes_eq}
-use Rattle.std.proofs.lemmas.Bool.{false≢true, and_parts, or_parts, eqb-true, eq-eqb, ltb-true, ne_eqb}
-use Rattle.std.proofs.lemmas.Bool.{cases_Bool as truth}
+use Rattle.std.specs.List.{starts_with, list_any}
+use Rattle.std.specs.Option.{option_map_or, option_and_then}
+use Rattle.std.proofs.lemmas.Bool.{false≢true, or_parts, eqb-true}
 use Rattle.std.proofs.lemmas.List.{append-nil}
-use Rattle.std.proofs.lemmas.Slice.Eq.{bytes_eq-Decides}
-use Rattle.std.proofs.Math.Seq.{drop-append_seam}
 use Rattle.reuse_notice.specs.declared.prefixes.Prefix.{Prefix}
 use Rattle.reuse_notice.specs.declared.tags.Years.{Years}
 use Rattle.reuse_notice.specs.Prefixes.{prefix_text, copyright_sign}
-use Rattle.reuse_notice.specs.Tags.{is_blank, all_blank, drop_front, drop_end, needs_no_space, year_of}
-use Rattle.reuse_notice.specs.Adding.{four_digits, years_text, notice_written}
+use Rattle.reuse_notice.specs.Tags.{is_blank, drop_front}
+use Rattle.reuse_notice.specs.Adding.{years_text, notice_written}
 use Rattle.reuse_notice.proofs.PlainLemmas.{drop_front-kept}
-use Rattle.reuse_amend.specs.declared.amendments.Amendments.{Amendments}
-use Rattle.reuse_amend.specs.YearSpans.{SpanText, RunText, upto, span_from, span_front, next_span, spans_of, run_of}
+use Rattle.reuse_amend.specs.YearSpans.{span_from, span_front}
 use Rattle.reuse_amend.specs.YearSpans.{run_front}
-use Rattle.reuse_amend.specs.NoticeParts.{Parts, parts_text, unless_nil, past, past_sign, value_behind, wide_prefix_of}
-use Rattle.reuse_amend.specs.NoticeParts.{starts_blank, past_by, holder_behind, leaves_holder, if_leaves_holder}
+use Rattle.reuse_amend.specs.NoticeParts.{Parts, parts_text}
 use Rattle.reuse_amend.specs.NoticeParts.{is_no_comma, unless_blank, next_searched, years_tail, tail_of}
-use Rattle.reuse_amend.specs.NoticeParts.{cut_years_first, cut_holder_first, parts_from, parts_behind, parts_of}
-use Rattle.reuse_amend.specs.Amending.{range_text, is_before, span_until, years_until, is_front, front_with}
-use Rattle.reuse_amend.specs.Amending.{if_concerned, text_amended, parts_amended, holder_amended, notice_amended}
-use Rattle.reuse_amend.specs.InPlace.{goes_on, reaching, years_reaching}
-use Rattle.reuse_amend.specs.Settled.{may_be_misread, begins_digit, has_dated_comma, may_be_read_on, CanBeWritten}
-use Rattle.reuse_amend.proofs.ChoiceLemmas.{not_some}
-use Rattle.reuse_amend.proofs.EndLemmas.{upto_is}
+use Rattle.reuse_amend.specs.InPlace.{goes_on}
+use Rattle.reuse_amend.specs.Settled.{begins_digit, has_dated_comma, may_be_read_on}
 use Rattle.reuse_amend.proofs.RunLemmas.{run-none}
-use Rattle.reuse_amend.proofs.PartLemmas.{Anything, is_full, full_kept, full_some}
+use Rattle.reuse_amend.proofs.PartLemmas.{is_full}
 use Rattle.reuse_amend.proofs.ShapeLemmas.{IsWhole, first_of}
-use Rattle.reuse_amend.proofs.ReadAgainLemmas.{no_year, year_again}
-use Rattle.reuse_amend.proofs.AgainLemmas.{is_dated, IsApart}
-use Rattle.reuse_amend.proofs.SpanAgainLemmas.{first_digit, spanned, lone_again, range_front}
-use Rattle.reuse_amend.proofs.SpansLemmas.{spans_are}
-use Rattle.reuse_amend.proofs.AlikeLemmas.{IsBehind, wide_found, dated_behind, dated_value, IsStill, still_holder}
-use Rattle.reuse_amend.proofs.AlikeLemmas.{still_apart, still_last, still_behind, still_leaves}
+use Rattle.reuse_amend.proofs.ReadAgainLemmas.{no_year}
+use Rattle.reuse_amend.proofs.AlikeLemmas.{IsStill, still_holder}
 
 -- the parts of a notice that is written as an addition is
 abbrev pub added : Prefix → Option Years → List ℕ → Parts

@@ -1,14 +1,12 @@
 -- Where annotate reads years in a notice, amend reads the same.
-use Rattle.std.proofs.Common.{◌≡◌, ℕ, zero, suc, ◌+◌, ◌-◌, ◌<◌, ◌≤◌, nat_eq, nat_lt, nat_le, Bool, true, false, cond}
-use Rattle.std.proofs.Common.{List, [], ◌∷◌, ◌++◌, length, length-append, take, drop, Option, Some, None, refl, sym, ap}
-use Rattle.std.proofs.Common.{subst, ◌∙◌, arith, append_assoc, inl, inr, ◌⊎◌}
-use Rattle.std.specs.Prelude.{not, ◌&&◌, ◌||◌, ◌==◌, codes, slice_index, find, unwrap_or}
-use Rattle.std.specs.Char.{is_ascii_digit}
-use Rattle.std.specs.List.{starts_with, list_all, list_any}
+use Rattle.std.proofs.Common.{◌≡◌, ℕ, ◌<◌, nat_eq, Bool, true, false, cond}
+use Rattle.std.proofs.Common.{List, [], ◌∷◌, ◌++◌, length, drop, Some, None, refl, sym, ap}
+use Rattle.std.proofs.Common.{◌∙◌, arith, inl, inr, ◌⊎◌}
+use Rattle.std.specs.Prelude.{not, ◌&&◌, ◌||◌, codes, find, unwrap_or}
+use Rattle.std.specs.List.{starts_with, list_any}
 use Rattle.std.specs.Option.{option_map, option_map_or, option_and_then, option_or}
-use Rattle.std.proofs.lemmas.Bool.{false≢true, and_parts, or_parts, eqb-true, leb-true, ltb-true}
+use Rattle.std.proofs.lemmas.Bool.{false≢true, and_parts, or_parts}
 use Rattle.std.proofs.lemmas.Bool.Decides.{Decides-eqb, nat_tests}
-use Rattle.std.proofs.lemmas.List.{append-nil, take-append-drop}
 use Rattle.std.proofs.lemmas.Slice.Eq.{starts_is}
 use Rattle.std.proofs.Math.Seq.{drop-append_seam}
 use Rattle.reuse_notice.specs.declared.prefixes.Prefix.{Prefix}
@@ -16,7 +14,7 @@ use Rattle.reuse_notice.specs.declared.prefixes.Prefix.TheVariants.{Spdx, SpdxC,
 use Rattle.reuse_notice.specs.declared.prefixes.Prefix.TheVariants.{SpdxStringSymbol, String, StringC, StringSymbol}
 use Rattle.reuse_notice.specs.declared.prefixes.Prefix.TheVariants.{Symbol}
 use Rattle.reuse_notice.specs.Prefixes.{prefix_text, copyright_sign, longest_first}
-use Rattle.reuse_notice.specs.Tags.{is_blank, all_blank, drop_front, drop_end, leaves_value, needs_no_space}
+use Rattle.reuse_notice.specs.Tags.{is_blank, all_blank, drop_front, drop_end, needs_no_space}
 use Rattle.reuse_notice.proofs.BlankLemmas.{dropped_end}
 use Rattle.reuse_amend.specs.YearSpans.{en_dash, ends_word, behind, if_word_ends, behind_word, span_front, behind_and}
 use Rattle.reuse_amend.specs.YearSpans.{past_and, next_span}

@@ -1,7 +1,7 @@
 -- Amendments of notices that are written as an addition is.
-use Rattle.std.proofs.Common.{◌≡◌, ℕ, ◌+◌, ◌<◌, ◌≤◌, nat_lt, Bool, true, false, cond, List, [], ◌∷◌, ◌++◌, length, take}
+use Rattle.std.proofs.Common.{◌≡◌, ℕ, ◌<◌, ◌≤◌, nat_lt, Bool, true, false, cond, List, [], ◌∷◌, ◌++◌, length}
 use Rattle.std.proofs.Common.{drop, Option, Some, None, refl, sym, ap, subst, ◌∙◌, arith}
-use Rattle.std.specs.Prelude.{◌&&◌, ◌==◌, codes, unwrap_or}
+use Rattle.std.specs.Prelude.{codes, unwrap_or}
 use Rattle.std.specs.List.{AllByRecursion}
 use Rattle.std.specs.Option.{option_map_or}
 use Rattle.std.specs.Str.{bytes_eq}
@@ -17,7 +17,7 @@ use Rattle.reuse_notice.specs.MergeSteps.{is_among}
 use Rattle.reuse_notice.specs.Plain.{IsPlain}
 use Rattle.reuse_amend.specs.declared.amendments.Amendments.{Amendments}
 use Rattle.reuse_amend.specs.declared.replacements.Replacement.{Replacement}
-use Rattle.reuse_amend.specs.YearSpans.{SpanText, upto, next_span, run_front}
+use Rattle.reuse_amend.specs.YearSpans.{upto, next_span}
 use Rattle.reuse_amend.specs.NoticeParts.{Parts, parts_text, parts_of}
 use Rattle.reuse_amend.specs.Amending.{range_text, is_before, span_until, years_until, is_front, front_with}
 use Rattle.reuse_amend.specs.Amending.{if_concerned, text_replaced, text_amended, parts_amended, holder_amended}
@@ -30,7 +30,7 @@ use Rattle.reuse_amend.proofs.ShapeLemmas.{IsWhole, plain_whole}
 use Rattle.reuse_amend.proofs.WrittenLemmas.{chosen_short}
 use Rattle.reuse_amend.proofs.AgainLemmas.{IsApart}
 use Rattle.reuse_amend.proofs.AdditionLemmas.{added, added_text, is_clear, no_run}
-use Rattle.reuse_amend.proofs.AddedLemmas.{make, same_parts, OneSpan, one_span, one_run, read_added}
+use Rattle.reuse_amend.proofs.AddedLemmas.{same_parts, OneSpan, one_span, one_run, read_added}
 
 -- ---- holders
 

@@ -1,32 +1,19 @@
 -- Where years or the holder of a notice begin, and what stands behind them.
-use Rattle.std.proofs.Common.{◌≡◌, ℕ, ◌+◌, ◌-◌, ◌<◌, ◌≤◌, nat_eq, Bool, true, false, cond, List, [], ◌∷◌, ◌++◌, length}
-use Rattle.std.proofs.Common.{length-append, take, drop, Option, Some, None, refl, sym, ap, subst, ◌∙◌, arith}
-use Rattle.std.proofs.Common.{append_assoc, inl, inr, ◌⊎◌}
-use Rattle.std.specs.Prelude.{not, ◌&&◌, ◌||◌, codes, unwrap_or}
-use Rattle.std.specs.List.{starts_with, list_all}
-use Rattle.std.specs.Option.{option_map, option_map_or, option_and_then}
-use Rattle.std.proofs.lemmas.Bool.{false≢true, and_parts, cases_Bool as truth}
-use Rattle.std.proofs.lemmas.Bool.Decides.{Decides-eqb}
-use Rattle.std.proofs.lemmas.Slice.Eq.{starts_is}
-use Rattle.std.proofs.lemmas.List.{append_cancel_right}
-use Rattle.std.proofs.Math.Seq.{drop-append_seam}
+use Rattle.std.proofs.Common.{◌≡◌, ℕ, ◌≤◌, true, List, ◌++◌, length}
+use Rattle.std.proofs.Common.{length-append, drop, Option, Some, None, subst, arith}
+use Rattle.std.specs.Option.{option_map_or, option_and_then}
 use Rattle.reuse_notice.specs.declared.prefixes.Prefix.{Prefix}
-use Rattle.reuse_notice.specs.Prefixes.{prefix_text, longest_first}
-use Rattle.reuse_notice.specs.Tags.{is_blank, all_blank, drop_front, drop_end, leaves_value, needs_no_space}
-use Rattle.reuse_notice.proofs.BlankLemmas.{dropped_end, drop_end-twice, all-drop_end}
-use Rattle.reuse_notice.proofs.PrefixLemmas.{found_passes}
-use Rattle.reuse_amend.proofs.ShapeLemmas.{IsWhole}
-use Rattle.reuse_amend.specs.YearSpans.{upto, behind, RunText, run_front}
-use Rattle.reuse_amend.specs.NoticeParts.{Parts, first_of, last_of, parts_text, past, starts_blank, has_colon}
-use Rattle.reuse_amend.specs.NoticeParts.{is_begun_by, value_behind, holder_behind, behind_comma, leaves_holder}
+use Rattle.reuse_notice.specs.Prefixes.{prefix_text}
+use Rattle.reuse_notice.specs.Tags.{is_blank, all_blank, drop_front}
+use Rattle.reuse_amend.specs.YearSpans.{RunText, run_front}
+use Rattle.reuse_amend.specs.NoticeParts.{Parts}
+use Rattle.reuse_amend.specs.NoticeParts.{value_behind, holder_behind}
 use Rattle.reuse_amend.specs.NoticeParts.{if_leaves_holder, tail_of, cut_years_first, cut_holder_first, parts_from}
 use Rattle.reuse_amend.specs.NoticeParts.{parts_behind, wide_prefix_of, parts_of}
-use Rattle.reuse_amend.proofs.ChoiceLemmas.{not_some, was_some, then_some, if_some}
-use Rattle.reuse_amend.proofs.EndLemmas.{Holds, IsEnd, upto_is, upto_joined, end_self, end_further, end_blanks, RunRead}
-use Rattle.reuse_amend.proofs.EndLemmas.{run_read, run_end}
+use Rattle.reuse_amend.proofs.EndLemmas.{IsEnd, upto_is, end_further}
 use Rattle.reuse_amend.proofs.JoinedLemmas.{rest_blank, parts_read, prefix_cut, value_full, holder_full}
-use Rattle.reuse_amend.proofs.PartLemmas.{Anything, anything, end_value, end_holder, TailRead, tail_read, is_full}
-use Rattle.reuse_amend.proofs.PartLemmas.{full_kept, full_some, some_full, full_past, full_sign, full_by}
+use Rattle.reuse_amend.proofs.PartLemmas.{Anything, anything, end_value, end_holder, is_full}
+use Rattle.reuse_amend.proofs.PartLemmas.{full_some}
 
 -- all in front of years and holder is what stands in front of an end of the text, behind the prefix
 pub record FrontRead (text : List ℕ) (p : Parts) : Type 0 where

@@ -1,5 +1,5 @@
 -- What amendments don't name stays in a notice, byte for byte.
-use Rattle.std.proofs.Common.{◌≡◌, ℕ, ◌++◌, Bool, true, false, cond, List, [], take, Option, Some, None, refl, sym, ap}
+use Rattle.std.proofs.Common.{◌≡◌, ℕ, ◌++◌, Bool, true, false, cond, List, take, Option, Some, None, refl, sym, ap}
 use Rattle.std.proofs.Common.{subst, ◌∙◌, append_assoc, inl, inr, ◌⊎◌}
 use Rattle.std.specs.Prelude.{Contains, filter_map, unwrap_or, codes}
 use Rattle.std.specs.Option.{option_map_or}
@@ -24,6 +24,37 @@ use Rattle.reuse_amend.proofs.WrittenLemmas.{until_reaches}
 
 -- ---- notices that stay
 
+-- so do the parts of one for which neither a prefix nor a year is chosen
+pub parts_stay : (p : Parts) (prefix : Option Prefix) (until : Option ℕ) → prefix ≡ None → until ≡ None
+    → record {
+      prefix = unwrap_or prefix p.prefix;
+      front = option_map_or (Amending.front_with p) prefix p.front;
+      years = option_map_or (λ year. Amending.years_until year p.years) until p.years;
+      between = p.between;
+      holder = p.holder;
+      trailing = p.trailing;
+      years_first = p.years_first;
+    } ≡ p
+parts_stay p prefix until e f =
+    ap (λ o. record {
+      prefix = unwrap_or o p.prefix;
+      front = option_map_or (Amending.front_with p) o p.front;
+      years = option_map_or (λ year. Amending.years_until year p.years) until p.years;
+      between = p.between;
+      holder = p.holder;
+      trailing = p.trailing;
+      years_first = p.years_first;
+    }) e
+    ∙ ap (λ o. record {
+      prefix = p.prefix;
+      front = p.front;
+      years = option_map_or (λ year. Amending.years_until year p.years) o p.years;
+      between = p.between;
+      holder = p.holder;
+      trailing = p.trailing;
+      years_first = p.years_first;
+    }) f
+
 pub notice-stays : (a : Amendments) (text : List ℕ) → IsOtherNotice a text → Amending.notice_amended a text ≡ Some text
 notice-stays a text other =
     let p = other.parts in
@@ -31,39 +62,9 @@ notice-stays a text other =
     (Some text)) other.read
     ∙ ap (Amending.holder_amended a p) (text-stays a.replaced_holders p.holder other.whole)
     ∙ ap (λ b. cond b None (Some (parts_text (Amending.parts_amended a p p.holder)))) other.stays
-    ∙ ap (λ q. Some (parts_text q)) (all_stay (Amending.if_concerned a p.holder a.prefix)
+    ∙ ap (λ q. Some (parts_text q)) (parts_stay p (Amending.if_concerned a p.holder a.prefix)
     (Amending.if_concerned a p.holder a.until) other.prefix other.until)
     ∙ ap (λ t. Some t) (parts_joined text p other.read)
-  where
-    all_stay : (prefix : Option Prefix) (until : Option ℕ) → prefix ≡ None → until ≡ None
-        → record {
-          prefix = unwrap_or prefix other.parts.prefix;
-          front = option_map_or (Amending.front_with other.parts) prefix other.parts.front;
-          years = option_map_or (λ year. Amending.years_until year other.parts.years) until other.parts.years;
-          between = other.parts.between;
-          holder = other.parts.holder;
-          trailing = other.parts.trailing;
-          years_first = other.parts.years_first;
-        } ≡ other.parts
-    all_stay prefix until e f =
-        ap (λ o. record {
-          prefix = unwrap_or o other.parts.prefix;
-          front = option_map_or (Amending.front_with other.parts) o other.parts.front;
-          years = option_map_or (λ year. Amending.years_until year other.parts.years) until other.parts.years;
-          between = other.parts.between;
-          holder = other.parts.holder;
-          trailing = other.parts.trailing;
-          years_first = other.parts.years_first;
-        }) e
-        ∙ ap (λ o. record {
-          prefix = other.parts.prefix;
-          front = other.parts.front;
-          years = option_map_or (λ year. Amending.years_until year other.parts.years) o other.parts.years;
-          between = other.parts.between;
-          holder = other.parts.holder;
-          trailing = other.parts.trailing;
-          years_first = other.parts.years_first;
-        }) f
 
 pub other_notice-stays : (a : Amendments) (info new : Info) (text : List ℕ) → Amending.amended a info ≡ Some new
     → IsOtherNotice a text → Contains info.notices text → Contains new.notices text

@@ -1,10 +1,10 @@
 -- The parts of a notice, put together, are its text; and its holder is more than blank bytes.
-use Rattle.std.proofs.Common.{◌≡◌, ℕ, ◌+◌, ◌-◌, ◌<◌, ◌≤◌, nat_eq, Bool, true, false, cond, List, [], ◌∷◌, ◌++◌, length}
-use Rattle.std.proofs.Common.{length-append, take, drop, Option, Some, None, refl, sym, ap, subst, ◌∙◌, arith}
-use Rattle.std.proofs.Common.{append_assoc, inl, inr, ◌⊎◌}
+use Rattle.std.proofs.Common.{◌≡◌, ℕ, nat_eq, Bool, true, false, cond, List, [], ◌∷◌, ◌++◌, length}
+use Rattle.std.proofs.Common.{drop, Option, Some, None, refl, sym, ap, subst, ◌∙◌}
+use Rattle.std.proofs.Common.{append_assoc, inl, inr}
 use Rattle.std.specs.Prelude.{not, ◌&&◌, ◌||◌, codes, unwrap_or}
-use Rattle.std.specs.List.{starts_with, list_all}
-use Rattle.std.specs.Option.{option_map, option_map_or, option_and_then}
+use Rattle.std.specs.List.{starts_with}
+use Rattle.std.specs.Option.{option_map_or, option_and_then}
 use Rattle.std.proofs.lemmas.Bool.{false≢true, and_parts, cases_Bool as truth}
 use Rattle.std.proofs.lemmas.Bool.Decides.{Decides-eqb}
 use Rattle.std.proofs.lemmas.Slice.Eq.{starts_is}
@@ -17,12 +17,12 @@ use Rattle.reuse_notice.proofs.BlankLemmas.{dropped_end, drop_end-twice, all-dro
 use Rattle.reuse_notice.proofs.PrefixLemmas.{found_passes}
 use Rattle.reuse_amend.proofs.ShapeLemmas.{IsWhole}
 use Rattle.reuse_amend.specs.YearSpans.{upto, behind, RunText, run_front}
-use Rattle.reuse_amend.specs.NoticeParts.{Parts, first_of, last_of, parts_text, past, starts_blank, has_colon}
+use Rattle.reuse_amend.specs.NoticeParts.{Parts, parts_text, past, starts_blank, has_colon}
 use Rattle.reuse_amend.specs.NoticeParts.{is_begun_by, value_behind, holder_behind, behind_comma, leaves_holder}
 use Rattle.reuse_amend.specs.NoticeParts.{if_leaves_holder, tail_of, cut_years_first, cut_holder_first, parts_from}
 use Rattle.reuse_amend.specs.NoticeParts.{parts_behind, wide_prefix_of, parts_of}
 use Rattle.reuse_amend.proofs.ChoiceLemmas.{not_some, was_some, then_some, if_some}
-use Rattle.reuse_amend.proofs.EndLemmas.{Holds, IsEnd, upto_is, upto_joined, end_self, end_further, end_blanks, RunRead}
+use Rattle.reuse_amend.proofs.EndLemmas.{Holds, IsEnd, upto_is, upto_joined, end_further, end_blanks}
 use Rattle.reuse_amend.proofs.EndLemmas.{run_read, run_end}
 use Rattle.reuse_amend.proofs.PartLemmas.{Anything, anything, end_value, end_holder, TailRead, tail_read, is_full}
 use Rattle.reuse_amend.proofs.PartLemmas.{full_kept, full_some, some_full, full_past, full_sign, full_by}

@@ -36,3 +36,7 @@ pub mod AddedLemmas
 pub mod AmendedAdditionLemmas
 pub mod InPlaceLemmas
 pub mod NamedLemmas
+pub mod SearchedLemmas
+pub mod InTurnLemmas
+pub mod SecondNoticeLemmas
+pub mod SettlingLemmas

@@ -1,24 +1,21 @@
 -- What a replaced licence means.
-use Rattle.std.proofs.Common.{◌≡◌, ◌≢◌, ℕ, zero, suc, ◌+◌, ◌-◌, ◌<◌, ◌≤◌, Bool, true, false, cond, List, [], ◌∷◌, ◌++◌}
-use Rattle.std.proofs.Common.{length, take, drop, map, Option, Some, None, refl, sym, ap, subst, ◌∙◌, arith}
-use Rattle.std.proofs.Common.{append_assoc, inl, inr}
-use Rattle.std.specs.Prelude.{◌==◌, ◌&&◌, ◌||◌, not, nat_eq, filter, codes}
+use Rattle.std.proofs.Common.{◌≡◌, ℕ, Bool, true, false, cond, List, [], ◌∷◌, ◌++◌}
+use Rattle.std.proofs.Common.{length, Option, Some, None, refl, sym, ap, subst, ◌∙◌}
+use Rattle.std.proofs.Common.{append_assoc}
+use Rattle.std.specs.Prelude.{◌==◌, ◌&&◌, ◌||◌, not, codes}
 use Rattle.std.specs.Option.{is_none}
-use Rattle.std.specs.List.{list_any, starts_with}
+use Rattle.std.specs.List.{list_any}
 use Rattle.std.specs.Str.{bytes_eq}
-use Rattle.std.proofs.lemmas.Bool.{eqb-true, false_from_ne_true, false≢true, and_parts, or_parts, cases_Bool as truth}
+use Rattle.std.proofs.lemmas.Bool.{false≢true, and_parts, or_parts}
 use Rattle.std.proofs.lemmas.List.{append-nil}
-use Rattle.std.proofs.lemmas.List.Elements.{filter-append}
 use Rattle.std.proofs.lemmas.Slice.Eq.{bytes_eq-Decides}
-use Rattle.reuse_notice.specs.declared.expressions.Token.{Token}
-use Rattle.reuse_notice.specs.declared.expressions.Token.TheVariants.{Open, Close, Operator, With, Identifier, Stray}
+use Rattle.reuse_notice.specs.declared.expressions.Token.TheVariants.{Open, Close, Operator, With, Identifier}
 use Rattle.reuse_amend.specs.declared.replacements.Replacement.{Replacement}
-use Rattle.reuse_notice.specs.Expressions.{token_at, token_len, word_len, has_plus, is_word_byte, word_token}
-use Rattle.reuse_notice.specs.Expressions.{tokens_from, tokens_of, kinds_of, IsExpression, IsExpressionText}
-use Rattle.reuse_notice.specs.ExpressionSteps.{fault_of, State, state, step_of, start}
-use Rattle.reuse_notice.specs.ExpressionSteps as steps
-use Rattle.reuse_amend.specs.Pieces.{pieces_from, pieces_of, is_name, is_operator, is_identifier, has_operator}
-use Rattle.reuse_amend.specs.Amending.{operand as as_operand, is_behind_with, piece_replaced, pieces_replaced}
+use Rattle.reuse_notice.specs.Expressions.{token_at, token_len}
+use Rattle.reuse_notice.specs.Expressions.{IsExpression, IsExpressionText}
+use Rattle.reuse_notice.specs.ExpressionSteps.{fault_of, start}
+use Rattle.reuse_amend.specs.Pieces.{pieces_of, is_name, is_operator, is_identifier, has_operator}
+use Rattle.reuse_amend.specs.Amending.{operand as as_operand, is_behind_with}
 use Rattle.reuse_amend.specs.Amending.{expression_replaced, licence_replaced, if_expression}
 use Rattle.reuse_amend.specs.Meanings.{Meaning, licence, excepted, both, either, Rank, Operand, Conjunction, Whole}
 use Rattle.reuse_amend.specs.Meanings.{Phrase, name, name_with, group, operand, joined_by_and, conjunction}
@@ -27,12 +24,12 @@ use Rattle.reuse_amend.specs.Meanings.{meaning_replaced}
 use Rattle.reuse_notice.proofs.GrammarLemmas.{run_from_expression}
 use Rattle.reuse_notice.proofs.PlainLemmas.{or-none}
 use Rattle.reuse_notice.proofs.PlaceLemmas.{none_exactly}
-use Rattle.reuse_amend.proofs.UnnamedLemmas.{together, other_text, own_text}
-use Rattle.reuse_amend.proofs.CutLemmas.{cut_again, pieces_cut}
+use Rattle.reuse_amend.proofs.UnnamedLemmas.{own_text}
+use Rattle.reuse_amend.proofs.CutLemmas.{pieces_cut}
 use Rattle.reuse_amend.proofs.WordLemmas.{Word, kinds, kinds-append, no_space, without_blanks, words_are_tokens}
 use Rattle.reuse_amend.proofs.WordLemmas.{name_is, identifier_words, lone, grouped}
 use Rattle.reuse_amend.proofs.PassLemmas.{Passes, passes_both, close_with, with_twice, with_plus}
-use Rattle.reuse_amend.proofs.ReplacedLemmas.{new_pieces, new_words, new_together, not_old, new_cut, words_replaced}
+use Rattle.reuse_amend.proofs.ReplacedLemmas.{new_pieces, new_words, not_old, words_replaced}
 use Rattle.reuse_amend.proofs.ReplacedPieceLemmas.{replaced_pieces}
 use Rattle.reuse_amend.proofs.MeantLemmas.{one_meant, phrase_spelled}
 

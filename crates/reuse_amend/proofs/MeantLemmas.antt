@@ -1,11 +1,9 @@
 -- An expression has one meaning.
-use Rattle.std.proofs.Common.{◌≡◌, ℕ, Bool, true, false, cond, List, [], ◌∷◌, ◌++◌, map, refl, sym, ap, subst, ◌∙◌}
-use Rattle.std.proofs.Common.{append_assoc}
+use Rattle.std.proofs.Common.{◌≡◌, ℕ, Bool, true, false, cond, List, [], ◌∷◌, ◌++◌, refl, sym, ap, ◌∙◌}
 use Rattle.std.specs.Prelude.{codes, Option, None, Some, ◌||◌}
 use Rattle.std.specs.Str.{bytes_eq}
-use Rattle.reuse_notice.specs.declared.expressions.Token.{Token}
 use Rattle.reuse_notice.specs.declared.expressions.Token.TheVariants.{Open, Close, Operator, With, Identifier, Stray}
-use Rattle.reuse_notice.specs.Expressions.{Expression, licence as a_licence, licence_with, group as a_group, joined}
+use Rattle.reuse_notice.specs.Expressions.{licence as a_licence, licence_with, group as a_group, joined}
 use Rattle.reuse_notice.specs.Expressions.{spelling, IsExpression}
 use Rattle.reuse_amend.specs.Meanings.{Meaning, licence, excepted, both, either, Rank, Operand, Conjunction, Whole}
 use Rattle.reuse_amend.specs.Meanings.{Phrase, name, name_with, group, operand, joined_by_and, conjunction}

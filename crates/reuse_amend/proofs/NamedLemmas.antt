@@ -1,11 +1,11 @@
 -- What the amendments name, and that other values stay.
 use Rattle.std.proofs.Common.{◌≡◌, ◌≢◌, ℕ, ◌<◌, Bool, true, false, cond, List, [], ◌∷◌, length, take, drop, refl}
 use Rattle.std.proofs.Common.{Option, Some, None, sym, ap, ◌∙◌, arith}
-use Rattle.std.specs.Prelude.{◌||◌, ◌&&◌}
+use Rattle.std.specs.Prelude.{◌||◌, ◌&&◌, not}
 use Rattle.std.specs.List.{list_any, AllByRecursion}
 use Rattle.std.specs.Option.{option_map, option_map_or, option_and_then, is_none}
 use Rattle.std.specs.Str.{bytes_eq}
-use Rattle.std.proofs.lemmas.Bool.{or_parts}
+use Rattle.std.proofs.lemmas.Bool.{or_parts, false≢true}
 use Rattle.reuse_notice.specs.declared.expressions.Token.{Token}
 use Rattle.reuse_amend.specs.declared.replacements.Replacement.{Replacement}
 use Rattle.reuse_amend.specs.declared.amendments.Amendments.{Amendments}
@@ -51,7 +51,7 @@ has-end token (b ∷ rest) r none so = absurd (omega arith)
 -- ---- other texts
 
 -- a text that is none of those that are replaced
-no_text : (x y : List ℕ) → bytes_eq x y ≡ false → x ≢ y
+pub no_text : (x y : List ℕ) → bytes_eq x y ≡ false → x ≢ y
 no_text x y e same =
     let t : true ≡ false = sym (own_text y) ∙ ap (λ z. bytes_eq z y) (sym same) ∙ e in absurd (cc t)
 
@@ -122,7 +122,7 @@ other_contributor-kept a value e =
     (text-stays a.replaced_contributors value (no_old a.replaced_contributors value both.0))
     ∙ unless-kept a.removed_contributors value both.1
 
-none_concerned : {X : Type 0} (a : Amendments) (holder : List ℕ) (o : Option X) → o ≡ None
+pub none_concerned : {X : Type 0} (a : Amendments) (holder : List ℕ) (o : Option X) → o ≡ None
     → Amending.if_concerned a holder o ≡ None
 none_concerned a holder o e = by (Amending.concerns a holder)
   where
@@ -150,3 +150,51 @@ other_notice-kept a notice e until prefix = by (parts_of notice) refl e
           until = none_concerned a p.holder a.until until;
           prefix = none_concerned a p.holder a.prefix prefix;
         })
+
+-- ---- what is left
+
+or_right : (a b : Bool) → b ≡ true → (a || b) ≡ true
+or_right true b e = refl
+or_right false b e = e
+
+either_true : (a b : Bool) → (a || b) ≡ true → b ≡ false → a ≡ true
+either_true true b e other = refl
+either_true false b e other = absurd (false≢true (sym other ∙ e))
+
+module _ {X : Type 0} (old new : X → Bool) where
+  pub left_old : (rs : List X) → list_any (λ r. old r && not (new r)) rs ≡ true → list_any old rs ≡ true
+  left_old [] e = e
+  left_old (r ∷ rs) e = by (λ e'. left_old rs e') (old r) (new r) e
+    where
+      by : (list_any (λ r. old r && not (new r)) rs ≡ true → list_any old rs ≡ true) → (o n : Bool)
+          → ((o && not n) || list_any (λ r. old r && not (new r)) rs) ≡ true → (o || list_any old rs) ≡ true
+      by again true n e' = refl
+      by again false n e' = again e'
+
+  pub old_new : (rs : List X) → list_any old rs ≡ true → list_any (λ r. old r && not (new r)) rs ≡ false
+      → list_any new rs ≡ true
+  old_new [] e none = e
+  old_new (r ∷ rs) e none = by (λ e' none'. old_new rs e' none') (old r) (new r) e none
+    where
+      by : (list_any old rs ≡ true → list_any (λ r. old r && not (new r)) rs ≡ false → list_any new rs ≡ true)
+          → (o n : Bool) → (o || list_any old rs) ≡ true
+          → ((o && not n) || list_any (λ r. old r && not (new r)) rs) ≡ false → (n || list_any new rs) ≡ true
+      by again o true e' none' = refl
+      by again true false e' none' = absurd (false≢true (sym none'))
+      by again false false e' none' = again e' none'
+
+  -- with what is removed
+  pub left_or_removed : (rs : List X) (removed : Bool)
+      → (list_any (λ r. old r && not (new r)) rs || removed) ≡ true → (list_any old rs || removed) ≡ true
+  left_or_removed rs removed e = by (list_any (λ r. old r && not (new r)) rs) refl e
+    where
+      by : (b : Bool) → list_any (λ r. old r && not (new r)) rs ≡ b → (b || removed) ≡ true
+          → (list_any old rs || removed) ≡ true
+      by true is e' = ap (λ t. t || removed) (left_old rs is)
+      by false is e' = or_right (list_any old rs) removed e'
+
+  pub named_new : (rs : List X) (removed : Bool) → (list_any old rs || removed) ≡ true
+      → (list_any (λ r. old r && not (new r)) rs || removed) ≡ false → list_any new rs ≡ true
+  named_new rs removed e none =
+      let parts = or_parts (list_any (λ r. old r && not (new r)) rs) removed none in
+      old_new rs (either_true (list_any old rs) removed e parts.1) parts.0

@@ -1,29 +1,29 @@
 -- The years that annotate reads in a notice are the only span that amend reads in it.
-use Rattle.std.proofs.Common.{◌≡◌, ℕ, zero, suc, ◌+◌, ◌-◌, ◌<◌, ◌≤◌, nat_eq, nat_lt, nat_le, Bool, true, false, cond}
-use Rattle.std.proofs.Common.{List, [], ◌∷◌, ◌++◌, length, length-append, length-take, take, drop, get_or, Option, Some}
+use Rattle.std.proofs.Common.{◌≡◌, ℕ, ◌+◌, ◌<◌, ◌≤◌, nat_eq, nat_lt, nat_le, Bool, true, false, cond}
+use Rattle.std.proofs.Common.{List, [], ◌∷◌, ◌++◌, length, length-take, take, drop, Option, Some}
 use Rattle.std.proofs.Common.{None, refl, sym, ap, subst, ◌∙◌, arith, append_assoc, inl, inr, ◌⊎◌}
 use Rattle.std.specs.Prelude.{not, ◌&&◌, ◌||◌, ◌==◌, codes, slice_index}
 use Rattle.std.specs.List.{starts_with}
 use Rattle.std.specs.Option.{option_map, option_map_or, option_and_then, option_or}
 use Rattle.std.proofs.lemmas.Bool.{false≢true, and_parts, eqb-true, leb-true, ltb-true}
-use Rattle.std.proofs.lemmas.Bool.Decides.{Decides-eqb, nat_tests}
+use Rattle.std.proofs.lemmas.Bool.Decides.{Decides-eqb}
 use Rattle.std.proofs.lemmas.List.{append-nil, drop-drop, take-append-drop}
 use Rattle.std.proofs.lemmas.Slice.Eq.{starts_is}
 use Rattle.reuse_notice.specs.declared.prefixes.Prefix.{Prefix}
 use Rattle.reuse_notice.specs.declared.tags.Years.{Years}
-use Rattle.reuse_notice.specs.Prefixes.{prefix_text, longest_first}
-use Rattle.reuse_notice.specs.Tags.{NoticeText, is_blank, all_blank, drop_front, drop_end, trimmed, leaves_value}
+use Rattle.reuse_notice.specs.Prefixes.{prefix_text}
+use Rattle.reuse_notice.specs.Tags.{NoticeText, is_blank, all_blank, drop_front, drop_end, trimmed}
 use Rattle.reuse_notice.specs.Tags.{needs_no_space, prefix_of, year_of, years_between, years_written, years_in}
 use Rattle.reuse_notice.specs.Tags.{years_or, years_front, notice_behind, notice_of}
 use Rattle.reuse_notice.proofs.BlankLemmas.{drop_next}
-use Rattle.reuse_amend.specs.YearSpans.{SpanText, RunText, ends_word, range_end, lone_end, span_front, next_span}
+use Rattle.reuse_amend.specs.YearSpans.{SpanText, RunText, ends_word, lone_end, span_front, next_span}
 use Rattle.reuse_amend.specs.YearSpans.{spans_of, run_of, run_front, upto}
 use Rattle.reuse_amend.specs.NoticeParts.{Parts, value_behind, if_leaves_holder, leaves_holder, holder_behind}
 use Rattle.reuse_amend.specs.NoticeParts.{starts_blank, cut_years_first, cut_holder_first, tail_of, parts_from}
 use Rattle.reuse_amend.specs.NoticeParts.{parts_behind, wide_prefix_of, parts_of}
 use Rattle.reuse_amend.specs.InPlace.{goes_on, IsReadAlike}
 use Rattle.reuse_amend.proofs.ChoiceLemmas.{not_some, was_some, if_some}
-use Rattle.reuse_amend.proofs.EndLemmas.{IsEnd, upto_is, dropped}
+use Rattle.reuse_amend.proofs.EndLemmas.{upto_is, dropped}
 use Rattle.reuse_amend.proofs.PartLemmas.{Anything}
 use Rattle.reuse_amend.proofs.ShapedLemmas.{prefix_read}
 use Rattle.reuse_amend.proofs.AgainLemmas.{is_dated, IsApart}

@@ -1,22 +1,19 @@
 -- What is known of the parts of a notice that is read.
-use Rattle.std.proofs.Common.{◌≡◌, ℕ, zero, suc, ◌+◌, ◌-◌, ◌<◌, ◌≤◌, nat_eq, Bool, true, false, cond, List, [], ◌∷◌}
-use Rattle.std.proofs.Common.{◌++◌, length, length-append, take, drop, Option, Some, None, refl, sym, ap, subst, ◌∙◌}
-use Rattle.std.proofs.Common.{arith, append_assoc, inl, inr, ◌⊎◌}
-use Rattle.std.specs.Prelude.{not, ◌&&◌, ◌||◌, ◌==◌, codes, unwrap_or, find}
+use Rattle.std.proofs.Common.{◌≡◌, ℕ, zero, suc, nat_eq, Bool, true, false, cond, List, [], ◌∷◌}
+use Rattle.std.proofs.Common.{length, drop, Option, Some, None, refl, sym, ap, subst, ◌∙◌}
+use Rattle.std.proofs.Common.{inl, inr, ◌⊎◌}
+use Rattle.std.specs.Prelude.{not, ◌&&◌, ◌==◌, codes, find}
 use Rattle.std.specs.List.{starts_with, list_all}
-use Rattle.std.specs.Option.{option_map, option_map_or, option_and_then}
+use Rattle.std.specs.Option.{option_map_or}
 use Rattle.std.proofs.lemmas.Bool.{false≢true, eqb-true}
 use Rattle.std.proofs.lemmas.List.{append-nil}
-use Rattle.std.proofs.Math.Seq.{drop-append_seam}
-use Rattle.reuse_notice.specs.declared.prefixes.Prefix.{Prefix}
-use Rattle.reuse_notice.specs.Prefixes.{prefix_text, copyright_sign}
-use Rattle.reuse_notice.specs.Tags.{is_blank, all_blank, drop_front, drop_end, trimmed}
-use Rattle.reuse_notice.proofs.BlankLemmas.{dropped_end, drop_end-nil}
-use Rattle.reuse_amend.specs.YearSpans.{upto, behind, RunText, run_front}
+use Rattle.reuse_notice.specs.Prefixes.{copyright_sign}
+use Rattle.reuse_notice.specs.Tags.{is_blank, all_blank, drop_front}
+use Rattle.reuse_amend.specs.YearSpans.{behind, RunText, run_front}
 use Rattle.reuse_amend.specs.NoticeParts
-use Rattle.reuse_amend.proofs.ChoiceLemmas.{not_some, was_some, then_some, if_some}
-use Rattle.reuse_amend.proofs.EndLemmas.{Holds, IsEnd, upto_joined, upto_holds, dropped, end_self, end_further}
-use Rattle.reuse_amend.proofs.EndLemmas.{end_blanks, end_behind, RunRead, run_read, run_end}
+use Rattle.reuse_amend.proofs.ChoiceLemmas.{not_some}
+use Rattle.reuse_amend.proofs.EndLemmas.{Holds, IsEnd, end_self, end_further}
+use Rattle.reuse_amend.proofs.EndLemmas.{end_blanks, end_behind, run_read, run_end}
 
 -- ---- texts that begin with more than a blank byte
 

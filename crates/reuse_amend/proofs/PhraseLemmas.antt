@@ -1,7 +1,7 @@
 -- Each expression is a phrase of the grammar in which AND binds before OR.
-use Rattle.std.proofs.Common.{◌≡◌, ℕ, ◌<◌, nat_eq, Bool, true, false, cond, List, [], ◌∷◌, ◌++◌, length, take, map}
-use Rattle.std.proofs.Common.{Option, Some, None, refl, sym, ap, subst, ◌∙◌, arith, append_assoc, inl, inr, ◌⊎◌}
-use Rattle.std.specs.Prelude.{◌==◌, ◌&&◌, ◌||◌, not, codes}
+use Rattle.std.proofs.Common.{◌≡◌, ℕ, nat_eq, Bool, true, false, cond, List, [], ◌∷◌, ◌++◌, length, take}
+use Rattle.std.proofs.Common.{None, refl, sym, ap, subst, ◌∙◌, arith, append_assoc, inl, inr, ◌⊎◌}
+use Rattle.std.specs.Prelude.{◌==◌, ◌&&◌, ◌||◌, codes}
 use Rattle.std.specs.List.{AllByRecursion, list_any, starts_with}
 use Rattle.std.specs.Str.{bytes_eq}
 use Rattle.std.proofs.lemmas.Bool.{eqb-true, cases_Bool as truth}
@@ -9,10 +9,10 @@ use Rattle.std.proofs.lemmas.Slice.Eq.{bytes_eq-Decides}
 use Rattle.reuse_notice.specs.declared.expressions.Token.{Token}
 use Rattle.reuse_notice.specs.declared.expressions.Token.TheVariants.{Open, Close, Operator, With, Identifier, Stray}
 use Rattle.reuse_notice.specs.Expressions.{Expression, licence as a_licence, licence_with, group as a_group, joined}
-use Rattle.reuse_notice.specs.Expressions.{spelling, IsExpression, word_len, has_plus, word_token, token_at, token_len}
+use Rattle.reuse_notice.specs.Expressions.{spelling, word_len, has_plus, word_token, token_at, token_len}
 use Rattle.reuse_notice.specs.ExpressionSteps.{fault_of}
 use Rattle.reuse_amend.specs.Pieces.{pieces_of, is_operator}
-use Rattle.reuse_amend.specs.Meanings.{Meaning, Rank, Operand, Conjunction, Whole, Phrase, name, name_with, group}
+use Rattle.reuse_amend.specs.Meanings.{Meaning, Rank, Conjunction, Whole, Phrase, name, name_with, group}
 use Rattle.reuse_amend.specs.Meanings.{operand, joined_by_and, conjunction, joined_by_or, written, meant, words_of}
 use Rattle.reuse_amend.specs.Meanings.{Means}
 use Rattle.reuse_notice.proofs.PlaceLemmas.{none_exactly}

@@ -1,19 +1,18 @@
 -- The pieces of an expression in which an identifier is replaced.
 use Rattle.std.proofs.Common.{◌≡◌, ℕ, Bool, true, false, cond, List, [], ◌∷◌, ◌++◌, length, refl, sym, ap, ◌∙◌}
-use Rattle.std.specs.Prelude.{◌&&◌, ◌||◌, not, filter, codes}
+use Rattle.std.specs.Prelude.{◌&&◌, ◌||◌, not, codes}
 use Rattle.std.specs.Str.{bytes_eq}
 use Rattle.std.proofs.lemmas.List.{append-nil}
 use Rattle.std.proofs.lemmas.List.Elements.{filter-append}
 use Rattle.std.proofs.lemmas.Slice.Eq.{bytes_eq-Decides}
 use Rattle.reuse_notice.specs.declared.expressions.Token.{Token}
-use Rattle.reuse_notice.specs.declared.expressions.Token.TheVariants.{Stray}
 use Rattle.reuse_amend.specs.declared.replacements.Replacement.{Replacement}
 use Rattle.reuse_notice.specs.Expressions.{token_at, word_len}
 use Rattle.reuse_amend.specs.Pieces.{pieces_of, is_name, is_identifier}
 use Rattle.reuse_amend.specs.Amending.{operand, is_behind_with, pieces_replaced}
 use Rattle.reuse_amend.specs.Meanings.{words_of}
 use Rattle.reuse_amend.proofs.UnnamedLemmas.{together, pieces-join, other_text}
-use Rattle.reuse_amend.proofs.CutLemmas.{is_plain, IsPiece, WellCut, EndsInWord, EndsBefore, pieces_cut, plain_first}
+use Rattle.reuse_amend.proofs.CutLemmas.{is_plain, WellCut, pieces_cut, plain_first}
 use Rattle.reuse_amend.proofs.CutLemmas.{together-append, cut-append}
 use Rattle.reuse_amend.proofs.WordLemmas.{Word, no_space, without_blanks, blank_plain, name_begins}
 

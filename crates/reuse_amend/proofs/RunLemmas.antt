@@ -1,9 +1,9 @@
 -- The spans of a text, from one on, and the ends of a text that years follow.
-use Rattle.std.proofs.Common.{◌≡◌, ℕ, zero, suc, ◌+◌, ◌-◌, ◌<◌, ◌≤◌, List, [], ◌∷◌, length, Option, Some, None, refl}
-use Rattle.std.proofs.Common.{sym, ap, subst, ◌∙◌, arith}
+use Rattle.std.proofs.Common.{◌≡◌, ℕ, zero, suc, ◌-◌, List, [], ◌∷◌, length, Option, Some, None, refl}
+use Rattle.std.proofs.Common.{sym, ap, ◌∙◌, arith}
 use Rattle.std.specs.Prelude.{fold}
 use Rattle.reuse_amend.proofs.ChoiceLemmas.{not_some}
-use Rattle.reuse_amend.specs.YearSpans.{SpanText, RunText, next_span, spans_from, spans_of, span_front, run_of}
+use Rattle.reuse_amend.specs.YearSpans.{SpanText, RunText, next_span, spans_from, span_front, run_of}
 use Rattle.reuse_amend.specs.YearSpans.{run_front, with_span}
 
 pub spans-none : (n : ℕ) → spans_from n None ≡ []

@@ -1,9 +1,9 @@
 -- What is written of a notice begins as a notice does, and ends in no blank byte, if the notice does so.
-use Rattle.std.proofs.Common.{◌≡◌, ℕ, zero, suc, ◌+◌, ◌-◌, ◌%◌, ◌<◌, ◌≤◌, nat_eq, Bool, true, false, cond, List, []}
+use Rattle.std.proofs.Common.{◌≡◌, ℕ, ◌+◌, ◌%◌, ◌<◌, ◌≤◌, nat_eq, Bool, true, false, cond, List, []}
 use Rattle.std.proofs.Common.{◌∷◌, ◌++◌, length, length-append, take, drop, Option, Some, None, refl, sym, ap, subst}
 use Rattle.std.proofs.Common.{◌∙◌, arith, append_assoc, inl, inr, ◌⊎◌}
 use Rattle.std.specs.Prelude.{not, ◌&&◌, ◌||◌, codes}
-use Rattle.std.specs.List.{starts_with, list_all}
+use Rattle.std.specs.List.{starts_with}
 use Rattle.std.specs.Option.{option_map_or}
 use Rattle.std.proofs.lemmas.Bool.{false≢true, and_parts}
 use Rattle.std.proofs.lemmas.Bool.Decides.{Decides-eqb, nat_tests}
@@ -19,16 +19,16 @@ use Rattle.reuse_notice.specs.Tags.{is_blank, all_blank, drop_front, drop_end, l
 use Rattle.reuse_notice.proofs.BlankLemmas.{drop_end-twice}
 use Rattle.reuse_notice.proofs.PrefixLemmas.{found_passes, prefix_longest}
 use Rattle.reuse_amend.specs.declared.amendments.Amendments.{Amendments}
-use Rattle.reuse_amend.specs.YearSpans.{upto, RunText, run_front, spans_from}
-use Rattle.reuse_amend.specs.NoticeParts.{Parts, first_of, last_of, parts_text, has_colon, is_begun_by, wide_prefix_of}
+use Rattle.reuse_amend.specs.YearSpans.{upto, spans_from}
+use Rattle.reuse_amend.specs.NoticeParts.{Parts, first_of, last_of, parts_text, has_colon, is_begun_by}
 use Rattle.reuse_amend.specs.NoticeParts.{parts_of}
-use Rattle.reuse_amend.specs.Amending.{range_text, is_before, span_until, years_until, is_front, front_with}
+use Rattle.reuse_amend.specs.Amending.{range_text, years_until, is_front, front_with}
 use Rattle.reuse_amend.specs.Amending.{if_concerned, parts_amended}
-use Rattle.reuse_amend.proofs.EndLemmas.{IsEnd, run_read}
+use Rattle.reuse_amend.proofs.EndLemmas.{run_read}
 use Rattle.reuse_amend.proofs.PartLemmas.{Anything, anything, is_full}
-use Rattle.reuse_amend.proofs.ShapeLemmas.{IsWhole, last_passes, last_blank, last_more, of_last, last_of as trim_last}
+use Rattle.reuse_amend.proofs.ShapeLemmas.{IsWhole, last_blank, last_more, of_last, last_of as trim_last}
 use Rattle.reuse_amend.proofs.JoinedLemmas.{five, parts_joined}
-use Rattle.reuse_amend.proofs.FrontLemmas.{FrontRead, front_read, trailing_blank}
+use Rattle.reuse_amend.proofs.FrontLemmas.{front_read, trailing_blank}
 use Rattle.reuse_amend.proofs.ReadAgainLemmas.{blank_behind}
 use Rattle.reuse_amend.proofs.WrittenLemmas.{until_reaches}
 

@@ -1,26 +1,25 @@
 -- Spans are read again where something else stands behind them, and where one of them is written anew.
-use Rattle.std.proofs.Common.{◌≡◌, ℕ, zero, suc, ◌+◌, ◌-◌, ◌<◌, ◌≤◌, nat_eq, nat_le, Bool, true, false, cond, List, []}
-use Rattle.std.proofs.Common.{◌∷◌, ◌++◌, length, length-append, take, drop, Option, Some, None, refl, sym, ap, subst}
-use Rattle.std.proofs.Common.{◌∙◌, arith, append_assoc, inl, inr, ◌⊎◌}
-use Rattle.std.specs.Prelude.{not, ◌&&◌, ◌||◌, ◌==◌, codes}
+use Rattle.std.proofs.Common.{◌≡◌, ℕ, ◌≤◌, Bool, true, false, cond, List, []}
+use Rattle.std.proofs.Common.{◌∷◌, ◌++◌, take, drop, Option, Some, None, refl, sym, ap, subst}
+use Rattle.std.proofs.Common.{◌∙◌, arith, append_assoc, inl, inr}
+use Rattle.std.specs.Prelude.{not, codes}
 use Rattle.std.specs.Char.{is_ascii_digit}
-use Rattle.std.specs.List.{starts_with, list_all}
-use Rattle.std.specs.Option.{option_map, option_map_or, option_and_then, option_or}
-use Rattle.std.proofs.lemmas.Bool.{false≢true, and_parts, le-leb}
+use Rattle.std.specs.List.{list_all}
+use Rattle.std.specs.Option.{option_map, option_and_then, option_or}
+use Rattle.std.proofs.lemmas.Bool.{and_parts, le-leb}
 use Rattle.std.proofs.lemmas.List.{drop_at, take_at, take-append-drop}
 use Rattle.reuse_notice.specs.Tags.{is_blank, all_blank, drop_front, year_of}
 use Rattle.reuse_notice.specs.Adding.{four_digits}
 use Rattle.reuse_amend.specs.YearSpans.{SpanText, en_dash, ends_word, behind, if_word_ends, behind_word, year_front}
 use Rattle.reuse_amend.specs.YearSpans.{today_front, end_front, is_in_order, if_in_order, behind_dash, range_end}
-use Rattle.reuse_amend.specs.YearSpans.{lone_end, span_to, span_from, span_front, separated, next_span, spans_from}
-use Rattle.reuse_amend.specs.YearSpans.{spans_of}
+use Rattle.reuse_amend.specs.YearSpans.{lone_end, span_to, span_from, span_front}
 use Rattle.reuse_amend.specs.Amending.{range_text}
 use Rattle.reuse_amend.proofs.ChoiceLemmas.{not_some, was_some, then_some, either_some, if_some}
 use Rattle.reuse_amend.proofs.EndLemmas.{dropped, year_digits, year_size}
 use Rattle.reuse_amend.proofs.PartLemmas.{is_full}
 use Rattle.reuse_amend.proofs.ReadAgainLemmas.{no_year, year_again}
 use Rattle.reuse_amend.proofs.AgainLemmas.{is_dated, IsApart, lead_found, word_found, dated_full, blanks_again}
-use Rattle.reuse_amend.proofs.AgainLemmas.{lead_again, word_again}
+use Rattle.reuse_amend.proofs.AgainLemmas.{word_again}
 
 -- ---- the end of a span
 

@@ -1,25 +1,22 @@
 -- The spans of a text of which one is written anew: the others stay.
-use Rattle.std.proofs.Common.{◌≡◌, ℕ, zero, suc, ◌+◌, ◌-◌, ◌<◌, ◌≤◌, Bool, true, false, cond, List, [], ◌∷◌, ◌++◌}
-use Rattle.std.proofs.Common.{length, length-append, take, drop, Option, Some, None, refl, sym, ap, subst, ◌∙◌, arith}
-use Rattle.std.proofs.Common.{append_assoc, inl, inr, ◌⊎◌}
-use Rattle.std.specs.Prelude.{fold, map, nat_lt, nat_le}
+use Rattle.std.proofs.Common.{◌≡◌, ℕ, zero, suc, ◌<◌, ◌≤◌, Bool, true, false, cond, List, [], ◌∷◌, ◌++◌}
+use Rattle.std.proofs.Common.{length, length-append, Option, Some, None, refl, sym, ap, subst, ◌∙◌, arith}
+use Rattle.std.proofs.Common.{append_assoc}
+use Rattle.std.specs.Prelude.{fold}
 use Rattle.std.specs.List.{AllByRecursion}
-use Rattle.std.specs.Option.{option_map_or, option_and_then}
-use Rattle.std.proofs.lemmas.Bool.{false≢true, ltb-true, leb-true, le-leb}
+use Rattle.std.specs.Option.{option_and_then}
+use Rattle.std.proofs.lemmas.Bool.{false≢true, leb-true, le-leb}
 use Rattle.std.proofs.lemmas.Bool.Decides.{nat_tests}
 use Rattle.std.proofs.lemmas.List.{append-nil}
-use Rattle.reuse_notice.specs.Tags.{year_of}
-use Rattle.reuse_amend.specs.YearSpans.{SpanText, RunText, ends_word, upto, separated, next_span, span_front}
-use Rattle.reuse_amend.specs.YearSpans.{spans_from, spans_of, ends_by, later, with_span, run_of, run_front}
-use Rattle.reuse_amend.specs.Amending.{range_text, is_before, span_until, years_until}
-use Rattle.reuse_amend.specs.InPlace.{EachIncludes}
-use Rattle.reuse_amend.specs.Settled.{HasFourDigits}
+use Rattle.reuse_amend.specs.YearSpans.{SpanText, RunText, separated, next_span, span_front}
+use Rattle.reuse_amend.specs.YearSpans.{spans_from, spans_of, ends_by, with_span, run_of}
+use Rattle.reuse_amend.specs.Amending.{range_text}
 use Rattle.reuse_amend.proofs.ChoiceLemmas.{not_some, then_some}
-use Rattle.reuse_amend.proofs.EndLemmas.{IsEnd, upto_is, upto_joined, end_further, end_separated, end_self, SpanRead}
-use Rattle.reuse_amend.proofs.EndLemmas.{span_read, RunRead, run_read}
+use Rattle.reuse_amend.proofs.EndLemmas.{IsEnd, end_separated}
+use Rattle.reuse_amend.proofs.EndLemmas.{span_read}
 use Rattle.reuse_amend.proofs.PartLemmas.{Anything, anything}
-use Rattle.reuse_amend.proofs.AgainLemmas.{is_dated, IsApart, IsGap, found_gap, gap_apart}
-use Rattle.reuse_amend.proofs.SpanAgainLemmas.{SpanAgain, span_again, range_front, range_dated}
+use Rattle.reuse_amend.proofs.AgainLemmas.{is_dated, found_gap, gap_apart}
+use Rattle.reuse_amend.proofs.SpanAgainLemmas.{span_again, range_front, range_dated}
 
 -- ---- the spans of a text, whatever the limit
 

@@ -1,5 +1,5 @@
 -- The search for years behind a holder, comma by comma.
-use Rattle.std.proofs.Common.{◌≡◌, ℕ, zero, suc, List, [], Option, Some, None, refl, sym, ap, ◌∙◌}
+use Rattle.std.proofs.Common.{◌≡◌, ℕ, suc, List, [], Some, None, refl, sym, ap, ◌∙◌}
 use Rattle.std.specs.Option.{option_map_or}
 use Rattle.reuse_notice.specs.Tags.{drop_front}
 use Rattle.reuse_amend.specs.NoticeParts.{is_no_comma, next_searched, years_tail}

@@ -1,33 +1,26 @@
 -- What the amendments don't name stays.
 use Rattle.std.proofs.Common.{◌≡◌, ◌≢◌, ℕ, zero, suc, ◌-◌, ◌<◌, Bool, true, false, List, [], ◌∷◌, ◌++◌, take, drop, map}
 use Rattle.std.proofs.Common.{Option, Some, None, refl, sym, ap, subst, ◌∙◌, arith, cond, inl, inr}
-use Rattle.std.specs.Prelude.{Contains, filter_map, flat_map, fold, nat_eq, nat_lt, not, ◌&&◌, ◌||◌, unwrap_or}
-use Rattle.std.specs.Option.{option_map, option_map_or, option_and_then, is_none}
+use Rattle.std.specs.Prelude.{Contains, filter_map, flat_map, fold, not, ◌&&◌, ◌||◌}
+use Rattle.std.specs.Option.{option_map, option_and_then, is_none}
 use Rattle.std.specs.List.{AllByRecursion, cons_option}
 use Rattle.std.specs.Str.{bytes_eq}
-use Rattle.std.proofs.lemmas.Bool.{false_from_ne_true, ltb-true, eq-eqb}
+use Rattle.std.proofs.lemmas.Bool.{false_from_ne_true}
 use Rattle.std.proofs.lemmas.List.{take-append-drop}
 use Rattle.std.proofs.lemmas.Slice.Eq.{bytes_eq-Decides, slice_eq-Decides}
 use Rattle.reuse_notice.specs.declared.expressions.Token.{Token}
 use Rattle.reuse_amend.specs.declared.replacements.Replacement.{Replacement}
 use Rattle.reuse_amend.specs.declared.amendments.Amendments.{Amendments}
 use Rattle.reuse_notice.specs.declared.infos.Info.{Info}
-use Rattle.reuse_notice.specs.declared.tags.Years.{Years}
-use Rattle.reuse_notice.specs.Prefixes.{prefix_text}
 use Rattle.reuse_notice.specs.Expressions.{token_len}
 use Rattle.reuse_notice.specs.ExpressionSteps.{fault_of}
 use Rattle.reuse_amend.specs.Pieces.{pieces_from, pieces_of, is_identifier}
 use Rattle.reuse_notice.specs.Sets.{set_of}
-use Rattle.reuse_notice.specs.Tags.{NoticeText}
-use Rattle.reuse_notice.specs.Adding.{notice_written}
-use Rattle.reuse_notice.specs.Keeping.{Include}
-use Rattle.reuse_notice.specs.Merging.{says, same_years}
 use Rattle.reuse_notice.specs.MergeSteps.{is_among}
 use Rattle.reuse_notice.specs.Infos.{same_texts, says_the_same}
 use Rattle.reuse_notice.specs.TextLists.{without}
 use Rattle.reuse_amend.specs.Amending
-use Rattle.reuse_amend.specs.Unnamed.{IsNoOld, HasNoOld, IsOtherLicence, IsOtherContributor, IsOtherNotice}
-use Rattle.reuse_notice.proofs.ClassLemmas.{text_kept}
+use Rattle.reuse_amend.specs.Unnamed.{IsNoOld, HasNoOld, IsOtherLicence, IsOtherContributor}
 use Rattle.reuse_amend.proofs.PieceLemmas.{token-some}
 use Rattle.reuse_notice.proofs.SetLemmas.{In, In-from_contains, Contains-from_in, set_of-has}
 

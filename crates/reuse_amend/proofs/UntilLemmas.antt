@@ -1,12 +1,12 @@
 -- Years that reach a year lose none of theirs, and reach it for good.
-use Rattle.std.proofs.Common.{◌≡◌, ℕ, ◌<◌, ◌≤◌, nat_lt, nat_le, Bool, true, false, cond, List, [], ◌∷◌, ◌++◌, Option}
-use Rattle.std.proofs.Common.{Some, None, refl, sym, ap, subst, ◌∙◌, arith, inl, inr, ◌⊎◌}
+use Rattle.std.proofs.Common.{◌≡◌, ℕ, ◌<◌, ◌≤◌, true, false, cond, List, [], ◌∷◌, ◌++◌, Option}
+use Rattle.std.proofs.Common.{Some, None, refl, sym, ap, subst, ◌∙◌, arith, inl, inr}
 use Rattle.std.specs.List.{AllByRecursion}
 use Rattle.std.specs.Option.{option_map_or}
 use Rattle.std.proofs.lemmas.Bool.{false≢true, ltb-true, leb-true, le-leb}
 use Rattle.std.proofs.lemmas.Bool.Decides.{nat_tests}
 use Rattle.reuse_amend.specs.declared.amendments.Amendments.{Amendments}
-use Rattle.reuse_amend.specs.YearSpans.{SpanText, RunText, upto, span_front, is_in_order, ends_by, spans_of, run_of}
+use Rattle.reuse_amend.specs.YearSpans.{SpanText, RunText, upto, span_front, is_in_order, ends_by, spans_of}
 use Rattle.reuse_amend.specs.YearSpans.{run_front}
 use Rattle.reuse_amend.specs.NoticeParts.{Parts}
 use Rattle.reuse_amend.specs.Amending.{range_text, is_before, span_until, years_until, if_concerned, parts_amended}
@@ -15,8 +15,8 @@ use Rattle.reuse_amend.specs.Settled.{HasFourDigits}
 use Rattle.reuse_amend.proofs.EndLemmas.{upto_is, run_read}
 use Rattle.reuse_amend.proofs.PartLemmas.{Anything, anything}
 use Rattle.reuse_amend.proofs.WrittenLemmas.{Reaches, until_reaches, chosen_short}
-use Rattle.reuse_amend.proofs.SpansLemmas.{AreSpans, are_spans, spans_are, SameYears, IsRenewed, renewed, ends_refl}
-use Rattle.reuse_amend.proofs.SpansLemmas.{IsLatest, latest_of}
+use Rattle.reuse_amend.proofs.SpansLemmas.{AreSpans, are_spans, spans_are, SameYears, renewed, ends_refl}
+use Rattle.reuse_amend.proofs.SpansLemmas.{latest_of}
 
 -- ---- the spans of years that reach a year
 

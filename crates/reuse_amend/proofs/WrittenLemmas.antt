@@ -1,25 +1,20 @@
 -- What is written of a notice whose parts change: its bytes, its beginning and its end.
-use Rattle.std.proofs.Common.{◌≡◌, ℕ, zero, suc, ◌+◌, ◌-◌, ◌*◌, ◌/◌, ◌%◌, ◌<◌, ◌≤◌, nat_eq, Bool, true, false, cond}
-use Rattle.std.proofs.Common.{List, [], ◌∷◌, ◌++◌, length, length-append, take, drop, Option, Some, None, refl, sym, ap}
-use Rattle.std.proofs.Common.{subst, ◌∙◌, arith, append_assoc, inl, inr, ◌⊎◌}
-use Rattle.std.specs.Prelude.{not, ◌&&◌, ◌||◌, ◌==◌, nat_lt, codes, unwrap_or, IsUtf8}
-use Rattle.std.specs.List.{starts_with, list_all, list_any}
-use Rattle.std.specs.Option.{option_map, option_map_or, option_and_then}
+use Rattle.std.proofs.Common.{◌≡◌, ℕ, ◌≤◌, Bool, true, false, cond}
+use Rattle.std.proofs.Common.{List, [], ◌∷◌, ◌++◌, length, take, drop, Option, Some, None, refl, sym, ap}
+use Rattle.std.proofs.Common.{subst, ◌∙◌, arith, inl, inr, ◌⊎◌}
+use Rattle.std.specs.Prelude.{codes, IsUtf8}
+use Rattle.std.specs.Option.{option_map_or, option_and_then}
 use lib.Utf8.{encode}
-use Rattle.std.proofs.lemmas.Bool.{false≢true, and_parts, or_parts}
-use Rattle.std.proofs.lemmas.Bool.Decides.{nat_tests}
 use Rattle.std.proofs.lemmas.List.{append-nil}
-use Rattle.std.proofs.lemmas.List.Folds.{list_any-append}
 use Rattle.std.proofs.lemmas.Str.{IsUtf8-nil, IsUtf8-append}
 use Rattle.reuse_notice.specs.declared.prefixes.Prefix.{Prefix}
 use Rattle.reuse_notice.specs.declared.prefixes.Prefix.TheVariants.{Symbol}
-use Rattle.reuse_notice.specs.Prefixes.{prefix_text, copyright_sign}
+use Rattle.reuse_notice.specs.Prefixes.{prefix_text}
 use Rattle.reuse_notice.specs.Tags.{is_blank, all_blank, drop_front, drop_end, year_of}
-use Rattle.reuse_notice.specs.Adding.{is_control, four_digits}
+use Rattle.reuse_notice.specs.Adding.{four_digits}
 use Rattle.reuse_notice.proofs.BlankLemmas.{dropped_end}
-use Rattle.reuse_notice.proofs.NoneLemmas.{none_append, none_take, none_weaker}
 use Rattle.reuse_notice.proofs.SoundLemmas.{IsSound, sound_append, sound_low, low_utf8, utf8_behind, utf8_before}
-use Rattle.reuse_notice.proofs.SoundLemmas.{utf8_to_low, none_parts}
+use Rattle.reuse_notice.proofs.SoundLemmas.{utf8_to_low}
 use Rattle.reuse_notice.proofs.PlainLemmas.{year-short}
 use Rattle.reuse_notice.proofs.NoticeSoundLemmas.{prefix_sound, digits_sound}
 use Rattle.reuse_amend.specs.YearSpans.{SpanText, en_dash, upto, RunText, run_front}
@@ -30,11 +25,10 @@ use Rattle.reuse_amend.specs.declared.amendments.Amendments.{Amendments}
 use Rattle.reuse_amend.specs.Amending.{range_text, is_before, span_until, years_until, is_front, front_with, concerns}
 use Rattle.reuse_amend.specs.Amending.{if_concerned, parts_amended}
 use Rattle.reuse_amend.specs.Settled.{HasFourDigits}
-use Rattle.reuse_amend.proofs.ChoiceLemmas.{not_some}
-use Rattle.reuse_amend.proofs.EndLemmas.{Holds, IsEnd, upto_joined, upto_holds, blanks_low, end_self, end_further}
-use Rattle.reuse_amend.proofs.EndLemmas.{end_blanks, RunRead, run_read, run_end}
-use Rattle.reuse_amend.proofs.PartLemmas.{Anything, anything, end_holder, TailRead}
-use Rattle.reuse_amend.proofs.JoinedLemmas.{rest_blank, between_split, tail_dated, PartsRead, parts_read, leading}
+use Rattle.reuse_amend.proofs.EndLemmas.{Holds, IsEnd, upto_joined, upto_holds, blanks_low, end_further}
+use Rattle.reuse_amend.proofs.EndLemmas.{end_blanks, run_read, run_end}
+use Rattle.reuse_amend.proofs.PartLemmas.{Anything, end_holder, TailRead}
+use Rattle.reuse_amend.proofs.JoinedLemmas.{rest_blank, between_split, tail_dated, parts_read, leading}
 use Rattle.reuse_amend.proofs.JoinedLemmas.{tail_found, value_cut}
 
 -- ---- UTF-8

@@ -1,6 +1,7 @@
 -- What a licence expression means: the tree that the grammar reads in it, in which AND binds before OR (docs/RULES.md,
 -- "Licence expressions").
-use Rattle.std.specs.Prelude.{◌≡◌, ℕ, Bool, true, false, not, ◌&&◌, List, [], ◌∷◌, ◌++◌, filter, if◌then◌else◌, codes}
+use Rattle.std.specs.Prelude.{◌≡◌, ℕ, Bool, true, false, not, ◌&&◌, List, [], ◌∷◌, ◌++◌, filter, fold}
+use Rattle.std.specs.Prelude.{if◌then◌else◌, codes}
 use Rattle.std.specs.Str.{bytes_eq}
 use Rattle.reuse_notice.specs.declared.expressions.Token.{Token}
 use Rattle.reuse_notice.specs.declared.expressions.Token.TheVariants.{Open, Close, Operator, With, Identifier}
@@ -76,3 +77,13 @@ meaning_replaced r new (excepted base exception) =
     excepted (meaning_replaced r new base) (exception_replaced r exception)
 meaning_replaced r new (both left right) = both (meaning_replaced r new left) (meaning_replaced r new right)
 meaning_replaced r new (either left right) = either (meaning_replaced r new left) (meaning_replaced r new right)
+
+-- ---- replacements in turn
+
+-- a replacement of an identifier, and what its NEW means
+abbrev pub IsMeant : Replacement × Meaning → Type 0
+IsMeant p = (is_identifier p.0.old ≡ true) × Means p.0.new p.1
+
+-- a meaning in which one replacement is made after the other, each in what those before it made
+abbrev pub meaning_in_turn : List (Replacement × Meaning) → Meaning → Meaning
+meaning_in_turn replacements meaning = fold (λ m p. meaning_replaced p.0 p.1 m) meaning replacements

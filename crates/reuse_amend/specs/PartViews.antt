@@ -1,5 +1,5 @@
 -- Spans of years and parts of a notice as they are lent, without where they lie in memory (this project's own).
-use Rattle.std.specs.Prelude.{ℕ, List, Option}
+use Rattle.std.specs.Prelude.{ℕ, List}
 use Rattle.std.specs.Borrow.{Bor}
 use Rattle.reuse_amend.specs.declared.year_spans.Span.{Span}
 use Rattle.reuse_amend.specs.declared.year_spans.Run.{Run}

@@ -6,8 +6,10 @@ use Rattle.std.specs.List.{AllByRecursion, list_any, starts_with}
 use Rattle.reuse_amend.specs.declared.replacements.Replacement.{Replacement}
 use Rattle.reuse_amend.specs.declared.amendments.Amendments.{Amendments}
 use Rattle.reuse_notice.specs.declared.tags.Years.{Years}
+use Rattle.reuse_notice.specs.declared.prefixes.Prefix.{Prefix}
 use Rattle.reuse_notice.specs.Prefixes.{copyright_sign}
-use Rattle.reuse_notice.specs.Tags.{is_blank, drop_front}
+use Rattle.reuse_notice.specs.Tags.{is_blank, all_blank, trimmed, drop_front}
+use Rattle.reuse_notice.specs.Adding.{notice_written}
 use Rattle.reuse_notice.specs.MergeSteps.{is_among}
 use Rattle.reuse_notice.specs.Plain.{IsPlain}
 use Rattle.reuse_notice.specs.ExpressionSteps.{fault_of}
@@ -33,6 +35,10 @@ NoLicenceComesBack (r ∷ later) =
 abbrev pub NoTextComesBack : List Replacement → Type 0
 NoTextComesBack [] = Unit {0}
 NoTextComesBack (r ∷ later) = AllByRecursion (λ s. s.new ≢ r.old) (r ∷ later) × NoTextComesBack later
+
+-- a text that is made of another one stays when the replacements are made again
+abbrev pub Settles : List Replacement → List ℕ → Type 0
+Settles replacements text = text_amended replacements (text_amended replacements text) ≡ text_amended replacements text
 
 -- nothing that is replaced comes back by the replacements
 pub record BringNothingBack (a : Amendments) : Type 0 where
@@ -93,3 +99,24 @@ CanBeWritten (Some years) = (years.low ≤ years.high) × (years.high ≤ 9999)
 abbrev pub HasFourDigits : Option ℕ → Type 0
 HasFourDigits None = Unit {0}
 HasFourDigits (Some year) = year ≤ 9999
+
+-- ---- notices that are read again for certain
+
+-- a notice that is written as an addition is, of a holder that can't be read on as years or a prefix, neither as it is
+-- nor as it becomes
+pub record IsPlainAddition (a : Amendments) (text : List ℕ) : Type 0 where
+  pub prefix : Prefix
+  pub years : Option Years
+  pub holder : List ℕ
+  pub is : text ≡ notice_written prefix years holder
+  pub can : CanBeWritten years
+  pub some : all_blank holder ≡ false
+  pub trim : trimmed is_blank holder ≡ holder
+  pub clear : may_be_read_on holder ≡ false
+  pub new_clear : may_be_read_on (text_amended a.replaced_holders holder) ≡ false
+
+-- amendments that change no notice: they only remove some
+pub record OnlyRemoveNotices (a : Amendments) : Type 0 where
+  pub replaced : a.replaced_holders ≡ []
+  pub until : a.until ≡ None
+  pub prefix : a.prefix ≡ None

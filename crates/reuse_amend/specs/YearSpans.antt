@@ -3,7 +3,7 @@
 use Rattle.std.specs.Prelude.{ℕ, zero, suc, ◌-◌, ◌==◌, Bool, true, false, ◌||◌, nat_eq, nat_le, List, [], ◌∷◌, length}
 use Rattle.std.specs.Prelude.{take, drop, fold, Option, None, Some, unwrap_or, if◌then◌else◌, codes}
 use Rattle.std.specs.List.{starts_with}
-use Rattle.std.specs.Option.{option_map, option_map_or, option_and_then, option_or}
+use Rattle.std.specs.Option.{option_map, option_and_then, option_or}
 use Rattle.reuse_notice.specs.Tags.{is_blank, drop_front, year_of}
 
 -- ---- pieces of a text

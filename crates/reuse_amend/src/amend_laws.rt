@@ -1,5 +1,6 @@
 //! Laws of the amendments.
-ghost use Rattle.std.specs.Prelude.{◌≡◌, ◌↔◌, ℕ, true, false, List, Option, None, Some, Contains, flat_map};
+ghost use Rattle.std.specs.Prelude.{◌≡◌, ◌↔◌, ℕ, true, false, List, Option, None, Some, Contains, map, flat_map};
+ghost use Rattle.std.specs.List.{AllByRecursion, list_any};
 ghost use Rattle.reuse_notice.specs.declared.infos.Info.{Info};
 ghost use Rattle.reuse_amend.specs.declared.amendments.Amendments.{Amendments};
 ghost use Rattle.reuse_notice.specs.declared.prefixes.Prefix.{Prefix};
@@ -9,10 +10,11 @@ ghost use Rattle.reuse_notice.specs.Infos.{says_the_same};
 ghost use Rattle.reuse_amend.specs.declared.replacements.Replacement.{Replacement};
 ghost use Rattle.reuse_notice.specs.Expressions.{IsExpressionText};
 ghost use Rattle.reuse_amend.specs.Pieces.{pieces_of, is_identifier};
-ghost use Rattle.reuse_amend.specs.Meanings.{Meaning, Means, meaning_replaced};
+ghost use Rattle.reuse_amend.specs.Meanings.{Meaning, Means, meaning_replaced, IsMeant, meaning_in_turn};
 ghost use Rattle.reuse_amend.specs.Amending.{amended, licence_replaced, licence_amended, text_amended, notice_amended};
 ghost use Rattle.reuse_amend.specs.Amending.{parts_amended, licence_alone, contributor_alone};
-ghost use Rattle.reuse_amend.specs.Named.{names_licence, names_contributor, names_notice};
+ghost use Rattle.reuse_amend.specs.Named.{names_licence, names_contributor, names_holder, names_notice, is_new};
+ghost use Rattle.reuse_amend.specs.Named.{leaves_licence, leaves_contributor, leaves_holder};
 ghost use Rattle.reuse_amend.specs.YearSpans.{spans_of};
 ghost use Rattle.reuse_amend.specs.NoticeParts.{Parts, parts_text, parts_of};
 ghost use Rattle.reuse_amend.specs.InPlace.{IsChangedInPlace, EachIncludes, goes_on, IsReadAlike, addition_amended};
@@ -22,7 +24,8 @@ ghost use Rattle.reuse_notice.specs.Adding.{without_spaces, is_bad_text, notice_
 ghost use Rattle.reuse_notice.specs.Merging.{says};
 ghost use Rattle.reuse_notice.specs.MergeSteps.{is_among};
 ghost use Rattle.reuse_notice.specs.Plain.{IsPlain};
-ghost use Rattle.reuse_amend.specs.Settled.{NoLicenceComesBack, BringNothingBack, ReadsAsAmended, CanBeWritten};
+ghost use Rattle.reuse_amend.specs.Settled.{NoLicenceComesBack, NoTextComesBack, BringNothingBack, ReadsAsAmended};
+ghost use Rattle.reuse_amend.specs.Settled.{CanBeWritten, IsPlainAddition, OnlyRemoveNotices, Settles};
 ghost use Rattle.reuse_amend.specs.Settled.{HasFourDigits, WritePlainTexts, may_be_misread, may_be_read_on};
 
 /// A licence is its pieces, put together: its tokens and the bytes between them.
@@ -52,6 +55,18 @@ pub fn unnamed_values_stay()
         → contributor_alone a value ≡ Some value }
     ensures notices { (a : Amendments) (notice : List ℕ) → names_notice a notice ≡ false → a.until ≡ None
         → a.prefix ≡ None → notice_amended a notice ≡ Some notice }
+{}
+
+/// What is left is named. What is named is left, unless it is what one of the replacements writes.
+pub fn what_is_named_is_left()
+    ensures licences { (a : Amendments) (value : List ℕ) → leaves_licence a value ≡ true
+        → names_licence a value ≡ true }
+    ensures contributors { (a : Amendments) (value : List ℕ) → leaves_contributor a value ≡ true
+        → names_contributor a value ≡ true }
+    ensures holders { (a : Amendments) (holder : List ℕ) → leaves_holder a holder ≡ true
+        → names_holder a holder ≡ true }
+    ensures written { (a : Amendments) (value : List ℕ) → names_licence a value ≡ true
+        → leaves_licence a value ≡ false → list_any (is_new value) a.replaced_licences ≡ true }
 {}
 
 /// The parts of a notice, put together, are its text. Amendments change them in place: the holder,
@@ -100,6 +115,15 @@ pub fn replaced_licences_keep_their_meaning()
         → Means result (meaning_replaced r new meaning) }
 {}
 
+/// So it is with several replacements in turn: the new expression means the old one, in which one
+/// replacement was made after the other. A later one replaces what an earlier one wrote, too.
+pub fn licences_replaced_in_turn_keep_their_meaning()
+    ensures { (replacements : List (Replacement × Meaning)) (value result : List ℕ) (meaning : Meaning)
+        → AllByRecursion IsMeant replacements → Means value meaning
+        → licence_amended (map (λ p. p.0) replacements) value ≡ Some result
+        → Means result (meaning_in_turn replacements meaning) }
+{}
+
 /// Amending what was amended changes nothing: not a licence, if the replacements bring in no
 /// licence that one of them replaced before; nor the information, if none brings back what it
 /// replaced, and each notice is read with what it was to say.
@@ -109,6 +133,25 @@ pub fn second_amendments_change_nothing()
     ensures information { (a : Amendments) (info new : Info) → BringNothingBack a → HasFourDigits a.until
         → ((text : List ℕ) → Contains info.notices text → ReadsAsAmended a text) → amended a info ≡ Some new
         → amended a new ≡ Some new }
+{}
+
+/// So it is of any notices that are written as additions are, if their holders can't be read on as
+/// years or a prefix. And it is of all notices, if the amendments only remove some.
+pub fn second_amendments_of_written_notices_change_nothing()
+    ensures additions { (a : Amendments) (info new : Info) → BringNothingBack a → WritePlainTexts a
+        → HasFourDigits a.until → ((text : List ℕ) → Contains info.notices text → IsPlainAddition a text)
+        → amended a info ≡ Some new → amended a new ≡ Some new }
+    ensures removals { (a : Amendments) (info new : Info) → OnlyRemoveNotices a → NoLicenceComesBack a.replaced_licences
+        → NoTextComesBack a.replaced_contributors → amended a info ≡ Some new → amended a new ≡ Some new }
+{}
+
+/// Replacing whole texts, of holders or contributors, once more changes nothing exactly if it
+/// changes nothing of what becomes of each OLD. So it is if none of them comes back.
+pub fn texts_settle_if_the_old_ones_do()
+    ensures exactly { (replacements : List Replacement) → ((text : List ℕ) → Settles replacements text)
+        ↔ AllByRecursion (λ r. Settles replacements r.old) replacements }
+    ensures enough { (replacements : List Replacement) (text : List ℕ) → NoTextComesBack replacements
+        → Settles replacements text }
 {}
 
 /// What amendments take to be written in the place of others is plain: expressions, and the texts

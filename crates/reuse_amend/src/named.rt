@@ -1,8 +1,9 @@
-//! Whether a value is one that amendments name: what they replace or remove. It says no more than
-//! that: the value need not be one that they can change.
+//! Whether a value is one that amendments leave: one that they replace or remove, and not what the
+//! replacement itself writes. It says no more than that: the value need not be one that they can
+//! change.
 ghost use Rattle.std.specs.Prelude.{◌≡◌};
-ghost use Rattle.reuse_amend.specs.Named.{is_old, has_token, is_old_licence, names_licence, names_contributor};
-ghost use Rattle.reuse_amend.specs.Named.{names_holder, names_notice};
+ghost use Rattle.reuse_amend.specs.Named.{is_new, has_token, is_old_licence, is_left_licence, is_left_text};
+ghost use Rattle.reuse_amend.specs.Named.{leaves_licence, leaves_contributor, leaves_holder, leaves_notice};
 ghost use Rattle.std.specs.List.{list_any};
 
 use crate::amendments::Amendments;
@@ -12,56 +13,79 @@ use crate::replacing::{after_token, front_token, is_identifier};
 use reuse_notice::{find_fault, is_among};
 
 /// Whether a value is a licence that is replaced or removed, or an expression with an identifier
-/// that is replaced.
-pub fn names_licence(amendments: &Amendments, value: &[u8]) -> bool
-    ensures { result ≡ names_licence amendments.now value.now }
+/// that is replaced. What a replacement writes isn't left by it.
+pub fn leaves_licence(amendments: &Amendments, value: &[u8]) -> bool
+    ensures { result ≡ leaves_licence amendments.now value.now }
 {
-    is_one_old_licence(amendments.replaced_licences.as_slice(), value)
+    is_one_left_licence(amendments.replaced_licences.as_slice(), value)
         || is_among(amendments.removed_licences.as_slice(), value)
 }
 
-/// Whether a value is a contributor that is replaced or removed.
-pub fn names_contributor(amendments: &Amendments, value: &[u8]) -> bool
-    ensures { result ≡ names_contributor amendments.now value.now }
+/// Whether a value is a contributor that is replaced or removed. What a replacement writes isn't
+/// left by it.
+pub fn leaves_contributor(amendments: &Amendments, value: &[u8]) -> bool
+    ensures { result ≡ leaves_contributor amendments.now value.now }
 {
-    is_one_old(amendments.replaced_contributors.as_slice(), value)
+    is_one_left(amendments.replaced_contributors.as_slice(), value)
         || is_among(amendments.removed_contributors.as_slice(), value)
 }
 
-/// Whether a text is a notice whose holder, as amend reads notices, is replaced or removed.
-pub fn names_notice(amendments: &Amendments, notice: &[u8]) -> bool
-    ensures { result ≡ names_notice amendments.now notice.now }
+/// Whether a text is a notice whose holder, as amend reads notices, is replaced or removed. What a
+/// replacement writes isn't left by it.
+pub fn leaves_notice(amendments: &Amendments, notice: &[u8]) -> bool
+    ensures { result ≡ leaves_notice amendments.now notice.now }
 {
     match read_parts(notice) {
         None => false,
-        Some(parts) => names_holder(amendments, parts.holder),
+        Some(parts) => leaves_holder(amendments, parts.holder),
     }
 }
 
-// Whether a holder is replaced or removed.
-fn names_holder(amendments: &Amendments, holder: &[u8]) -> bool
-    ensures { result ≡ names_holder amendments.now holder.now }
+// Whether a holder is left.
+fn leaves_holder(amendments: &Amendments, holder: &[u8]) -> bool
+    ensures { result ≡ leaves_holder amendments.now holder.now }
 {
-    is_one_old(amendments.replaced_holders.as_slice(), holder)
+    is_one_left(amendments.replaced_holders.as_slice(), holder)
         || is_among(amendments.removed_holders.as_slice(), holder)
 }
 
-// Whether a whole text is one of those that are replaced.
-fn is_one_old(replacements: &[Replacement], text: &[u8]) -> bool
-    ensures { result ≡ list_any (is_old text.now) replacements.now }
+// Whether one of some replacements leaves a whole text.
+fn is_one_left(replacements: &[Replacement], text: &[u8]) -> bool
+    ensures { result ≡ list_any (is_left_text text.now) replacements.now }
 {
     replacements
         .iter()
-        .any(|replacement| text == replacement.old.as_slice())
+        .any(|replacement| is_left_text(text, replacement))
 }
 
-// Whether one of some replacements names a licence.
-fn is_one_old_licence(replacements: &[Replacement], value: &[u8]) -> bool
-    ensures { result ≡ list_any (is_old_licence value.now) replacements.now }
+// Whether a whole text is the one that is replaced, and not the one that takes its place.
+fn is_left_text(text: &[u8], replacement: &Replacement) -> bool
+    ensures { result ≡ is_left_text text.now replacement.now }
+{
+    text == replacement.old.as_slice() && !is_new(text, replacement)
+}
+
+// Whether one of some replacements leaves a licence.
+fn is_one_left_licence(replacements: &[Replacement], value: &[u8]) -> bool
+    ensures { result ≡ list_any (is_left_licence value.now) replacements.now }
 {
     replacements
         .iter()
-        .any(|replacement| is_old_licence(value, replacement))
+        .any(|replacement| is_left_licence(value, replacement))
+}
+
+// Whether a replacement names a licence that it doesn't write.
+fn is_left_licence(value: &[u8], replacement: &Replacement) -> bool
+    ensures { result ≡ is_left_licence value.now replacement.now }
+{
+    is_old_licence(value, replacement) && !is_new(value, replacement)
+}
+
+// Whether a text is the one that a replacement writes.
+fn is_new(text: &[u8], replacement: &Replacement) -> bool
+    ensures { result ≡ is_new text.now replacement.now }
+{
+    text == replacement.new.as_slice()
 }
 
 // Whether a licence is the one that is replaced, or an expression with it.

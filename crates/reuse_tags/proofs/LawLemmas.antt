@@ -18,8 +18,8 @@ use Rattle.reuse_amend.proofs.PartLemmas.{Anything}
 use Rattle.reuse_tags.specs.Ignored.{read_part, ignores_next}
 use Rattle.reuse_tags.specs.Reading.{TagText, value_of, licence_tag, contributor_tag, notice_tag}
 use Rattle.reuse_tags.specs.Around.{around_of, is_bare}
-use Rattle.reuse_tags.specs.Left.{names_licence_in, names_contributor_in, names_notice_in, names_in_line}
-use Rattle.reuse_tags.specs.Left.{names_in_lines, leaves_values}
+use Rattle.reuse_tags.specs.Left.{named_by, has_licence, has_contributor, has_notice, has_in_line, has_in_lines}
+use Rattle.reuse_tags.specs.Left.{names_values}
 use Rattle.reuse_tags.specs.Everywhere
 use Rattle.reuse_tags.specs.Placed.{MayChangeAt, IsChangedInValues}
 use Rattle.reuse_tags.proofs.PlaceLemmas.{tag_last, notice_tag-last, joined}
@@ -102,7 +102,7 @@ own_value : (line : List ℕ) (t : TagText) → IsEnd Anything (read_part line) 
     → Everywhere.amended_at line t (Some (value_of t)) ≡ Some line
 own_value line t last = ap (λ l. Some l) (joined line t last)
 
-licence_stays : (a : Amendments) (line : List ℕ) → names_licence_in a (read_part line) ≡ false
+licence_stays : (a : Amendments) (line : List ℕ) → has_licence (named_by a) (read_part line) ≡ false
     → Everywhere.licence_amended_in a line ≡ Some (Some line)
 licence_stays a line e = by (licence_tag (read_part line)) refl e
   where
@@ -115,7 +115,7 @@ licence_stays a line e = by (licence_tag (read_part line)) refl e
         ap (option_map (Everywhere.amended_at line t)) (other_licence-kept a (value_of t) other)
         ∙ ap (λ l. Some l) (own_value line t (tag_last licence_lead (read_part line) t found))
 
-contributor_stays : (a : Amendments) (line : List ℕ) → names_contributor_in a (read_part line) ≡ false
+contributor_stays : (a : Amendments) (line : List ℕ) → has_contributor (named_by a) (read_part line) ≡ false
     → Everywhere.contributor_amended_in a line ≡ Some line
 contributor_stays a line e = by (contributor_tag (read_part line)) refl e
   where
@@ -127,8 +127,26 @@ contributor_stays a line e = by (contributor_tag (read_part line)) refl e
         ap (Everywhere.amended_at line t) (other_contributor-kept a (value_of t) other)
         ∙ own_value line t (tag_last contributor_lead (read_part line) t found)
 
+-- the bytes of some lines
+abbrev pub bytes_of : List (ℕ × TextLine) → List ℕ
+bytes_of [] = []
+bytes_of (line ∷ lines) = line_bytes line.1 ++ bytes_of lines
+
+placed_bytes : (start : ℕ) (lines : List TextLine) → bytes_of (placed start lines) ≡ text_of lines
+placed_bytes start [] = refl
+placed_bytes start (line ∷ lines) =
+    ap (λ rest. line_bytes line ++ rest)
+    (placed_bytes (start + length (line_bytes line)) lines)
+
+-- a text is its mark and its lines
+pub file_bytes : (text : List ℕ) → take (mark_len_of text) text ++ bytes_of (file_lines text) ≡ text
+file_bytes text =
+    ap (λ rest. take (mark_len_of text) text ++ rest)
+    (placed_bytes (mark_len_of text) (lines_of (after_mark text)) ∙ text_of-lines_of (after_mark text))
+    ∙ take-append-drop (mark_len_of text) text
+
 module _ (a : Amendments) (until : a.until ≡ None) (prefix : a.prefix ≡ None) where
-  notice_stays : (line : List ℕ) → names_notice_in a (read_part line) ≡ false
+  notice_stays : (line : List ℕ) → has_notice (named_by a) (read_part line) ≡ false
       → Everywhere.notice_amended_in a line ≡ Some line
   notice_stays line e = by (notice_tag (read_part line)) refl e
     where
@@ -140,47 +158,35 @@ module _ (a : Amendments) (until : a.until ≡ None) (prefix : a.prefix ≡ None
           ap (Everywhere.amended_at line t) (other_notice-kept a (value_of t) other until prefix)
           ∙ own_value line t (notice_tag-last (read_part line) t found)
 
-  line_stays : (line : List ℕ) → names_in_line a false line ≡ false → Everywhere.line_amended a line ≡ Some (Some line)
+  line_stays : (line : List ℕ) → has_in_line (named_by a) false line ≡ false
+      → Everywhere.line_amended a line ≡ Some (Some line)
   line_stays line e =
       let part = read_part line in
-      let outer = or_parts (names_licence_in a part || names_contributor_in a part) (names_notice_in a part) e in
-      let inner = or_parts (names_licence_in a part) (names_contributor_in a part) outer.0 in
+      let outer = or_parts (has_licence (named_by a) part || has_contributor (named_by a) part)
+      (has_notice (named_by a) part) e in
+      let inner = or_parts (has_licence (named_by a) part) (has_contributor (named_by a) part) outer.0 in
       ap (option_map (option_and_then (Everywhere.names_amended_in a))) (licence_stays a line inner.0)
       ∙ ap (λ o. Some (option_and_then (Everywhere.notice_amended_in a) o)) (contributor_stays a line inner.1)
       ∙ ap (λ o. Some o) (notice_stays line outer.1)
 
-  bytes_stay : (ignored : Bool) (line : TextLine) → names_in_line a ignored line.content ≡ false
+  bytes_stay : (ignored : Bool) (line : TextLine) → has_in_line (named_by a) ignored line.content ≡ false
       → Everywhere.bytes_made a ignored line ≡ Some (line_bytes line)
   bytes_stay true line e = refl
   bytes_stay false line e = ap (option_map (Everywhere.kept_bytes line.ending)) (line_stays line.content e)
 
-  -- the bytes of some lines
-  abbrev bytes_of : List (ℕ × TextLine) → List ℕ
-  bytes_of [] = []
-  bytes_of (line ∷ lines) = line_bytes line.1 ++ bytes_of lines
-
-  lines_stay : (ignored : Bool) (lines : List (ℕ × TextLine)) → names_in_lines a ignored lines ≡ false
+  lines_stay : (ignored : Bool) (lines : List (ℕ × TextLine)) → has_in_lines (named_by a) ignored lines ≡ false
       → Everywhere.lines_made a ignored lines ≡ Some (bytes_of lines)
-  unfolding names_in_lines Everywhere.lines_made
+  unfolding has_in_lines Everywhere.lines_made
   lines_stay ignored [] e = refl
   lines_stay ignored (line ∷ lines) e =
-      let both = or_parts (names_in_line a ignored line.1.content)
-      (names_in_lines a (ignores_next ignored line.1.content) lines) e in
+      let both = or_parts (has_in_line (named_by a) ignored line.1.content)
+      (has_in_lines (named_by a) (ignores_next ignored line.1.content) lines) e in
       ap (option_and_then (λ made. option_map (λ rest. made ++ rest)
       (Everywhere.lines_made a (ignores_next ignored line.1.content) lines))) (bytes_stay ignored line.1 both.0)
       ∙ ap (option_map (λ rest. line_bytes line.1 ++ rest))
       (lines_stay (ignores_next ignored line.1.content) lines both.1)
 
-  placed_bytes : (start : ℕ) (lines : List TextLine) → bytes_of (placed start lines) ≡ text_of lines
-  placed_bytes start [] = refl
-  placed_bytes start (line ∷ lines) =
-      ap (λ rest. line_bytes line ++ rest)
-      (placed_bytes (start + length (line_bytes line)) lines)
-
-  pub text_stays : (text : List ℕ) → leaves_values a text ≡ false → Everywhere.amended_everywhere a text ≡ Some text
+  pub text_stays : (text : List ℕ) → names_values a text ≡ false → Everywhere.amended_everywhere a text ≡ Some text
   text_stays text e =
-      let mark = take (mark_len_of text) text in
-      ap (option_map (λ rest. mark ++ rest)) (lines_stay false (file_lines text) e)
-      ∙ ap (λ rest. Some (mark ++ rest))
-      (placed_bytes (mark_len_of text) (lines_of (after_mark text)) ∙ text_of-lines_of (after_mark text))
-      ∙ ap (λ all. Some all) (take-append-drop (mark_len_of text) text)
+      ap (option_map (λ rest. take (mark_len_of text) text ++ rest)) (lines_stay false (file_lines text) e)
+      ∙ ap (λ all. Some all) (file_bytes text)

@@ -2,3 +2,4 @@ pub mod EndLemmas
 pub mod EverywhereLemmas
 pub mod PlaceLemmas
 pub mod LawLemmas
+pub mod LeftLemmas

@@ -1,23 +1,32 @@
 //! What amendments leave of what they name, in any text. It includes what they could not change.
 ghost use Rattle.std.specs.Prelude.{◌≡◌};
-ghost use Rattle.reuse_tags.specs.Left.{names_licence_in, names_contributor_in, names_notice_in, names_in_line};
+ghost use Rattle.reuse_tags.specs.Left.{left_by, has_licence, has_contributor, has_notice, has_in_line};
 ghost use Rattle.reuse_tags.specs.Left.{leaves_values};
 
 use crate::ignored::{ignores_next, read_part};
 use crate::reading::{contributor_tag, licence_tag, notice_tag, value_of};
-use reuse_amend::{Amendments, names_contributor, names_licence, names_notice};
+use reuse_amend::{Amendments, holds_named, leaves_contributor, leaves_licence, leaves_notice};
 use reuse_text::Lines;
 
-/// Whether a tag of a text has a value that the amendments name, outside of
+/// Whether a tag of a text has a value that the amendments leave, outside of
 /// `REUSE-IgnoreStart .. REUSE-IgnoreEnd`.
-#[tactic(auto, unfolding(crate::specs::Left::names_in_lines))]
+#[tactic(auto, using(crate::proofs::LeftLemmas::unheld_text))]
 pub fn leaves(amendments: &Amendments, text: &[u8]) -> bool
+    ensures { result ≡ leaves_values amendments.now text.now }
+{
+    // Most texts hold nothing that is named, and need not be read line by line.
+    holds_named(amendments, text) && leaves_in_lines(amendments, text)
+}
+
+// Whether a tag of one of its lines has.
+#[tactic(auto, unfolding(crate::specs::Left::has_in_lines))]
+fn leaves_in_lines(amendments: &Amendments, text: &[u8]) -> bool
     ensures { result ≡ leaves_values amendments.now text.now }
 {
     let mut lines = Lines::new(text);
     let mut ignored = false;
     'lines: while let Some(line) = lines.next() {
-        if names_in_line(amendments, ignored, line.content) {
+        if leaves_in_line(amendments, ignored, line.content) {
             return true;
         }
         ignored = ignores_next(ignored, line.content);
@@ -25,46 +34,46 @@ pub fn leaves(amendments: &Amendments, text: &[u8]) -> bool
     false
 }
 
-// Whether a tag of a line has a value that the amendments name, outside of a region that isn't
+// Whether a tag of a line has a value that the amendments leave, outside of a region that isn't
 // read.
-fn names_in_line(amendments: &Amendments, ignored: bool, line: &[u8]) -> bool
-    ensures { result ≡ names_in_line amendments.now ignored line.now }
+fn leaves_in_line(amendments: &Amendments, ignored: bool, line: &[u8]) -> bool
+    ensures { result ≡ has_in_line (left_by amendments.now) ignored line.now }
 {
     if ignored {
         return false;
     }
     let part = read_part(line);
-    names_licence_in(amendments, part)
-        || names_contributor_in(amendments, part)
-        || names_notice_in(amendments, part)
+    leaves_licence_in(amendments, part)
+        || leaves_contributor_in(amendments, part)
+        || leaves_notice_in(amendments, part)
 }
 
-// Whether the licence of a line is one that the amendments name.
-fn names_licence_in(amendments: &Amendments, line: &[u8]) -> bool
-    ensures { result ≡ names_licence_in amendments.now line.now }
+// Whether the amendments leave the licence of a line.
+fn leaves_licence_in(amendments: &Amendments, line: &[u8]) -> bool
+    ensures { result ≡ has_licence (left_by amendments.now) line.now }
 {
     match licence_tag(line) {
         None => false,
-        Some(place) => names_licence(amendments, value_of(place)),
+        Some(place) => leaves_licence(amendments, value_of(place)),
     }
 }
 
-// Whether the contributor of a line is one that the amendments name.
-fn names_contributor_in(amendments: &Amendments, line: &[u8]) -> bool
-    ensures { result ≡ names_contributor_in amendments.now line.now }
+// Whether they leave the contributor of a line.
+fn leaves_contributor_in(amendments: &Amendments, line: &[u8]) -> bool
+    ensures { result ≡ has_contributor (left_by amendments.now) line.now }
 {
     match contributor_tag(line) {
         None => false,
-        Some(place) => names_contributor(amendments, value_of(place)),
+        Some(place) => leaves_contributor(amendments, value_of(place)),
     }
 }
 
-// Whether the notice of a line is one that the amendments name.
-fn names_notice_in(amendments: &Amendments, line: &[u8]) -> bool
-    ensures { result ≡ names_notice_in amendments.now line.now }
+// Whether they leave the notice of a line.
+fn leaves_notice_in(amendments: &Amendments, line: &[u8]) -> bool
+    ensures { result ≡ has_notice (left_by amendments.now) line.now }
 {
     match notice_tag(line) {
         None => false,
-        Some(place) => names_notice(amendments, value_of(place)),
+        Some(place) => leaves_notice(amendments, value_of(place)),
     }
 }

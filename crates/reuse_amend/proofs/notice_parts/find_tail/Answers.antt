@@ -1,6 +1,5 @@
-use Rattle.std.proofs.Common.{◌≡◌, ◌+◌, ◌-◌, ◌∙◌, sym, ap, arith, suc, None, Some}
+use Rattle.std.proofs.Common.{◌≡◌, ◌+◌, ◌-◌, ◌∙◌, sym, ap, arith, suc}
 use Rattle.std.specs.Prelude.{option_map}
-use Rattle.reuse_amend.specs.NoticeParts.{next_searched}
 use Rattle.reuse_amend.proofs.TailLemmas.{tail-zero, tail-stop, tail-more}
 use Rattle.reuse_amend.proofs.notice_parts.find_tail.Goals as goal
 

@@ -1,6 +1,5 @@
-use Rattle.std.proofs.Common.{◌≡◌, ◌+◌, ◌-◌, ◌∙◌, sym, ap, arith, Some, None, length, suc}
+use Rattle.std.proofs.Common.{◌≡◌, ◌+◌, ◌-◌, ◌∙◌, sym, ap, arith, length, suc}
 use Rattle.std.specs.Prelude.{option_map}
-use Rattle.reuse_amend.specs.YearSpans.{span_front, next_span, RunText, run_front}
 use Rattle.reuse_amend.specs.PartViews.{span_view, run_view}
 use Rattle.reuse_amend.proofs.RunLemmas.{from_run, run-none, run-begin, run-more, run-end, run-zero}
 use Rattle.reuse_amend.proofs.year_spans.read_run.Goals as goal
