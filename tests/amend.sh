@@ -15,15 +15,7 @@ export PYTHONDONTWRITEBYTECODE=1
 tree=$room/tree
 mit='# SPDX-License-Identifier: MIT\n' isc='# SPDX-License-Identifier: ISC\n'
 
-# What a call of amend prints, and its status
-told() {
-  local status=0
-  "$program" --root "$tree" amend "$@" > "$room/told" 2>&1 || status=$?
-  cat "$room/told"
-  echo "status $status"
-}
-
-is() { [[ $1 == "$2" ]] || fail "$3: $1"; }
+told() { answer_of amend "$@"; }
 
 has_line() { grep -qxF -- "$2" "$1" || fail "no line $2: $(< "$1")"; }
 

@@ -236,7 +236,9 @@ choices() {
 # What an amendment leaves of what it names
 left() {
   local one=(amend --replace-license MIT ISC -r .) mit='# SPDX-License-Identifier: MIT\n'
-  local what='what the call names: amend changes header blocks, neighbours and REUSE.toml alone'
+  local what='what the call names: amend changes header blocks, neighbours and REUSE.toml alone, '
+  local beside='what the call names: what is removed stays if other text stands on its line'
+  what+='and with --everywhere each tag of a text'
   local change='1 file changed; .*'
   files a.py "$mit" script "$mit"
   notes "${one[@]}" : "$change" "1 path still holds $what"
@@ -252,6 +254,13 @@ left() {
   files a.py "$mit" script "$mit"
   notes amend --remove-license MIT -r . -n : 'neither a licence .*' "1 path still holds $what"
   notes amend --remove-license MIT -r . : 'neither a licence .*'
+  # With --everywhere another note says why
+  one+=(--everywhere)
+  files b.py "$mit\n$mit" script "$mit"
+  notes "${one[@]}" : '2 files changed; .*'
+  files a.py "x = 1  $mit" script "$mit"
+  notes amend --remove-license MIT -r . --everywhere -n : "1 path still holds $beside"
+  notes amend --replace-license MIT 'MIT OR ISC' -r . --everywhere : '2 files changed; .*'
 }
 
 # A header in a file that had none, where its first line may have to stay the first

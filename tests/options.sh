@@ -119,6 +119,7 @@ words() {
   refuses "$line--style|c|--style|c" 'cannot be used multiple times'
   tells "$line--exclude-year|-y|2024" 2 '--year and --exclude-year'
   refuses "$line--texts|x" 'unexpected argument'
+  refuses "$line--everywhere" 'unexpected argument'
   refuses "$line--files-from|x" --recursive
   refuses "$line--exclude|x" --recursive
   tells "$line-r|--exclude|a\\b" 2 'bad glob: a\\b'
@@ -156,12 +157,13 @@ amend_words() {
   for option in '--replace-license <OLD> <NEW>' '--remove-license <EXPR>' \
     '--replace-holder <OLD> <NEW>' '--remove-holder <HOLDER>' \
     '--replace-contributor <OLD> <NEW>' '--remove-contributor <TEXT>' '--until <YEAR>' \
-    '--copyright-prefix <NAME>' '--holder <HOLDER>' '-s, --style <NAME>' '-r, --recursive' \
+    '--copyright-prefix <NAME>' '--holder <HOLDER>' --everywhere '-s, --style <NAME>' \
+    '-r, --recursive' \
     '--files-from <FILE>' '--exclude <GLOB>' '-n, --dry-run' --check --diff --json; do
     [[ $out == *" $option "* || $out == *" $option"$'\n'* ]] ||
       differs "help of amend without $option"
   done
-  for line in 'a.py' '-r|.' 'a.py|--dry-run' '-s|python|a.py'; do
+  for line in 'a.py' '-r|.' 'a.py|--dry-run' '-s|python|a.py' '--everywhere|a.py'; do
     tells "amend|$line" 2 'nothing to amend'
   done
   for line in '--holder|A|a.py' '--holder|A|--remove-holder|B|a.py'; do
@@ -174,6 +176,9 @@ amend_words() {
   refuses 'amend|--until|2026|--until|2027|a.py' 'cannot be used multiple times'
   refuses 'amend|--copyright-prefix|none|a.py' 'invalid value'
   refuses 'amend|--until|2026|--style|none|a.py' 'invalid value'
+  refuses 'amend|--until|2026|--style|c|--everywhere|a.py' 'cannot be used with'
+  refuses 'amend|--until|2026|--everywhere|-s|c|a.py' 'cannot be used with'
+  refuses 'amend|--until|2026|--everywhere|--everywhere|a.py' 'cannot be used multiple times'
   refuses 'amend|--until|2026|--exclude|x|a.py' --recursive
   refuses 'amend|--until|2026|--files-from|x|a.py' --recursive
   refuses 'amend|--until|2026|--force-dot-license|a.py' 'unexpected argument'

@@ -101,8 +101,8 @@ _reuse_undo() {
         ;;
       amend)
         _reuse_undo_of "--replace-license --remove-license --replace-holder --remove-holder --replace-contributor
-          --remove-contributor --until --copyright-prefix --holder --style --recursive --files-from --exclude
-          --exit-non-zero-on-change --dry-run --check --diff --json $every --help"
+          --remove-contributor --until --copyright-prefix --holder --everywhere --style --recursive
+          --files-from --exclude --exit-non-zero-on-change --dry-run --check --diff --json $every --help"
         ;;
       styles)
         _reuse_undo_of "--add --all --comments --files-from --exclude --exit-non-zero-on-change --dry-run --check

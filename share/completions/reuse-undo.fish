@@ -132,6 +132,7 @@ complete $amend -l remove-contributor -x -d 'Remove a contributor'
 complete $amend -l until -x -d 'The year that the years of notices are to reach'
 complete $amend -l copyright-prefix -x -a $prefixes -d 'What a notice begins with'
 complete $amend -l holder -x -d 'The holder whose notices get the year or the prefix'
+complete $amend -l everywhere -d 'Amend each tag of a text, wherever it stands'
 complete $amend -s s -l style -x -a 'python c css html haskell tex lisp semicolon ml vim' \
     -d 'The comment style of all paths'
 complete $amend -s r -l recursive -d 'Amend the files beneath folders'

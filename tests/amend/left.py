@@ -35,14 +35,19 @@ def notice_of(line):
 
 
 def names_licence(value, amendments):
-    for old, _ in amendments.replaced["licence"]:
+    for old, new in amendments.replaced["licence"]:
+        if value == new:
+            continue
         if value == old or is_name(old) and is_expression(value) and old in pieces_of(value):
             return True
     return value in amendments.removed["licence"]
 
 
 def names_text(part, text, amendments):
-    return text in [old for old, _ in amendments.replaced[part]] + amendments.removed[part]
+    for old, new in amendments.replaced[part]:
+        if text == old != new:
+            return True
+    return text in amendments.removed[part]
 
 
 def names_in_line(line, amendments):

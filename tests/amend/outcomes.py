@@ -1,4 +1,5 @@
 """What amend does at each path of a tree, told once more by docs/RULES.md alone."""
+import everywhere
 import left
 import tables
 from retelling import (
@@ -12,6 +13,10 @@ def made_of(tree, path, amendments, style, own):
     name = style or style_of(path, own)
     if is_table(path):
         return path, tables.amend_table(tree[path], amendments)
+    if amendments.everywhere:
+        if place != path and not is_text(tree[place]):
+            raise Refused("neighbour is not text")
+        return place, everywhere.amend_text(tree[place], amendments)
     if place != path:
         return place, amend_neighbour(tree[place], amendments)
     if name in STYLES and is_text(tree[path]):

@@ -1,6 +1,6 @@
 """Compares amend with its rules told once more, on random trees with random options. Arguments: the
-program, a folder to work in, how many trees, and the seed of the first. The tags below are data:
-REUSE-IgnoreStart"""
+program, a folder to work in, how many trees, the seed of the first, and perhaps `--everywhere`,
+which each call has then. The tags below are data: REUSE-IgnoreStart"""
 import random
 import sys
 
@@ -206,8 +206,8 @@ def tree_of(chance):
     return tree, own
 
 
-def options_of(chance):
-    one, options = chance.choice, []
+def options_of(chance, always):
+    one, options = chance.choice, list(always)
     for _ in range(chance.randint(2, 5)):
         kind = chance.random()
         if kind < 0.35:
@@ -228,9 +228,9 @@ def options_of(chance):
             options += ["--copyright-prefix", chance.choice(sorted(retelling.PREFIXES))]
     if ("--until" in options or "--copyright-prefix" in options) and chance.random() < 0.5:
         options += ["--holder", " " + chance.choice(HOLDERS)]
-    if not options:
-        options = ["--until", "2026"]
-    if chance.random() < 0.1:
+    if options == always:
+        options += ["--until", "2026"]
+    if chance.random() < 0.1 and not always:
         options += ["--style", chance.choice(sorted(retelling.STYLES))]
     return options
 
@@ -241,7 +241,7 @@ def main():
     for number in range(seed, seed + count):
         chance = random.Random(number)
         tree, own = tree_of(chance)
-        options = options_of(chance)
+        options = options_of(chance, sys.argv[5:])
         fault, became = runs.fault_of(program, room + "/tree", tree, options, own)
         if fault:
             sys.exit(f"tree {number}, {options}: {fault}")

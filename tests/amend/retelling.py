@@ -345,13 +345,15 @@ def replace_licence(value, old, new):
 # ---- amendments
 
 class Amendments:
-    """`replaced` and `removed` have lists for licence, holder and contributor. `reads_back`: whether
-    each notice so far is read again as the parts that it was put together of."""
+    """`replaced` and `removed` have lists for licence, holder and contributor. `everywhere`: whether
+    each tag is amended where it stands. `reads_back`: whether each notice so far is read again as
+    the parts that it was put together of."""
 
     def __init__(self):
         self.replaced = {"licence": [], "holder": [], "contributor": []}
         self.removed = {"licence": [], "holder": [], "contributor": []}
         self.until = self.prefix = self.holder = None
+        self.everywhere = False
         self.reads_back = True
 
     def text(self, part, text):

@@ -24,7 +24,9 @@ OPTIONS = {
 
 def amendments_of(options):
     """What the options of a call say, and its style."""
-    asked, style, options = retelling.Amendments(), None, list(options)
+    asked, style = retelling.Amendments(), None
+    asked.everywhere = "--everywhere" in options
+    options = [option for option in options if option != "--everywhere"]
     while options:
         option = OPTIONS[options.pop(0)]
         first = options.pop(0).strip(" ")

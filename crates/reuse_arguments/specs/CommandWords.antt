@@ -1,12 +1,15 @@
 -- What the words of `annotate` and `amend` ask for (docs/REFERENCE.md). The first mistake is reported: a word that
 -- names no place comes before what is to be added or changed, and that before a glob that is none.
-use Rattle.std.specs.Prelude.{ℕ, List, Option, None, Some, Result, Ok, codes, map}
+use Rattle.std.specs.Prelude.{ℕ, Bool, List, Option, None, Some, Result, Ok, codes, map, if◌then◌else◌}
 use Rattle.reuse_notice.specs.Adding.{Arguments, additions_of, refusal_of, without_spaces}
 use Rattle.reuse_notice.specs.declared.adding.Additions.{Additions}
+use Rattle.reuse_amend.specs.declared.amendments.Amendments.{Amendments}
 use Rattle.reuse_notice.specs.declared.prefixes.Prefix.{Prefix}
 use Rattle.reuse_notice.specs.declared.prefixes.Prefix.TheVariants.{Spdx}
 use Rattle.reuse_command.specs.declared.command.Command.{Command}
 use Rattle.reuse_command.specs.declared.command.Command.TheVariants.{Annotate, Amend}
+use Rattle.reuse_command.specs.declared.command.FileAmendment.{FileAmendment}
+use Rattle.reuse_command.specs.declared.command.FileAmendment.TheVariants.{InHeader, Everywhere}
 use Rattle.reuse_command.specs.declared.command.Scope.{Scope}
 use Rattle.reuse_arguments.specs.AmendSteps.{prefix_read}
 use Rattle.reuse_arguments.specs.AmendWords.{amendments_read}
@@ -61,9 +64,13 @@ annotate_read found context =
     then_read (scope_read found) (λ scope.
     Ok (Annotate places additions (how_of found) scope))))
 
+-- what becomes of a file: each tag of its text is amended, or its header block
+abbrev pub amendment_of : Bool → Amendments → FileAmendment
+amendment_of everywhere amendments = if everywhere then Everywhere amendments else InHeader amendments
+
 unfoldable pub amend_read : Rows → ContextView → Result Command Mistake
 amend_read found context =
     then_read (places_read context.folder found) (λ places.
     then_read (amendments_read found) (λ amendments.
     then_read (scope_read found) (λ scope.
-    Ok (Amend places amendments scope))))
+    Ok (Amend places (amendment_of (flag found (codes "everywhere")) amendments) scope))))

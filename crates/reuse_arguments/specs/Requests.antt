@@ -33,7 +33,7 @@ with_texts texts request = request
 abbrev pub command_listed : List (List ℕ) → Command → Command
 command_listed paths (Annotate places additions how scope) =
     Annotate places additions how (record scope { listed = Some paths })
-command_listed paths (Amend places amendments scope) = Amend places amendments (record scope { listed = Some paths })
+command_listed paths (Amend places amendment scope) = Amend places amendment (record scope { listed = Some paths })
 command_listed paths command = command
 
 abbrev pub call_listed : List (List ℕ) → Call → Call

@@ -71,6 +71,13 @@ pub const AMEND: &[Argument] = &[
         "With --until or --copyright-prefix, change the notices of HOLDER alone",
     ),
     Argument(
+        "everywhere",
+        None,
+        ArgumentKind::Nothing,
+        Constraint::Excludes("style"),
+        "Amend each tag of a text, wherever it stands; not with --style",
+    ),
+    Argument(
         "style",
         Some('s'),
         ArgumentKind::Style,

@@ -48,9 +48,13 @@ GPL-2.0, it is replaced within expressions, too, and GPL-2.0+ and GPL-2.0-only a
 licences are replaced, then removed; then holders and contributors; last come years and prefix.
 So HOLDER is as --replace-holder leaves it. A text that begins with `-` takes a space in front.
 
-Examples: another licence, another name of a holder, this year in all notices of a holder, and the
-files without a contributor:
+With --everywhere the value of each tag changes where it stands, below the header, behind code and
+in files without a style, too. All else stays, but a line on which nothing is left goes.
+
+Examples: another licence, the same in each tag, another name of a holder, this year in all notices
+of a holder, and the files without a contributor:
   reuse-undo amend --replace-license GPL-2.0 GPL-2.0-or-later --recursive .
+  reuse-undo amend --replace-license GPL-2.0 GPL-2.0-or-later --everywhere --recursive .
   reuse-undo amend --replace-holder \"Jane Doe\" \"Jane Roe\" --recursive . --dry-run --diff
   reuse-undo amend --until 2026 --holder \"Jane Doe\" --recursive src
   reuse-undo amend --remove-contributor \"Joe Bloggs\" --recursive .";

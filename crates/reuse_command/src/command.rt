@@ -77,6 +77,29 @@ pub struct Scope {
     pub excluded: Globs,
 }
 
+/// What amend does with a file.
+#[derive(Debug, Drop)]
+pub enum FileAmendment {
+    /// It amends the values in the file's header block, or in its neighbour.
+    InHeader(Amendments),
+    /// It amends the values of each tag of its text, or of its neighbour's, where they stand.
+    Everywhere(Amendments),
+}
+
+impl FileAmendment {
+    ghost use Rattle.reuse_command.specs.Command.{values_of};
+
+    /// What is amended.
+    pub fn values(&self) -> &Amendments
+        ensures { result.now ≡ values_of self.now }
+    {
+        match self {
+            FileAmendment::InHeader(values) => values,
+            FileAmendment::Everywhere(values) => values,
+        }
+    }
+}
+
 /// What a session can be asked to do.
 #[derive(Debug, Drop)]
 pub enum Command {
@@ -95,8 +118,8 @@ pub enum Command {
     Amend {
         /// The files.
         places: Places,
-        /// What is amended in each.
-        amendments: Amendments,
+        /// What is amended in each, and where in it.
+        amendment: FileAmendment,
         /// Which files are gone through, and their style. Of the scope only `recursive`, `style`,
         /// `listed` and `excluded` count.
         scope: Scope,

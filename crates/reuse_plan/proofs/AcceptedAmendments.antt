@@ -13,23 +13,29 @@ use Rattle.reuse_toml.specs.TomlAmending.{toml_amendment_of}
 use Rattle.reuse_style.specs.declared.style.Style.{Style}
 use Rattle.reuse_header.specs.Amendment.{amended_file, amendment_of, neighbour_amendment_of}
 use Rattle.reuse_header.specs.Neighbour.{is_text}
+use Rattle.reuse_tags.specs.Everywhere.{amended_everywhere}
 use Rattle.reuse_change.specs.Listing.{is_folder}
 use Rattle.reuse_plan.specs.Accepted.{CanNeighbourBeAmended, CanFileBeAmended, CanBeAmended, CanAmend, FitsEntry}
-use Rattle.reuse_plan.specs.Accepted.{CanTableBeAmended, CanCoveredBeAmended}
+use Rattle.reuse_plan.specs.Accepted.{CanTableBeAmended, CanCoveredBeAmended, CanTextBeAmended}
+use Rattle.reuse_plan.specs.Accepted.{IsNeighbourAccepted, IsTextAccepted, StaysUnread}
 use Rattle.reuse_plan.specs.Amend.{style_or_named, style_for, amendment_edit, amend_neighbour, amend_inside}
 use Rattle.reuse_plan.specs.Amend.{amend_covered, amended_where, amended_at, table_edit, table_amendment, amended_table}
-use Rattle.reuse_plan.specs.Amend.{amend_table}
+use Rattle.reuse_plan.specs.Amend.{amend_beside, amend_own_text, amend_table, stays_unread, text_edit}
 use Rattle.reuse_plan.specs.AmendmentPlan.{Expected}
 use Rattle.reuse_plan.specs.Annotate.{neighbour_of}
 use Rattle.reuse_plan.specs.Annotated.{IsStyleOf}
-use Rattle.reuse_command.specs.Command.{has_root}
+use Rattle.reuse_command.specs.Command.{has_root, values_of}
 use Rattle.reuse_plan.specs.Tables.{is_table}
 use Rattle.reuse_command.specs.Covered.{is_covered}
+use Rattle.reuse_plan.specs.Edit.{edit_between}
 use Rattle.reuse_plan.specs.Outcome.{Edit, outcome_of, edits_of}
 use Rattle.reuse_plan.specs.TreeStyles.{styles_in}
 use Rattle.reuse_style.specs.Kinds.{OwnKinds, kind_of_file}
 use Rattle.reuse_plan.specs.Selected.{amended_paths}
 use Rattle.reuse_command.specs.declared.command.Command.TheVariants.{Amend}
+use Rattle.reuse_command.specs.declared.command.FileAmendment.{FileAmendment}
+use Rattle.reuse_command.specs.declared.command.FileAmendment.TheVariants.{InHeader, Everywhere}
+use Rattle.reuse_command.specs.declared.header_fault.HeaderFault.TheVariants as faults
 use Rattle.reuse_command.specs.declared.command.Place.{Place}
 use Rattle.reuse_command.specs.declared.command.Place.TheVariants as place
 use Rattle.reuse_command.specs.declared.command.Scope.{Scope}
@@ -44,8 +50,7 @@ use Rattle.reuse_plan.proofs.Outcomes.{edits_of_tree, done, held, tree_comes}
 use Rattle.reuse_plan.proofs.Results.{err_or}
 use Rattle.reuse_plan.proofs.CommandEdits.{edits_at, amendments_by_names, amendment_edits, of_amendment}
 use Rattle.reuse_plan.proofs.TableLemmas.{not_table}
-use Rattle.reuse_plan.specs.Accepted.{HasNoStyleUnread}
-use Rattle.reuse_plan.specs.Amend.{amend_block, has_no_style_unread}
+use Rattle.reuse_plan.specs.Amend.{amend_block}
 use Rattle.reuse_plan.proofs.AmendedFiles.{reason_unread, unread_reason}
 
 not_false : (b : Bool) → not b ≡ false → b ≡ true
@@ -87,80 +92,138 @@ table_accepted path bytes (Ok None) given h = refl
 table_accepted path bytes (Ok (Some change)) given h = refl
 table_accepted path bytes (Err refusal) given h = absurd (cc)
 
-module _ (amendments : Amendments) (scope : Scope) (own : OwnKinds) (tree : Files) (path : List ℕ) where
+-- each tag of a text: what the rules accept is done, and what is done they accept
+text_done : (values : Amendments) (path at bytes : List ℕ) → CanTextBeAmended values bytes
+    → IsDone (text_edit path at bytes (amended_everywhere values bytes))
+text_done values path at bytes can = (
+  edit_between at bytes can.0,
+  ap (text_edit path at bytes) can.1 ∙ ap (λ b. cond b (Err (refusals.Header path faults.TooLong))
+      (done (edit_between at bytes can.0))) (le-ltb LONGEST_FILE (length can.0) can.2),
+)
+
+text_accepted : (values : Amendments) (path at bytes : List ℕ) (given : Option Edit)
+    → text_edit path at bytes (amended_everywhere values bytes) ≡ Ok given → CanTextBeAmended values bytes
+text_accepted values path at bytes given h = of_text (amended_everywhere values bytes) refl h
+  where
+    of_text : (made : Option (List ℕ)) → amended_everywhere values bytes ≡ made
+        → text_edit path at bytes made ≡ Ok given → CanTextBeAmended values bytes
+    of_text None is e = absurd (cc)
+    of_text (Some new) is e =
+        let fits = err_or (nat_lt LONGEST_FILE (length new)) (refusals.Header path faults.TooLong) _ given e in
+        (new, is, ltb-false LONGEST_FILE (length new) fits.0)
+
+-- a neighbour
+beside_is_done : (amendment : FileAmendment) (path beside : List ℕ) → IsNeighbourAccepted amendment beside
+    → IsDone (amend_beside amendment path beside)
+beside_is_done (InHeader values) path beside can =
+    amendment_done path (neighbour_of path) beside (neighbour_amendment_of values beside) can
+beside_is_done (Everywhere values) path beside can =
+    done_rest _ _ _ (ap not can.0) (text_done values path (neighbour_of path) beside can.1)
+
+beside_accepted : (amendment : FileAmendment) (path beside : List ℕ) (given : Option Edit)
+    → amend_beside amendment path beside ≡ Ok given → IsNeighbourAccepted amendment beside
+beside_accepted (InHeader values) path beside given h =
+    amendment_accepted path (neighbour_of path) beside (neighbour_amendment_of values beside) given h
+beside_accepted (Everywhere values) path beside given h =
+    let text = err_or (not (is_text beside)) (refusals.Header path faults.NotText) _ given h in
+    (not_false (is_text beside) text.0, text_accepted values path (neighbour_of path) beside given text.1)
+
+-- a file that is text
+module _ (scope : Scope) (own : OwnKinds) (path bytes : List ℕ) where
+  own_text_done : (amendment : FileAmendment) → IsTextAccepted amendment scope own path bytes
+      → IsDone (amend_own_text amendment scope own path bytes)
+  own_text_done (Everywhere values) can = text_done values path path bytes can
+  own_text_done (InHeader values) can = by_style (style_for scope own path bytes) refl
+    where
+      by_style : (found : Option Style) → style_for scope own path bytes ≡ found
+          → IsDone (amend_block values path bytes found)
+      by_style None of_style = (None, refl)
+      by_style (Some style) of_style = amendment_done path path bytes (amendment_of style values bytes) (can style
+          (style_reason scope own path bytes scope.style (kind_of_file own path bytes) style refl refl of_style))
+
+  own_text_accepted : (amendment : FileAmendment) (given : Option Edit)
+      → amend_own_text amendment scope own path bytes ≡ Ok given → IsTextAccepted amendment scope own path bytes
+  own_text_accepted (Everywhere values) given h = text_accepted values path path bytes given h
+  own_text_accepted (InHeader values) given h = λ style styled.
+      amendment_accepted path path bytes (amendment_of style values bytes) given
+      (sym (ap (amend_block values path bytes) (style_is scope own path bytes style styled)) ∙ h)
+
+  test_unread : (amendment : FileAmendment) → StaysUnread amendment scope own path
+      → stays_unread amendment scope own path ≡ true
+  test_unread (InHeader values) is = reason_unread scope own path is
+  test_unread (Everywhere values) is = absurd is
+
+  unread_test : (amendment : FileAmendment) → stays_unread amendment scope own path ≡ true
+      → StaysUnread amendment scope own path
+  unread_test (InHeader values) is = unread_reason scope own path is
+  unread_test (Everywhere values) is = absurd (false≢true is)
+
+module _ (amendment : FileAmendment) (scope : Scope) (own : OwnKinds) (tree : Files) (path : List ℕ) where
   -- a table, or another file
   abbrev by_path : List ℕ → Bool → Result (Option Edit) Refusal
-  by_path bytes table = cond table (amend_table amendments path bytes) (cond (not (is_covered path))
-      (Err (refusals.NotCovered path)) (amend_covered amendments scope own path bytes (get tree (neighbour_of path))))
+  by_path bytes table = cond table (amend_table (values_of amendment) path bytes) (cond (not (is_covered path))
+      (Err (refusals.NotCovered path)) (amend_covered amendment scope own path bytes (get tree (neighbour_of path))))
 
   -- ---- what is accepted is done
 
-  beside_done : (beside : List ℕ) → CanNeighbourBeAmended amendments path beside
-      → IsDone (amend_neighbour amendments path beside)
+  beside_done : (beside : List ℕ) → CanNeighbourBeAmended amendment path beside
+      → IsDone (amend_neighbour amendment path beside)
   beside_done beside can =
       done_rest _ _ _ (le-ltb 4096 (length (neighbour_of path)) can.short_path)
       (done_rest _ _ _ (le-ltb LONGEST_FILE (length beside) can.short)
-      (amendment_done path (neighbour_of path) beside (neighbour_amendment_of amendments beside) can.accepted))
+      (beside_is_done amendment path beside can.accepted))
 
   inside_done : (bytes : List ℕ)
-      → (¬ (HasNoStyleUnread scope own path) → CanFileBeAmended amendments scope own path bytes)
-      → IsDone (amend_inside amendments scope own path bytes)
-  inside_done bytes can = by_unread (has_no_style_unread scope own path) refl
+      → (¬ (StaysUnread amendment scope own path) → CanFileBeAmended amendment scope own path bytes)
+      → IsDone (amend_inside amendment scope own path bytes)
+  inside_done bytes can = by_unread (stays_unread amendment scope own path) refl
     where
-      by_style : CanFileBeAmended amendments scope own path bytes → is_text bytes ≡ true → (found : Option Style)
-          → style_for scope own path bytes ≡ found → IsDone (amend_block amendments path bytes found)
-      by_style it text None of_style = (None, refl)
-      by_style it text (Some style) of_style =
-          amendment_done path path bytes (amendment_of style amendments bytes) (it.accepted text style
-          (style_reason scope own path bytes scope.style (kind_of_file own path bytes) style refl refl of_style))
-
-      by_text : CanFileBeAmended amendments scope own path bytes → (text : Bool) → is_text bytes ≡ text
-          → IsDone (cond (not (is_text bytes)) (done None)
-          (amend_block amendments path bytes (style_for scope own path bytes)))
+      by_text : CanFileBeAmended amendment scope own path bytes → (text : Bool) → is_text bytes ≡ text
+          → IsDone (cond (not (is_text bytes)) (done None) (amend_own_text amendment scope own path bytes))
       by_text it false e = done_nothing _ _ (ap not e)
-      by_text it true e = done_rest _ _ _ (ap not e) (by_style it e (style_for scope own path bytes) refl)
+      by_text it true e = done_rest _ _ _ (ap not e) (own_text_done scope own path bytes amendment (it.accepted e))
 
-      by_unread : (none : Bool) → has_no_style_unread scope own path ≡ none
-          → IsDone (amend_inside amendments scope own path bytes)
+      by_unread : (none : Bool) → stays_unread amendment scope own path ≡ none
+          → IsDone (amend_inside amendment scope own path bytes)
       by_unread true e = done_nothing _ _ e
       by_unread false e =
-          let it = can (λ is. false≢true (sym e ∙ reason_unread scope own path is)) in
+          let it = can (λ is. false≢true (sym e ∙ test_unread scope own path bytes amendment is)) in
           done_rest _ _ _ e (done_rest _ _ _ (le-ltb LONGEST_FILE (length bytes) it.short)
           (by_text it (is_text bytes) refl))
 
-  table_is_done : CanTableBeAmended amendments tree path → IsDone (amended_at amendments scope own tree path)
+  table_is_done : CanTableBeAmended (values_of amendment) tree path → IsDone (amended_at amendment scope own tree path)
   table_is_done can =
       let here = done_rest (nat_lt LONGEST_FILE (length can.bytes)) (Err (refusals.TooLong path))
-      (table_amendment path can.bytes (toml_amendment_of amendments can.bytes)) (le-ltb LONGEST_FILE
+      (table_amendment path can.bytes (toml_amendment_of (values_of amendment) can.bytes)) (le-ltb LONGEST_FILE
       (length can.bytes) can.short)
-      (table_done path can.bytes (toml_amendment_of amendments can.bytes) can.accepted) in (
+      (table_done path can.bytes (toml_amendment_of (values_of amendment) can.bytes) can.accepted) in (
         here.0,
-        ap (amended_where amendments scope own tree path) can.there ∙ ap (by_path can.bytes) can.table ∙ here.1,
+        ap (amended_where amendment scope own tree path) can.there ∙ ap (by_path can.bytes) can.table ∙ here.1,
       )
 
-  covered_is_done : CanCoveredBeAmended amendments scope own tree path
-      → IsDone (amended_at amendments scope own tree path)
+  covered_is_done : CanCoveredBeAmended amendment scope own tree path
+      → IsDone (amended_at amendment scope own tree path)
   covered_is_done can =
       let here = by_neighbour (get tree (neighbour_of path)) refl in (
         here.0,
-        ap (amended_where amendments scope own tree path) can.there ∙ ap (by_path can.bytes)
+        ap (amended_where amendment scope own tree path) can.there ∙ ap (by_path can.bytes)
             (not_table path can.covered) ∙ ap (λ b. cond (not b) (Err (refusals.NotCovered path))
-            (amend_covered amendments scope own path can.bytes (get tree (neighbour_of path)))) can.covered ∙ here.1,
+            (amend_covered amendment scope own path can.bytes (get tree (neighbour_of path)))) can.covered ∙ here.1,
       )
     where
       by_neighbour : (beside : Option (List ℕ)) → get tree (neighbour_of path) ≡ beside
-          → IsDone (amend_covered amendments scope own path can.bytes beside)
+          → IsDone (amend_covered amendment scope own path can.bytes beside)
       by_neighbour (Some beside) is = beside_done beside (can.by_neighbour beside is)
       by_neighbour None is = inside_done can.bytes (can.by_file is)
 
-  pub amendable_is_done : CanBeAmended amendments scope own tree path
-      → IsDone (amended_at amendments scope own tree path)
+  pub amendable_is_done : CanBeAmended amendment scope own tree path
+      → IsDone (amended_at amendment scope own tree path)
   amendable_is_done can = elim can [ inl table ↦ table_is_done table | inr covered ↦ covered_is_done covered ]
 
   -- ---- what is done is accepted
 
   table_can : (bytes : List ℕ) (given : Option Edit) → get tree path ≡ Some bytes → is_table path ≡ true
-      → amend_table amendments path bytes ≡ Ok given → CanTableBeAmended amendments tree path
+      → amend_table (values_of amendment) path bytes ≡ Ok given → CanTableBeAmended (values_of amendment) tree path
   table_can bytes given here table h =
       let short = err_or (nat_lt LONGEST_FILE (length bytes)) (refusals.TooLong path) _ given h in
       record {
@@ -168,57 +231,51 @@ module _ (amendments : Amendments) (scope : Scope) (own : OwnKinds) (tree : File
         there = here;
         table = table;
         short = ltb-false LONGEST_FILE (length bytes) short.0;
-        accepted = table_accepted path bytes (toml_amendment_of amendments bytes) given short.1;
+        accepted = table_accepted path bytes (toml_amendment_of (values_of amendment) bytes) given short.1;
       }
 
-  neighbour_can : (beside : List ℕ) (given : Option Edit) → amend_neighbour amendments path beside ≡ Ok given
-      → CanNeighbourBeAmended amendments path beside
+  neighbour_can : (beside : List ℕ) (given : Option Edit) → amend_neighbour amendment path beside ≡ Ok given
+      → CanNeighbourBeAmended amendment path beside
   neighbour_can beside given h =
       let few = err_or (nat_lt 4096 (length (neighbour_of path))) (refusals.TooLong path) _ given h in
       let short = err_or (nat_lt LONGEST_FILE (length beside)) (refusals.TooLong path) _ given few.1 in
       record {
         short_path = ltb-false 4096 (length (neighbour_of path)) few.0;
         short = ltb-false LONGEST_FILE (length beside) short.0;
-        accepted =
-            amendment_accepted path (neighbour_of path) beside (neighbour_amendment_of amendments beside) given short.1;
+        accepted = beside_accepted amendment path beside given short.1;
       }
 
-  file_can : (bytes : List ℕ) (given : Option Edit) → amend_inside amendments scope own path bytes ≡ Ok given
-      → ¬ (HasNoStyleUnread scope own path) → CanFileBeAmended amendments scope own path bytes
-  file_can bytes given h read = by_unread (has_no_style_unread scope own path) refl h
+  file_can : (bytes : List ℕ) (given : Option Edit) → amend_inside amendment scope own path bytes ≡ Ok given
+      → ¬ (StaysUnread amendment scope own path) → CanFileBeAmended amendment scope own path bytes
+  file_can bytes given h read = by_unread (stays_unread amendment scope own path) refl h
     where
-      block : Option Style → Result (Option Edit) Refusal
-      block found = amend_block amendments path bytes found
-
       inner : Result (Option Edit) Refusal
-      inner = cond (not (is_text bytes)) (done None) (block (style_for scope own path bytes))
+      inner = cond (not (is_text bytes)) (done None) (amend_own_text amendment scope own path bytes)
 
-      by_unread : (none : Bool) → has_no_style_unread scope own path ≡ none
+      by_unread : (none : Bool) → stays_unread amendment scope own path ≡ none
           → cond none (done None) (cond (nat_lt LONGEST_FILE (length bytes)) (Err (refusals.TooLong path)) inner)
-          ≡ Ok given → CanFileBeAmended amendments scope own path bytes
-      by_unread true e f = absurd (read (unread_reason scope own path e))
+          ≡ Ok given → CanFileBeAmended amendment scope own path bytes
+      by_unread true e f = absurd (read (unread_test scope own path bytes amendment e))
       by_unread false e f =
           let short = err_or (nat_lt LONGEST_FILE (length bytes)) (refusals.TooLong path) inner given f in
           record {
             short = ltb-false LONGEST_FILE (length bytes) short.0;
-            accepted = λ text style styled.
-                amendment_accepted path path bytes (amendment_of style amendments bytes) given
-                (sym (ap (λ b. cond (not b) (done None) (block (style_for scope own path bytes))) text
-                ∙ ap block (style_is scope own path bytes style styled)) ∙ short.1);
+            accepted = λ text. own_text_accepted scope own path bytes amendment given (sym (ap (λ b. cond (not b)
+                (done None) (amend_own_text amendment scope own path bytes)) text) ∙ short.1);
           }
 
-  pub done_is_amendable : IsDone (amended_at amendments scope own tree path)
-      → CanBeAmended amendments scope own tree path
+  pub done_is_amendable : IsDone (amended_at amendment scope own tree path)
+      → CanBeAmended amendment scope own tree path
   done_is_amendable (given, h) = of_file (get tree path) refl h
     where
       of_neighbour : (bytes : List ℕ) (beside : Option (List ℕ)) → get tree path ≡ Some bytes → is_covered path ≡ true
-          → get tree (neighbour_of path) ≡ beside → amend_covered amendments scope own path bytes beside ≡ Ok given
-          → CanCoveredBeAmended amendments scope own tree path
+          → get tree (neighbour_of path) ≡ beside → amend_covered amendment scope own path bytes beside ≡ Ok given
+          → CanCoveredBeAmended amendment scope own tree path
       of_neighbour bytes (Some there) here covered is e = record {
         bytes = bytes;
         there = here;
         covered = covered;
-        by_neighbour = λ other too. subst (CanNeighbourBeAmended amendments path) (same_Some there other (sym is ∙ too))
+        by_neighbour = λ other too. subst (CanNeighbourBeAmended amendment path) (same_Some there other (sym is ∙ too))
             (neighbour_can there given e);
         by_file = λ none read. absurd (none-some there (sym none ∙ is));
       }
@@ -231,32 +288,33 @@ module _ (amendments : Amendments) (scope : Scope) (own : OwnKinds) (tree : File
       }
 
       of_path : (bytes : List ℕ) → get tree path ≡ Some bytes → (b : Bool) → is_table path ≡ b
-          → cond b (amend_table amendments path bytes) (cond (not (is_covered path)) (Err (refusals.NotCovered path))
-          (amend_covered amendments scope own path bytes (get tree (neighbour_of path)))) ≡ Ok given
-          → CanBeAmended amendments scope own tree path
+          → cond b (amend_table (values_of amendment) path bytes)
+          (cond (not (is_covered path)) (Err (refusals.NotCovered path))
+          (amend_covered amendment scope own path bytes (get tree (neighbour_of path)))) ≡ Ok given
+          → CanBeAmended amendment scope own tree path
       of_path bytes is true t e = inl (table_can bytes given is t e)
       of_path bytes is false t e =
           let k = err_or (not (is_covered path)) (refusals.NotCovered path) _ given e in
           inr (of_neighbour bytes (get tree (neighbour_of path)) is (not_false (is_covered path) k.0) refl k.1)
 
       of_file : (file : Option (List ℕ)) → get tree path ≡ file
-          → amended_where amendments scope own tree path file ≡ Ok given → CanBeAmended amendments scope own tree path
+          → amended_where amendment scope own tree path file ≡ Ok given → CanBeAmended amendment scope own tree path
       of_file None is e = absurd
           (both_err (is_folder tree path) (refusals.IsFolder (place.Path path)) (refusals.NoSuchPath path) given e)
       of_file (Some bytes) is e = of_path bytes is (is_table path) refl e
 
 -- ---- the tree
 
-module _ (places : List Place) (amendments : Amendments) (scope : Scope) (tree : Files) where
+module _ (places : List Place) (amendment : FileAmendment) (scope : Scope) (tree : Files) where
   abbrev by_names : Result OwnKinds Refusal → Result (List Edit) Refusal
-  by_names styles = amendments_by_names places amendments scope tree styles
+  by_names styles = amendments_by_names places amendment scope tree styles
 
   accepts : KeepsBlock → KeepsNeighbour → (edits : List Edit) (styles : Result OwnKinds Refusal)
-      → styles_in tree ≡ styles → by_names styles ≡ Ok edits → FitsEntry (Amend places amendments scope) tree
-      → CanAmend places amendments scope tree
+      → styles_in tree ≡ styles → by_names styles ≡ Ok edits → FitsEntry (Amend places amendment scope) tree
+      → CanAmend places amendment scope tree
   accepts keeps_block keeps_neighbour edits (Err refusal) is h fits = absurd (cc)
   accepts keeps_block keeps_neighbour edits (Ok own) is h fits =
-      let at = amended_at amendments scope own tree in
+      let at = amended_at amendment scope own tree in
       let paths = amended_paths scope places tree in
       let parts = err_or (not scope.recursive && has_root places) (refusals.IsFolder place.Root)
       (edits_at at paths) edits h in
@@ -264,17 +322,17 @@ module _ (places : List Place) (amendments : Amendments) (scope : Scope) (tree :
         own = own;
         styles = is;
         root = root_from_test scope.recursive (has_root places) parts.0;
-        each = λ path there. done_is_amendable amendments scope own tree path (each_done keeps_block keeps_neighbour
-            amendments scope own tree paths edits parts.1 path (In-from_contains paths path there));
+        each = λ path there. done_is_amendable amendment scope own tree path (each_done keeps_block keeps_neighbour
+            amendment scope own tree paths edits parts.1 path (In-from_contains paths path there));
         fits = fits;
       }
 
-  comes : CanAmend places amendments scope tree
-      → (edits : List Edit) × (amendment_edits places amendments scope tree ≡ Ok edits)
+  comes : CanAmend places amendment scope tree
+      → (edits : List Edit) × (amendment_edits places amendment scope tree ≡ Ok edits)
   comes can =
-      let at = amended_at amendments scope can.own tree in
+      let at = amended_at amendment scope can.own tree in
       let paths = amended_paths scope places tree in
-      let all = all_at at paths (λ path there. amendable_is_done amendments scope can.own tree path
+      let all = all_at at paths (λ path there. amendable_is_done amendment scope can.own tree path
       (can.each path (Contains-from_in paths path there))) in (
         all.0,
         ap by_names can.styles ∙ ap (λ b. cond b (Err (refusals.IsFolder place.Root)) (edits_at at paths))
@@ -282,15 +340,15 @@ module _ (places : List Place) (amendments : Amendments) (scope : Scope) (tree :
       )
 
   pub amend_accepted : KeepsBlock → KeepsNeighbour
-      → ((after : Files) × (outcome_of (Amend places amendments scope) tree ≡ Ok after))
-      ↔ CanAmend places amendments scope tree
+      → ((after : Files) × (outcome_of (Amend places amendment scope) tree ≡ Ok after))
+      ↔ CanAmend places amendment scope tree
   unfolding outcome_of
   amend_accepted keeps_block keeps_neighbour = (
     λ given.
-        let of_tree = edits_of_tree tree given.0 (edits_of (Amend places amendments scope) tree) given.1 in
+        let of_tree = edits_of_tree tree given.0 (edits_of (Amend places amendment scope) tree) given.1 in
         accepts keeps_block keeps_neighbour of_tree.0 (styles_in tree) refl
-        (sym (of_amendment places amendments scope tree) ∙ of_tree.1)
-        (held tree given.0 (edits_of (Amend places amendments scope) tree) given.1),
-    λ can. let edits = comes can in tree_comes tree (edits_of (Amend places amendments scope) tree) edits.0
-        (of_amendment places amendments scope tree ∙ edits.1) can.fits,
+        (sym (of_amendment places amendment scope tree) ∙ of_tree.1)
+        (held tree given.0 (edits_of (Amend places amendment scope) tree) given.1),
+    λ can. let edits = comes can in tree_comes tree (edits_of (Amend places amendment scope) tree) edits.0
+        (of_amendment places amendment scope tree ∙ edits.1) can.fits,
   )

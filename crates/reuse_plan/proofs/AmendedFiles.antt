@@ -20,12 +20,17 @@ use Rattle.reuse_header.specs.Amendment.{amended_file, amendment_of, block_amend
 use Rattle.reuse_header.specs.Annotation as header
 use Rattle.reuse_header.specs.Header.{HeaderSpan, header_of, span_in}
 use Rattle.reuse_header.specs.Neighbour.{is_text, neighbour_end}
+use Rattle.reuse_tags.specs.Everywhere.{amended_everywhere}
+use Rattle.reuse_plan.proofs.BetweenLemmas.{between, between_by, between_makes}
+use Rattle.reuse_plan.proofs.TagLemmas.{keeps_values}
 use Rattle.reuse_change.specs.Listing.{is_folder}
-use Rattle.reuse_plan.specs.Amend.{style_or_named, style_for, amendment_edit, amend_neighbour}
+use Rattle.reuse_command.specs.Command.{values_of}
+use Rattle.reuse_plan.specs.Amend.{style_or_named, style_for, amendment_edit, amend_neighbour, amend_beside}
+use Rattle.reuse_plan.specs.Amend.{amend_own_text, stays_unread, text_edit}
 use Rattle.reuse_plan.specs.Amend.{amend_covered, table_edit, table_amendment, amended_table, amend_table}
 use Rattle.reuse_plan.specs.Amend.{amended_where, amended_at}
 use Rattle.reuse_plan.specs.Amended.{KeepsOutsideBlock, IsNeighbourAmended, IsFileAmended, HasNoPlace, IsTableAmended}
-use Rattle.reuse_plan.specs.Amended.{IsAmended}
+use Rattle.reuse_plan.specs.Amended.{IsAmended, BecomesNeighbour, BecomesFile, HasNoText}
 use Rattle.reuse_plan.specs.AmendmentPlan.{Expected}
 use Rattle.reuse_plan.specs.Annotate.{neighbour_of}
 use Rattle.reuse_plan.specs.Annotated.{IsSameAround, IsStyleOf, HasKind, pair_at}
@@ -34,6 +39,9 @@ use Rattle.reuse_command.specs.Covered.{is_covered}
 use Rattle.reuse_plan.specs.Edit.{Edit}
 use Rattle.reuse_style.specs.Kinds.{OwnKinds, kind_of_file, kind_unread}
 use Rattle.reuse_style.proofs.RuleLemmas.{kind_if_unread}
+use Rattle.reuse_command.specs.declared.command.FileAmendment.{FileAmendment}
+use Rattle.reuse_command.specs.declared.command.FileAmendment.TheVariants.{InHeader, Everywhere}
+use Rattle.reuse_command.specs.declared.header_fault.HeaderFault.TheVariants as faults
 use Rattle.reuse_command.specs.declared.command.Place.TheVariants as place
 use Rattle.reuse_command.specs.declared.command.Scope.{Scope}
 use Rattle.reuse_command.specs.declared.reply.Refusal.TheVariants as refusals
@@ -82,6 +90,30 @@ amendment_makes path at bytes (Ok (Some edit)) given h =
       kept = inr (m.0, ap (λ (e : header.Edit). Ok (Some e)) same, refl);
     }
 amendment_makes path at bytes (Err refusal) given h = absurd (cc)
+
+-- a text whose tags are amended
+record MakesText (values : Amendments) (at bytes : List ℕ) (given : Option Edit) : Type 0 where
+  made : List ℕ
+  by_rules : amended_everywhere values bytes ≡ Some made
+  makes : IsEditTo at bytes made given
+
+text_makes : (values : Amendments) (path at bytes : List ℕ) (given : Option Edit)
+    → text_edit path at bytes (amended_everywhere values bytes) ≡ Ok given → MakesText values at bytes given
+text_makes values path at bytes given h = of_text (amended_everywhere values bytes) refl h
+  where
+    of_text : (made : Option (List ℕ)) → amended_everywhere values bytes ≡ made
+        → text_edit path at bytes made ≡ Ok given → MakesText values at bytes given
+    of_text None is e = absurd (cc)
+    of_text (Some new) is e =
+        let fits = err_or (nat_lt LONGEST_FILE (length new)) (refusals.Header path faults.TooLong) _ given e in
+        let m = makes_by path at bytes (Ok (between bytes new)) given (sym (between_by bytes new path at) ∙ fits.1) in
+        record {
+          made = new;
+          by_rules = is;
+          makes = subst (λ (made : List ℕ). IsEditTo at bytes made given) (between_makes bytes new)
+              (subst (λ (edit : header.Edit). IsEditTo at bytes (header.edited bytes edit) given)
+              (sym (same_Ok (between bytes new) m.0 m.1)) m.2);
+        }
 
 -- ---- a table
 
@@ -208,83 +240,143 @@ module _ (keeps_block : KeepsBlock) (keeps_neighbour : KeepsNeighbour) where
         (by.0.text, keeps_neighbour a bytes by.0 by.1))
   ]
 
-  module _ (amendments : Amendments) (scope : Scope) (own : OwnKinds) (tree : Files) (path : List ℕ)
+  module _ (amendment : FileAmendment) (scope : Scope) (own : OwnKinds) (tree : Files) (path : List ℕ)
       (given : Option Edit) where
     abbrev Becomes : List ℕ → Type 0
     Becomes bytes =
-        (HasNoPlace scope own path bytes (pair_at tree path) × (pair_then tree given path ≡ pair_at tree path))
-        ⊎ IsFileAmended amendments scope own path bytes (pair_at tree path) (pair_then tree given path)
-        ⊎ IsNeighbourAmended amendments (pair_at tree path) (pair_then tree given path)
+        (HasNoPlace amendment scope own path bytes (pair_at tree path)
+            × (pair_then tree given path ≡ pair_at tree path))
+        ⊎ IsFileAmended amendment scope own path bytes (pair_at tree path) (pair_then tree given path)
+        ⊎ IsNeighbourAmended amendment (pair_at tree path) (pair_then tree given path)
 
     unchanged : (bytes : List ℕ) → done None ≡ done given
-        → HasNoPlace scope own path bytes (pair_at tree path) → Becomes bytes
+        → HasNoPlace amendment scope own path bytes (pair_at tree path) → Becomes bytes
     unchanged bytes h none = inl (none, ap (λ g. pair_then tree g path) (sym (same_Ok None given h)))
 
+    -- the neighbour becomes these bytes
+    beside_to : (there made : List ℕ) → get tree (neighbour_of path) ≡ Some there
+        → IsEditTo (neighbour_of path) there made given → BecomesNeighbour amendment there made
+        → IsNeighbourAmended amendment (pair_at tree path) (pair_then tree given path)
+    beside_to there made is makes becomes = record {
+      beside = there;
+      there = is;
+      made = made;
+      becomes = becomes;
+      holds = ap₂ pair (then_other tree (neighbour_of path) there made given path makes (apart path))
+          (then_here tree (neighbour_of path) there made given makes is);
+    }
+
+    -- the file does
+    file_to : (bytes made : List ℕ) → get tree path ≡ Some bytes → get tree (neighbour_of path) ≡ None
+        → IsEditTo path bytes made given → BecomesFile amendment scope own path bytes made → Becomes bytes
+    file_to bytes made here alone makes becomes = inr (inl (record {
+      alone = alone;
+      made = made;
+      becomes = becomes;
+      holds = ap₂ pair (then_here tree path bytes made given makes here)
+          (then_other tree path bytes made given (neighbour_of path) makes (λ same. apart path (sym same)) ∙ alone);
+    }))
+
+  module _ (scope : Scope) (own : OwnKinds) (tree : Files) (path : List ℕ) (given : Option Edit) where
+    beside_by : (amendment : FileAmendment) (there : List ℕ) → get tree (neighbour_of path) ≡ Some there
+        → amend_beside amendment path there ≡ Ok given
+        → IsNeighbourAmended amendment (pair_at tree path) (pair_then tree given path)
+    beside_by (InHeader values) there is h =
+        let m = amendment_makes path (neighbour_of path) there (neighbour_amendment_of values there) given h in
+        beside_to (InHeader values) scope own tree path given there m.made is m.makes
+        (record { by_rules = m.by_rules; keeps = neighbour_kept values there given (neighbour_of path) m })
+    beside_by (Everywhere values) there is h =
+        let text = err_or (not (is_text there)) (refusals.Header path faults.NotText) _ given h in
+        let m = text_makes values path (neighbour_of path) there given text.1 in
+        beside_to (Everywhere values) scope own tree path given there m.made is m.makes (record {
+          text = not-false (is_text there) text.0;
+          by_rules = m.by_rules;
+          keeps = keeps_values values there m.made m.by_rules;
+        })
+
+    -- a file without a style stays
+    block_by : (values : Amendments) (bytes : List ℕ) (style : Option Style) → get tree path ≡ Some bytes
+        → get tree (neighbour_of path) ≡ None → style_for scope own path bytes ≡ style → is_text bytes ≡ true
+        → amend_block values path bytes style ≡ Ok given → Becomes (InHeader values) scope own tree path given bytes
+    block_by values bytes None here alone of_style text h =
+        unchanged (InHeader values) scope own tree path given bytes h
+        (alone, inr (none_reason scope own path bytes scope.style (kind_of_file own path bytes) refl refl of_style))
+    block_by values bytes (Some style) here alone of_style text h =
+        let m = amendment_makes path path bytes (amendment_of style values bytes) given h in
+        file_to (InHeader values) scope own tree path given bytes m.made here alone m.makes (record {
+          text = text;
+          style = style;
+          of_style =
+              style_reason scope own path bytes scope.style (kind_of_file own path bytes) style refl refl of_style;
+          by_rules = m.by_rules;
+          keeps = file_kept style values bytes given path m;
+        })
+
+    own_text_by : (amendment : FileAmendment) (bytes : List ℕ) → get tree path ≡ Some bytes
+        → get tree (neighbour_of path) ≡ None → is_text bytes ≡ true
+        → amend_own_text amendment scope own path bytes ≡ Ok given → Becomes amendment scope own tree path given bytes
+    own_text_by (InHeader values) bytes here alone text h =
+        block_by values bytes (style_for scope own path bytes) here alone refl text h
+    own_text_by (Everywhere values) bytes here alone text h =
+        let m = text_makes values path path bytes given h in
+        file_to (Everywhere values) scope own tree path given bytes m.made here alone m.makes (record {
+          text = text;
+          by_rules = m.by_rules;
+          keeps = keeps_values values bytes m.made m.by_rules;
+        })
+
+    unread_by : (amendment : FileAmendment) (bytes : List ℕ) → stays_unread amendment scope own path ≡ true
+        → HasNoText amendment scope own path bytes
+    unread_by (InHeader values) bytes unread = inr (unread_none scope own path bytes unread)
+    unread_by (Everywhere values) bytes unread = absurd (false≢true unread)
+
+    not_text : (amendment : FileAmendment) (bytes : List ℕ) → is_text bytes ≡ false
+        → HasNoText amendment scope own path bytes
+    not_text (InHeader values) bytes e = inl e
+    not_text (Everywhere values) bytes e = e
+
+  module _ (amendment : FileAmendment) (scope : Scope) (own : OwnKinds) (tree : Files) (path : List ℕ)
+      (given : Option Edit) where
+    abbrev BecomesAt : List ℕ → Type 0
+    BecomesAt bytes = Becomes amendment scope own tree path given bytes
+
     beside : (bytes there : List ℕ) → get tree (neighbour_of path) ≡ Some there
-        → amend_neighbour amendments path there ≡ Ok given → Becomes bytes
+        → amend_neighbour amendment path there ≡ Ok given → BecomesAt bytes
     beside bytes there is h =
         let few = err_or (nat_lt 4096 (length (neighbour_of path))) (refusals.TooLong path) _ given h in
         let short = err_or (nat_lt LONGEST_FILE (length there)) (refusals.TooLong path) _ given few.1 in
-        let m =
-        amendment_makes path (neighbour_of path) there (neighbour_amendment_of amendments there) given short.1 in
-        inr (inr (record {
-          beside = there;
-          there = is;
-          made = m.made;
-          by_rules = m.by_rules;
-          holds = ap₂ pair (then_other tree (neighbour_of path) there m.made given path m.makes (apart path))
-              (then_here tree (neighbour_of path) there m.made given m.makes is);
-          keeps = neighbour_kept amendments there given (neighbour_of path) m;
-        }))
-
-    inside_block : (bytes : List ℕ) (style : Option Style) → get tree path ≡ Some bytes
-        → get tree (neighbour_of path) ≡ None → style_for scope own path bytes ≡ style → is_text bytes ≡ true
-        → amend_block amendments path bytes style ≡ Ok given → Becomes bytes
-    inside_block bytes None here alone of_style text h = unchanged bytes h
-        (alone, inr (none_reason scope own path bytes scope.style (kind_of_file own path bytes) refl refl of_style))
-    inside_block bytes (Some style) here alone of_style text h =
-        let m = amendment_makes path path bytes (amendment_of style amendments bytes) given h in
-        inr (inl (record {
-          alone = alone;
-          text = text;
-          style = style;
-          of_style = style_reason scope own path bytes scope.style (kind_of_file own path bytes) style refl refl of_style;
-          made = m.made;
-          by_rules = m.by_rules;
-          holds = ap₂ pair (then_here tree path bytes m.made given m.makes here) (then_other tree path bytes m.made
-              given (neighbour_of path) m.makes (λ same. apart path (sym same)) ∙ alone);
-          keeps = file_kept style amendments bytes given path m;
-        }))
+        inr (inr (beside_by scope own tree path given amendment there is short.1))
 
     inside_text : (bytes : List ℕ) (text : Bool) → get tree path ≡ Some bytes → get tree (neighbour_of path) ≡ None
         → is_text bytes ≡ text
-        → cond (not text) (done None) (amend_block amendments path bytes (style_for scope own path bytes)) ≡ Ok given
-        → Becomes bytes
-    inside_text bytes false here alone text h = unchanged bytes h (alone, inl text)
+        → cond (not text) (done None) (amend_own_text amendment scope own path bytes) ≡ Ok given → BecomesAt bytes
+    inside_text bytes false here alone text h = unchanged amendment scope own tree path given bytes h
+        (alone, not_text scope own tree path given amendment bytes text)
     inside_text bytes true here alone text h =
-        inside_block bytes (style_for scope own path bytes) here alone refl text h
+        own_text_by scope own tree path given amendment bytes here alone text h
 
     inside : (bytes : List ℕ) (none : Bool) → get tree path ≡ Some bytes → get tree (neighbour_of path) ≡ None
-        → has_no_style_unread scope own path ≡ none
+        → stays_unread amendment scope own path ≡ none
         → cond none (done None) (cond (nat_lt LONGEST_FILE (length bytes)) (Err (refusals.TooLong path))
-        (cond (not (is_text bytes)) (done None) (amend_block amendments path bytes (style_for scope own path bytes))))
-        ≡ Ok given → Becomes bytes
-    inside bytes true here alone unread h = unchanged bytes h (alone, inr (unread_none scope own path bytes unread))
+        (cond (not (is_text bytes)) (done None) (amend_own_text amendment scope own path bytes))) ≡ Ok given
+        → BecomesAt bytes
+    inside bytes true here alone unread h = unchanged amendment scope own tree path given bytes h
+        (alone, unread_by scope own tree path given amendment bytes unread)
     inside bytes false here alone unread h =
         let short = err_or (nat_lt LONGEST_FILE (length bytes)) (refusals.TooLong path) _ given h in
         inside_text bytes (is_text bytes) here alone refl short.1
 
     by_neighbour : (bytes : List ℕ) (there : Option (List ℕ)) → get tree path ≡ Some bytes → get tree
-        (neighbour_of path) ≡ there → amend_covered amendments scope own path bytes there ≡ Ok given → Becomes bytes
+        (neighbour_of path) ≡ there → amend_covered amendment scope own path bytes there ≡ Ok given → BecomesAt bytes
     by_neighbour bytes (Some there) here is h = beside bytes there is h
-    by_neighbour bytes None here is h = inside bytes (has_no_style_unread scope own path) here is refl h
+    by_neighbour bytes None here is h = inside bytes (stays_unread amendment scope own path) here is refl h
 
-    table : (bytes : List ℕ) → get tree path ≡ Some bytes → amend_table amendments path bytes ≡ Ok given
-        → IsTableAmended amendments (pair_at tree path) (pair_then tree given path)
+    table : (bytes : List ℕ) → get tree path ≡ Some bytes → amend_table (values_of amendment) path bytes ≡ Ok given
+        → IsTableAmended (values_of amendment) (pair_at tree path) (pair_then tree given path)
     table bytes here h =
         let short = err_or (nat_lt LONGEST_FILE (length bytes)) (refusals.TooLong path)
-        (table_amendment path bytes (toml_amendment_of amendments bytes)) given h in
-        let m = table_makes amendments path bytes given short.1 in
+        (table_amendment path bytes (toml_amendment_of (values_of amendment) bytes)) given h in
+        let m = table_makes (values_of amendment) path bytes given short.1 in
         record {
           bytes = bytes;
           there = here;
@@ -297,20 +389,21 @@ module _ (keeps_block : KeepsBlock) (keeps_neighbour : KeepsNeighbour) where
         }
 
     of_file : (file : Option (List ℕ)) → get tree path ≡ file
-        → amended_where amendments scope own tree path file ≡ Ok given
-        → IsAmended amendments scope own path (pair_at tree path) (pair_then tree given path)
+        → amended_where amendment scope own tree path file ≡ Ok given
+        → IsAmended amendment scope own path (pair_at tree path) (pair_then tree given path)
     of_file None is h =
         absurd (both_err (is_folder tree path) (refusals.IsFolder (place.Path path)) (refusals.NoSuchPath path) given h)
     of_file (Some bytes) is h = by_path (is_table path) refl h
       where
         by_path : (b : Bool) → is_table path ≡ b
-            → cond b (amend_table amendments path bytes) (cond (not (is_covered path)) (Err (refusals.NotCovered path))
-            (amend_covered amendments scope own path bytes (get tree (neighbour_of path)))) ≡ Ok given
-            → IsAmended amendments scope own path (pair_at tree path) (pair_then tree given path)
+            → cond b (amend_table (values_of amendment) path bytes)
+            (cond (not (is_covered path)) (Err (refusals.NotCovered path))
+            (amend_covered amendment scope own path bytes (get tree (neighbour_of path)))) ≡ Ok given
+            → IsAmended amendment scope own path (pair_at tree path) (pair_then tree given path)
         by_path true t e = inl (t, table bytes is e)
         by_path false t e =
             let covered = err_or (not (is_covered path)) (refusals.NotCovered path)
-            (amend_covered amendments scope own path bytes (get tree (neighbour_of path))) given e in
+            (amend_covered amendment scope own path bytes (get tree (neighbour_of path))) given e in
             inr (record {
               bytes = bytes;
               there = is;
@@ -319,6 +412,6 @@ module _ (keeps_block : KeepsBlock) (keeps_neighbour : KeepsNeighbour) where
             })
 
     -- what is done at a path
-    pub amended_there : amended_at amendments scope own tree path ≡ Ok given
-        → IsAmended amendments scope own path (pair_at tree path) (pair_then tree given path)
+    pub amended_there : amended_at amendment scope own tree path ≡ Ok given
+        → IsAmended amendment scope own path (pair_at tree path) (pair_then tree given path)
     amended_there h = of_file (get tree path) refl h

@@ -10,16 +10,17 @@ use Rattle.reuse_header.specs.declared.amendment.AmendHeaderRefusal.TheVariants.
 use Rattle.reuse_header.specs.declared.annotation.HeaderRefusal.TheVariants.{NotText, NoSuchForm, HoldsCloser, TooLong}
 use Rattle.reuse_header.specs.declared.annotation.HeaderRefusal.TheVariants.{Unsettled, Memory}
 use Rattle.reuse_header.specs.declared.annotation.Splice.{Splice}
-use Rattle.reuse_header.specs.Amendment.{neighbour_amendment_of, amendment_answer, IsExpectedAmendment}
+use Rattle.reuse_header.specs.Amendment.{amendment_answer, IsExpectedAmendment}
 use Rattle.reuse_header.specs.Annotation as header
 use Rattle.reuse_header.specs.Neighbour.{is_text}
 use Rattle.reuse_text.specs.declared.TheConstants.{LONGEST_FILE}
 use Rattle.reuse_plan.specs.Amend.{amend_refused_by, amendment_edit, amend_covered, amended_where, amend_table}
-use Rattle.reuse_plan.specs.Amend.{table_amendment}
-use Rattle.reuse_plan.specs.AmendmentPlan.{Expected, Fits, own_of, amended_by, style_by, beside_by, inside_by}
+use Rattle.reuse_plan.specs.Amend.{amend_beside, table_amendment}
+use Rattle.reuse_plan.specs.AmendmentPlan.{Expected, Fits, own_of, amended_by, beside_by, inside_by}
 use Rattle.reuse_plan.specs.AmendmentPlan.{table_by}
 use Rattle.reuse_plan.specs.Annotate.{neighbour_of}
 use Rattle.reuse_plan.specs.Tables.{is_table}
+use Rattle.reuse_command.specs.Command.{values_of}
 use Rattle.reuse_command.specs.Covered.{is_covered}
 use Rattle.reuse_plan.specs.Edit.{Edit}
 use Rattle.reuse_plan.specs.Plan.{IsRefusalOf}
@@ -28,7 +29,7 @@ use Rattle.reuse_command.specs.declared.reply.Refusal.{Refusal}
 use Rattle.reuse_command.specs.declared.reply.Refusal.TheVariants as refusals
 use Rattle.reuse_plan.proofs.EditLemmas.{edited_to, refused}
 use Rattle.reuse_plan.proofs.TableLemmas.{not_table}
-use Rattle.reuse_plan.specs.AmendmentPlan.{block_by, has_no_style_by}
+use Rattle.reuse_plan.specs.AmendmentPlan.{own_text_by, stays_unread_by}
 
 -- what is known of each edit is known of an amendment
 pub fits_amendment : (bytes : List ℕ) (expected : Expected) → ((edit : header.Edit) → expected ≡ Ok (Some edit)
@@ -95,51 +96,48 @@ refused_made path at file expected (Header (Memory e)) is = tt
 
 module _ (asked : Amendment) (path bytes : List ℕ) where
   abbrev by_neighbour : Result (Option Edit) Refusal
-  by_neighbour = amendment_edit path (neighbour_of path) bytes (neighbour_amendment_of asked.amendments.now bytes)
+  by_neighbour = amend_beside asked.amendment.now path bytes
 
   pub beside_is : nat_lt 4096 (length (neighbour_of path)) ≡ false → nat_lt LONGEST_FILE (length bytes) ≡ false
-      → beside_by asked path bytes ≡ amendment_edit path (neighbour_of path) bytes
-      (neighbour_amendment_of asked.amendments.now bytes)
+      → beside_by asked path bytes ≡ amend_beside asked.amendment.now path bytes
   beside_is few short =
       ap (λ b. cond b (refused (refusals.TooLong path))
       (cond (nat_lt LONGEST_FILE (length bytes)) (refused (refusals.TooLong path)) by_neighbour)) few
       ∙ ap (λ b. cond b (refused (refusals.TooLong path)) by_neighbour) short
 
   abbrev by_table : Result (Option Edit) Refusal
-  by_table = table_amendment path bytes (toml_amendment_of asked.amendments.now bytes)
+  by_table = table_amendment path bytes (toml_amendment_of (values_of asked.amendment.now) bytes)
 
-  pub table_is : nat_lt LONGEST_FILE (length bytes) ≡ false
-      → table_by asked path bytes ≡ table_amendment path bytes (toml_amendment_of asked.amendments.now bytes)
+  pub table_is : nat_lt LONGEST_FILE (length bytes) ≡ false → table_by asked path bytes
+      ≡ table_amendment path bytes (toml_amendment_of (values_of asked.amendment.now) bytes)
   table_is short = ap (λ b. cond b (refused (refusals.TooLong path)) by_table) short
 
-  abbrev by_block : Result (Option Edit) Refusal
-  by_block = block_by asked path bytes (style_by asked path bytes)
-
-  pub inside_is : (text : Bool) → has_no_style_by asked path ≡ false → nat_lt LONGEST_FILE (length bytes) ≡ false
-      → is_text bytes ≡ text → inside_by asked path bytes ≡ cond (not text) (edited_to None)
-      (block_by asked path bytes (style_by asked path bytes))
-  inside_is text styled short is =
+  pub inside_is : (text : Bool) → stays_unread_by asked path ≡ false → nat_lt LONGEST_FILE (length bytes) ≡ false
+      → is_text bytes ≡ text
+      → inside_by asked path bytes ≡ cond (not text) (edited_to None) (own_text_by asked path bytes)
+  inside_is text read short is =
       ap (λ b. cond b (edited_to None) (cond (nat_lt LONGEST_FILE (length bytes)) (refused (refusals.TooLong path))
-      (cond (not (is_text bytes)) (edited_to None) by_block))) styled
-      ∙ ap (λ b. cond b (refused (refusals.TooLong path)) (cond (not (is_text bytes)) (edited_to None) by_block)) short
-      ∙ ap (λ b. cond (not b) (edited_to None) by_block) is
+      (cond (not (is_text bytes)) (edited_to None) (own_text_by asked path bytes)))) read
+      ∙ ap (λ b. cond b (refused (refusals.TooLong path)) (cond (not (is_text bytes)) (edited_to None)
+      (own_text_by asked path bytes))) short
+      ∙ ap (λ b. cond (not b) (edited_to None) (own_text_by asked path bytes)) is
 
 module _ (asked : Amendment) (tree : Files) (path : List ℕ) where
   abbrev covered_by : List ℕ → Option (List ℕ) → Result (Option Edit) Refusal
-  covered_by bytes beside = amend_covered asked.amendments.now asked.scope.now (own_of asked) path bytes beside
+  covered_by bytes beside = amend_covered asked.amendment.now asked.scope.now (own_of asked) path bytes beside
 
   -- it is a table, or another file
   abbrev by_file : List ℕ → Bool → Result (Option Edit) Refusal
-  by_file bytes table = cond table (amend_table asked.amendments.now path bytes) (cond (not (is_covered path))
-      (refused (refusals.NotCovered path)) (covered_by bytes (get tree (neighbour_of path))))
+  by_file bytes table = cond table (amend_table (values_of asked.amendment.now) path bytes)
+      (cond (not (is_covered path)) (refused (refusals.NotCovered path)) (covered_by bytes (get tree (neighbour_of path))))
 
   pub goes_to_table : (bytes : List ℕ) → get tree path ≡ Some bytes → is_table path ≡ true
       → amended_by asked tree path ≡ table_by asked path bytes
   goes_to_table bytes here table =
-      ap (amended_where asked.amendments.now asked.scope.now (own_of asked) tree path) here ∙ ap (by_file bytes) table
+      ap (amended_where asked.amendment.now asked.scope.now (own_of asked) tree path) here ∙ ap (by_file bytes) table
 
   pub uncovered_is : (file : Option (List ℕ)) → IsSome file → is_table path ≡ false → is_covered path ≡ false
-      → amended_where asked.amendments.now asked.scope.now (own_of asked) tree path file ≡ refused
+      → amended_where asked.amendment.now asked.scope.now (own_of asked) tree path file ≡ refused
       (refusals.NotCovered path)
   uncovered_is None some other e = absurd (false≢true some)
   uncovered_is (Some bytes) some other e = ap (by_file bytes) other
@@ -148,7 +146,7 @@ module _ (asked : Amendment) (tree : Files) (path : List ℕ) where
   covered_is : (bytes : List ℕ) (beside : Option (List ℕ)) → get tree path ≡ Some bytes → is_covered path ≡ true
       → get tree (neighbour_of path) ≡ beside → amended_by asked tree path ≡ covered_by bytes beside
   covered_is bytes beside here covered is =
-      ap (amended_where asked.amendments.now asked.scope.now (own_of asked) tree path) here
+      ap (amended_where asked.amendment.now asked.scope.now (own_of asked) tree path) here
       ∙ ap (by_file bytes) (not_table path covered)
       ∙ ap (λ t. cond (not t) (refused (refusals.NotCovered path)) (covered_by bytes (get tree (neighbour_of path))))
       covered ∙ ap (covered_by bytes) is
@@ -163,11 +161,11 @@ module _ (asked : Amendment) (tree : Files) (path : List ℕ) where
       → get tree (neighbour_of path) ≡ None → amended_by asked tree path ≡ inside_by asked path bytes
   goes_inside bytes here covered is = covered_is bytes None here covered is
 
-  -- and the file has no style, whatever it holds
+  -- and the file isn't amended, whatever it holds
   pub goes_nowhere : (bytes : List ℕ) → get tree path ≡ Some bytes → is_covered path ≡ true
-      → get tree (neighbour_of path) ≡ None → has_no_style_by asked path ≡ true
+      → get tree (neighbour_of path) ≡ None → stays_unread_by asked path ≡ true
       → amended_by asked tree path ≡ edited_to None
   goes_nowhere bytes here covered is none =
       goes_inside bytes here covered is ∙ ap (λ b. cond b (edited_to None)
       (cond (nat_lt LONGEST_FILE (length bytes)) (refused (refusals.TooLong path))
-      (cond (not (is_text bytes)) (edited_to None) (block_by asked path bytes (style_by asked path bytes))))) none
+      (cond (not (is_text bytes)) (edited_to None) (own_text_by asked path bytes)))) none

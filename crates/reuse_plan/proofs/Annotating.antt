@@ -24,7 +24,7 @@ use Rattle.reuse_plan.specs.Annotate.{annotated_where, annotated_at}
 use Rattle.reuse_header.specs.declared.annotation.How.{How}
 use Rattle.reuse_style.specs.Kinds.{OwnKinds}
 use Rattle.reuse_notice.specs.declared.adding.Additions.{Additions}
-use Rattle.reuse_amend.specs.declared.amendments.Amendments.{Amendments}
+use Rattle.reuse_command.specs.declared.command.FileAmendment.{FileAmendment}
 use Rattle.reuse_command.specs.declared.command.Scope.{Scope}
 use Rattle.reuse_plan.specs.Shown.{ShowsPair}
 use Rattle.reuse_plan.specs.Plan.{IsRefusalOf, MakesEdits}
@@ -132,12 +132,12 @@ absent_answer tree path paths are how scope additions own b none folder =
     (sym (are.folder (sym are.there ∙ none)) ∙ folder)
 
 pub absent_amended : (tree : Files) (path : List ℕ) (paths : List (List ℕ)) → ShowsPair paths tree path
-    → (amendments : Amendments) (scope : Scope) (own : OwnKinds) (b : Bool) → is_among paths path ≡ false
+    → (amendment : FileAmendment) (scope : Scope) (own : OwnKinds) (b : Bool) → is_among paths path ≡ false
     → is_folder_of paths path ≡ b
-    → amended_at amendments scope own tree path ≡ cond b (refused (refusals.IsFolder (place.Path path)))
+    → amended_at amendment scope own tree path ≡ cond b (refused (refusals.IsFolder (place.Path path)))
     (refused (refusals.NoSuchPath path))
-absent_amended tree path paths are amendments scope own b none folder =
-    ap (amended_where amendments scope own tree path) (is_absent tree path paths are.there none)
+absent_amended tree path paths are amendment scope own b none folder =
+    ap (amended_where amendment scope own tree path) (is_absent tree path paths are.there none)
     ∙ ap (λ t. cond t (refused (refusals.IsFolder (place.Path path))) (refused (refusals.NoSuchPath path)))
     (sym (are.folder (sym are.there ∙ none)) ∙ folder)
 

@@ -188,21 +188,21 @@ module _
             (λ p edit k. of_annotated how scope additions p edit own k) (selected_paths scope places tree) edits
             (if_not (not scope.recursive && has_root places) (refusals.IsFolder place.Root)
             (edits_at (annotated_at how scope additions own tree) (selected_paths scope places tree)) edits e)
-    each_edit (Amend places amendments scope) edits wanted h =
-        by_styles (styles_in tree) (sym (of_amendment places amendments scope tree) ∙ h)
+    each_edit (Amend places amendment scope) edits wanted h =
+        by_styles (styles_in tree) (sym (of_amendment places amendment scope tree) ∙ h)
       where
         of_amended : (own : OwnKinds) (path : List ℕ) (edit : Edit)
-            → amended_at amendments scope own tree path ≡ some_edit edit → P edit
-        of_amended own path edit e = let h = amends_there amendments scope own tree path edit e in
+            → amended_at amendment scope own tree path ≡ some_edit edit → P edit
+        of_amended own path edit e = let h = amends_there amendment scope own tree path edit e in
             there path h.at h.bytes (Ok h.one) edit h.here h.by
 
         by_styles : (styles : Result OwnKinds Refusal)
-            → amendments_by_names places amendments scope tree styles ≡ Ok edits → AllByRecursion P edits
+            → amendments_by_names places amendment scope tree styles ≡ Ok edits → AllByRecursion P edits
         by_styles (Err refusal) e = absurd (cc)
         by_styles (Ok own) e =
-            all_edits (amended_at amendments scope own tree) P (of_amended own) (amended_paths scope places tree) edits
+            all_edits (amended_at amendment scope own tree) P (of_amended own) (amended_paths scope places tree) edits
             (if_not (not scope.recursive && has_root places) (refusals.IsFolder place.Root)
-            (edits_at (amended_at amendments scope own tree) (amended_paths scope places tree)) edits e)
+            (edits_at (amended_at amendment scope own tree) (amended_paths scope places tree)) edits e)
     each_edit ConvertDep5 edits wanted h = of_converted edits (sym (of_conversion tree) ∙ h)
     each_edit (Download ids texts) edits wanted h = of_downloaded ids texts edits (sym (of_download ids texts tree) ∙ h)
     each_edit (AddStyles additions) edits wanted h = edits_of_lines additions tree edits P of_lines
@@ -357,7 +357,7 @@ each_differs command tree edits holds h =
   where
     all_proper : (command : Command) → HoldsEntry command → EachTakenBack IsProper command
     all_proper (Annotate places additions how scope) holds = tt
-    all_proper (Amend places amendments scope) holds = tt
+    all_proper (Amend places amendment scope) holds = tt
     all_proper ConvertDep5 holds = tt
     all_proper (Download ids texts) holds = tt
     all_proper (AddStyles additions) holds = tt
@@ -527,7 +527,7 @@ edits_reported command tree edits h =
 
     nothing : (command : Command) → EachTakenBack (λ change. Unit {0}) command
     nothing (Annotate places additions how scope) = tt
-    nothing (Amend places amendments scope) = tt
+    nothing (Amend places amendment scope) = tt
     nothing ConvertDep5 = tt
     nothing (Download ids texts) = tt
     nothing (AddStyles additions) = tt

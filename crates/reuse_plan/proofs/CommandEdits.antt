@@ -6,7 +6,7 @@ use Rattle.std.specs.Option.{option_map, option_or}
 use Rattle.std.proofs.lemmas.Option.{same_Some}
 use Rattle.reuse_notice.specs.Sets.{set_of}
 use Rattle.reuse_notice.specs.declared.adding.Additions.{Additions}
-use Rattle.reuse_amend.specs.declared.amendments.Amendments.{Amendments}
+use Rattle.reuse_command.specs.declared.command.FileAmendment.{FileAmendment}
 use Rattle.reuse_header.specs.declared.annotation.How.{How}
 use Rattle.reuse_change.specs.Change.{path_of}
 use Rattle.reuse_change.specs.Files.{Files}
@@ -57,15 +57,15 @@ edits_by_names places additions how scope tree (Ok own) =
 abbrev pub annotation_edits : List Place → Additions → How → Scope → Files → Result (List Edit) Refusal
 annotation_edits places additions how scope tree = edits_by_names places additions how scope tree (styles_in tree)
 
-abbrev pub amendments_by_names : List Place → Amendments → Scope → Files → Result OwnKinds Refusal
+abbrev pub amendments_by_names : List Place → FileAmendment → Scope → Files → Result OwnKinds Refusal
     → Result (List Edit) Refusal
-amendments_by_names places amendments scope tree (Err refusal) = Err refusal
-amendments_by_names places amendments scope tree (Ok own) =
-    edits_at_places (amended_at amendments scope own tree) scope places (amended_paths scope places tree)
+amendments_by_names places amendment scope tree (Err refusal) = Err refusal
+amendments_by_names places amendment scope tree (Ok own) =
+    edits_at_places (amended_at amendment scope own tree) scope places (amended_paths scope places tree)
 
-abbrev pub amendment_edits : List Place → Amendments → Scope → Files → Result (List Edit) Refusal
-amendment_edits places amendments scope tree =
-    amendments_by_names places amendments scope tree (styles_in tree)
+abbrev pub amendment_edits : List Place → FileAmendment → Scope → Files → Result (List Edit) Refusal
+amendment_edits places amendment scope tree =
+    amendments_by_names places amendment scope tree (styles_in tree)
 
 -- the changes that can't be taken back
 abbrev pub stuck_on : List (List ℕ) → Files → List Change → List Change
@@ -104,14 +104,14 @@ of_annotation places additions how scope tree = by_styles (styles_in tree)
     by_styles (Ok own) = edits_of_places (annotation_at how scope additions own tree) (selected_paths scope places tree)
         (not scope.recursive && has_root places)
 
-pub of_amendment : (places : List Place) (amendments : Amendments) (scope : Scope) (tree : Files)
-    → edits_of (Amend places amendments scope) tree ≡ amendment_edits places amendments scope tree
-of_amendment places amendments scope tree = by_styles (styles_in tree)
+pub of_amendment : (places : List Place) (amendment : FileAmendment) (scope : Scope) (tree : Files)
+    → edits_of (Amend places amendment scope) tree ≡ amendment_edits places amendment scope tree
+of_amendment places amendment scope tree = by_styles (styles_in tree)
   where
     by_styles : (styles : Result OwnKinds Refusal) → edits_in
-        (amendments_by places amendments scope tree styles) ≡ amendments_by_names places amendments scope tree styles
+        (amendments_by places amendment scope tree styles) ≡ amendments_by_names places amendment scope tree styles
     by_styles (Err refusal) = refl
-    by_styles (Ok own) = edits_of_places (amendment_at amendments scope own tree)
+    by_styles (Ok own) = edits_of_places (amendment_at amendment scope own tree)
         (amended_paths scope places tree) (not scope.recursive && has_root places)
 
 pub of_all_or_none : (given : Result (List Edit) Refusal) → edits_in (all_or_none given) ≡ given

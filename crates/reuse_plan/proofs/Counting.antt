@@ -133,13 +133,13 @@ pub left_are : (policy : Policy) (command : Command) (tree : Files) (plans : Lis
     → ArePlansOf policy tree (path_edits_of command tree) plans
     → left_planned_by command plans ≡ left_paths command tree
 unfolding left_paths
-left_are policy (Amend places amendments scope) tree plans are =
-    paths_are policy tree (path_edits_of (Amend places amendments scope) tree) plans are
+left_are policy (Amend places amendment scope) tree plans are =
+    paths_are policy tree (path_edits_of (Amend places amendment scope) tree) plans are
 left_are policy command tree plans are = refl
 
 pub none_left : (command : Command) (plans : List PathPlan) → is_amend command ≡ false
     → left_planned_by command plans ≡ []
-none_left (Amend places amendments scope) plans none = absurd (false≢true (sym none))
+none_left (Amend places amendment scope) plans none = absurd (false≢true (sym none))
 none_left command plans none = refl
 
 -- ---- one plan more

@@ -14,7 +14,7 @@ use Rattle.std.proofs.lemmas.List.Sums.{suffix_len-le-length}
 use Rattle.std.proofs.lemmas.Map.Keys.{IsDistinct-cons, sorted_head, sorted_tail}
 use Rattle.std.proofs.lemmas.Slice.Eq.{bytes_eq-Decides}
 use Rattle.reuse_notice.specs.declared.adding.Additions.{Additions}
-use Rattle.reuse_amend.specs.declared.amendments.Amendments.{Amendments}
+use Rattle.reuse_command.specs.declared.command.FileAmendment.{FileAmendment}
 use Rattle.reuse_style.specs.declared.style.Style.{Style}
 use Rattle.reuse_header.specs.declared.annotation.How.{How}
 use Rattle.reuse_header.specs.Annotation as header
@@ -46,7 +46,7 @@ use Rattle.reuse_plan.specs.declared.target.Target.TheVariants.{Inside, InNeighb
 use Rattle.reuse_command.specs.declared.reply.Refusal.{Refusal}
 use Rattle.reuse_command.specs.declared.reply.Refusal.TheVariants as refusals
 use Rattle.reuse_plan.proofs.AmendedPlaces.{amended_ascend}
-use Rattle.reuse_plan.proofs.Amending.{IsInside, IsBeside, IsTable, AmendsThere, amends_there}
+use Rattle.reuse_plan.proofs.Amending.{IsBeside, AmendsThere, amends_there}
 use Rattle.reuse_plan.proofs.Annotating.{starts_reuse, and_all, inside_of_tree, first_is, no_edits, all_edits}
 use Rattle.reuse_plan.proofs.Annotating.{both_err, if_not}
 use Rattle.reuse_plan.proofs.Choosing.{selected_ascend}
@@ -236,25 +236,22 @@ module _ (how : How) (scope : Scope) (additions : Additions) (tree : Files) (pat
           }
 
 -- an amendment is of a file that is there
-pub amendment_placed : (amendments : Amendments) (scope : Scope) (own : OwnKinds) (tree : Files) (path : List ℕ)
-    (edit : Edit) → amended_at amendments scope own tree path ≡ some_edit edit → IsPlaced tree path edit
-amendment_placed amendments scope own tree path edit e =
-    let h = amends_there amendments scope own tree path edit e in
+pub amendment_placed : (amendment : FileAmendment) (scope : Scope) (own : OwnKinds) (tree : Files) (path : List ℕ)
+    (edit : Edit) → amended_at amendment scope own tree path ≡ some_edit edit → IsPlaced tree path edit
+amendment_placed amendment scope own tree path edit e =
+    let h = amends_there amendment scope own tree path edit e in
     let same = edit_at path h.at h.bytes (Ok h.one) edit h.by in
     record { there = h.is_file; workable = h.workable; placed = of_place h same h.placed }
   where
-    there : (h : AmendsThere amendments scope own tree path edit) → edit.path ≡ h.at → get tree edit.path ≡ None
+    there : (h : AmendsThere tree path edit) → edit.path ≡ h.at → get tree edit.path ≡ None
         → is_clash tree edit.path ≡ false
     there h same none = let no : Some h.bytes ≡ None = sym h.here ∙ ap (get tree) (sym same) ∙ none in absurd (cc)
 
-    of_place : (h : AmendsThere amendments scope own tree path edit) → edit.path ≡ h.at
-        → IsInside amendments scope own tree path h.at h.bytes h.one ⊎ IsBeside amendments path h.at h.bytes h.one
-        ⊎ IsTable path h.at
+    of_place : (h : AmendsThere tree path edit) → edit.path ≡ h.at → (h.at ≡ path) ⊎ IsBeside path h.at
         → (edit.path ≡ path) ⊎ ((edit.path ≡ path ++ ending) × (length edit.path ≤ 4096)
         × (get tree edit.path ≡ None → is_clash tree edit.path ≡ false))
-    of_place h same (inl inside) = inl (same ∙ inside.same)
-    of_place h same (inr (inr table)) = inl (same ∙ table.same)
-    of_place h same (inr (inl beside)) =
+    of_place h same (inl here) = inl (same ∙ here)
+    of_place h same (inr beside) =
         inr (same ∙ beside.same, subst (λ p. length p ≤ 4096) (sym (same ∙ beside.same)) beside.few, there h same)
 
 -- ---- one edit is fit
@@ -417,17 +414,17 @@ command_fits (Annotate places additions how scope) tree holds are edits h =
         (if_not (not scope.recursive && has_root places) (refusals.IsFolder place.Root)
         (edits_at (annotated_at how scope additions own tree) (selected_paths scope places tree)) edits e)
         (selected_ascend scope places tree)
-command_fits (Amend places amendments scope) tree holds are edits h =
-    by_names (styles_in tree) (sym (of_amendment places amendments scope tree) ∙ h)
+command_fits (Amend places amendment scope) tree holds are edits h =
+    by_names (styles_in tree) (sym (of_amendment places amendment scope tree) ∙ h)
   where
-    by_names : (styles : Result OwnKinds Refusal) → amendments_by_names places amendments scope tree styles ≡ Ok edits
+    by_names : (styles : Result OwnKinds Refusal) → amendments_by_names places amendment scope tree styles ≡ Ok edits
         → AreFit tree edits
     by_names (Err refusal) e = absurd (cc)
     by_names (Ok own) e =
-        edits_fit (amended_at amendments scope own tree) tree (amendment_placed amendments scope own tree) are
+        edits_fit (amended_at amendment scope own tree) tree (amendment_placed amendment scope own tree) are
         (amended_paths scope places tree) edits
         (if_not (not scope.recursive && has_root places) (refusals.IsFolder place.Root)
-        (edits_at (amended_at amendments scope own tree) (amended_paths scope places tree)) edits e)
+        (edits_at (amended_at amendment scope own tree) (amended_paths scope places tree)) edits e)
         (amended_ascend scope places tree)
 command_fits ConvertDep5 tree holds are edits h =
     fit_of tree edits (conversion_fits tree edits (sym (of_conversion tree) ∙ h))

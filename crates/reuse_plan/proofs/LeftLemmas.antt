@@ -10,6 +10,7 @@ use Rattle.reuse_tags.specs.Left.{leaves_values}
 use Rattle.std.proofs.lemmas.List.{length-take-le, length-drop}
 use Rattle.reuse_text.specs.Text.{spliced}
 use Rattle.reuse_amend.specs.declared.amendments.Amendments.{Amendments}
+use Rattle.reuse_command.specs.Command.{values_of}
 use Rattle.reuse_header.specs.Annotation as header
 use Rattle.reuse_header.specs.declared.amendment.AmendHeaderRefusal.{AmendHeaderRefusal}
 use Rattle.reuse_header.specs.declared.annotation.Splice.{Splice}
@@ -133,15 +134,15 @@ module _ (asked : Amendment) (tree : Files) (path : List ℕ) where
       → AnswersText asked tree bytes given result
       → AnswersAmended tree (amended_by asked tree path) (left_by asked tree path) result
   answers_path bytes given result table telling goes answers =
-      let names = λ (bs : List ℕ). names_behind asked.amendments.now bs (amended_by asked tree path) in
-      let left : left_by asked tree path ≡ names_behind asked.amendments.now bytes given =
+      let names = λ (bs : List ℕ). names_behind (values_of asked.amendment.now) bs (amended_by asked tree path) in
+      let left : left_by asked tree path ≡ names_behind (values_of asked.amendment.now) bytes given =
       ap (λ b. not b && option_map_or names (telling_text tree path) false) table
-      ∙ ap (λ t. option_map_or names t false) telling ∙ ap (names_behind asked.amendments.now bytes) goes in
+      ∙ ap (λ t. option_map_or names t false) telling ∙ ap (names_behind (values_of asked.amendment.now) bytes) goes in
       subst (λ g. AnswersAmended tree g (left_by asked tree path) result) (sym goes)
       (subst (λ l. AnswersAmended tree given l result) (sym left) answers)
 
   -- no table is left
   pub no_table_left : is_table path ≡ true → false ≡ left_by asked tree path
   no_table_left table = sym (ap (λ b. not b && option_map_or
-      (λ (bs : List ℕ). names_behind asked.amendments.now bs (amended_by asked tree path)) (telling_text tree path) false)
-      table)
+      (λ (bs : List ℕ). names_behind (values_of asked.amendment.now) bs (amended_by asked tree path))
+      (telling_text tree path) false) table)

@@ -10,6 +10,7 @@ pub mod AnnotatedFiles
 pub mod Annotating
 pub mod AnnotationPathOutcomes
 pub mod AtTree
+pub mod BetweenLemmas
 pub mod ChangedPaths
 pub mod Choosing
 pub mod CommandEdits
@@ -39,6 +40,7 @@ pub mod SpliceLemmas
 pub mod StyleAdding
 pub mod StylesAdding
 pub mod TableLemmas
+pub mod TagLemmas
 pub mod TextsPut
 pub mod UnusedLemmas
 pub mod OwnFiles

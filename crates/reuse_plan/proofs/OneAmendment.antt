@@ -9,18 +9,21 @@ use Rattle.reuse_toml.specs.TomlAmending.{toml_amendment_of}
 use Rattle.reuse_style.specs.declared.style.Kind.{Kind}
 use Rattle.reuse_style.specs.declared.style.Kind.TheVariants as kind
 use Rattle.reuse_style.specs.declared.style.Style.{Style}
-use Rattle.reuse_header.specs.Amendment.{amended_file, amendment_of, neighbour_amendment_of}
+use Rattle.reuse_header.specs.Amendment.{amended_file, amendment_of}
 use Rattle.reuse_change.proofs.FileMaps.{same_files}
 use Rattle.reuse_plan.specs.Amended.{IsNeighbourAmended, IsFileAmended, HasNoPlace, IsTableAmended, IsCoveredAmended}
-use Rattle.reuse_plan.specs.Amended.{IsAmended, Amends}
+use Rattle.reuse_plan.specs.Amended.{IsAmended, Amends, HasNoText, BecomesFile, BecomesNeighbour}
 use Rattle.reuse_plan.specs.Amend.{amended_table}
 use Rattle.reuse_plan.specs.Annotate.{neighbour_of}
 use Rattle.reuse_plan.specs.Annotated.{IsStyleOf, HasKind, Pair}
 use Rattle.reuse_plan.specs.Tables.{is_table}
 use Rattle.reuse_plan.proofs.TableLemmas.{not_table}
+use Rattle.reuse_command.specs.Command.{values_of}
 use Rattle.reuse_command.specs.Covered.{is_covered}
 use Rattle.reuse_style.specs.Kinds.{OwnKinds}
 use Rattle.reuse_plan.specs.Selected.{amended_paths}
+use Rattle.reuse_command.specs.declared.command.FileAmendment.{FileAmendment}
+use Rattle.reuse_command.specs.declared.command.FileAmendment.TheVariants.{InHeader, Everywhere}
 use Rattle.reuse_command.specs.declared.command.Place.{Place}
 use Rattle.reuse_command.specs.declared.command.Scope.{Scope}
 use Rattle.reuse_plan.proofs.OneAnnotation.{one_style, Found, Lacking, searched}
@@ -41,40 +44,56 @@ module _ (scope : Scope) (own : OwnKinds) (path bytes : List ℕ) (style : Style
   unknown : kind.Style style ≡ kind.Unknown → ⊥
   unknown e = cc
 
-module _ (amendments : Amendments) (scope : Scope) (own : OwnKinds) (path bytes : List ℕ) (old : Pair) where
-  has_place : (new : Pair) → HasNoPlace scope own path bytes old
-      → IsFileAmended amendments scope own path bytes old new → ⊥
-  has_place new none file = elim none.1 [
-    | inl binary ↦ false≢true (sym binary ∙ file.text)
-    | inr named ↦ elim named [
-      | inl is ↦
-          styled scope own path bytes file.style kind.Uncommentable (uncommentable scope own path bytes file.style) file.of_style is
-      | inr is ↦ styled scope own path bytes file.style kind.Unknown (unknown scope own path bytes file.style) file.of_style is
-    ]
-  ]
+-- what the rules make of a file or of a neighbour is one
+module _ (scope : Scope) (own : OwnKinds) (path bytes : List ℕ) where
+  becomes_text : (amendment : FileAmendment) (made : List ℕ) → HasNoText amendment scope own path bytes
+      → BecomesFile amendment scope own path bytes made → ⊥
+  becomes_text (InHeader values) made (inl binary) file = false≢true (sym binary ∙ file.text)
+  becomes_text (InHeader values) made (inr (inl is)) file = styled scope own path bytes file.style kind.Uncommentable
+      (uncommentable scope own path bytes file.style) file.of_style is
+  becomes_text (InHeader values) made (inr (inr is)) file =
+      styled scope own path bytes file.style kind.Unknown (unknown scope own path bytes file.style) file.of_style is
+  becomes_text (Everywhere values) made binary text = false≢true (sym binary ∙ text.text)
 
-  both_files : (new other : Pair) → IsFileAmended amendments scope own path bytes old new
-      → IsFileAmended amendments scope own path bytes old other → new ≡ other
-  both_files new other one two =
+  becomes_file : (amendment : FileAmendment) (made other : List ℕ) → BecomesFile amendment scope own path bytes made
+      → BecomesFile amendment scope own path bytes other → made ≡ other
+  becomes_file (InHeader values) made other one two =
       let style = one_style scope own path bytes one.style two.style one.of_style two.of_style in
-      let made = same_Ok one.made two.made
-      (sym one.by_rules ∙ ap (λ s. amended_file bytes (amendment_of s amendments bytes)) style ∙ two.by_rules) in
+      same_Ok made other (sym one.by_rules ∙ ap (λ s. amended_file bytes (amendment_of s values bytes)) style
+      ∙ two.by_rules)
+  becomes_file (Everywhere values) made other one two = same_Some made other (sym one.by_rules ∙ two.by_rules)
+
+becomes_neighbour : (amendment : FileAmendment) (beside made other : List ℕ) → BecomesNeighbour amendment beside made
+    → BecomesNeighbour amendment beside other → made ≡ other
+becomes_neighbour (InHeader values) beside made other one two = same_Ok made other (sym one.by_rules ∙ two.by_rules)
+becomes_neighbour (Everywhere values) beside made other one two =
+    same_Some made other (sym one.by_rules ∙ two.by_rules)
+
+module _ (amendment : FileAmendment) (scope : Scope) (own : OwnKinds) (path bytes : List ℕ) (old : Pair) where
+  has_place : (new : Pair) → HasNoPlace amendment scope own path bytes old
+      → IsFileAmended amendment scope own path bytes old new → ⊥
+  has_place new none file = becomes_text scope own path bytes amendment file.made none.1 file.becomes
+
+  both_files : (new other : Pair) → IsFileAmended amendment scope own path bytes old new
+      → IsFileAmended amendment scope own path bytes old other → new ≡ other
+  both_files new other one two =
+      let made = becomes_file scope own path bytes amendment one.made two.made one.becomes two.becomes in
       one.holds ∙ ap (λ (m : List ℕ). record { file = Some m; neighbour = None }) made ∙ sym two.holds
 
-  both_neighbours : (new other : Pair) → IsNeighbourAmended amendments old new
-      → IsNeighbourAmended amendments old other → new ≡ other
+  both_neighbours : (new other : Pair) → IsNeighbourAmended amendment old new
+      → IsNeighbourAmended amendment old other → new ≡ other
   both_neighbours new other one two =
       let beside = same_Some one.beside two.beside (sym one.there ∙ two.there) in
-      let made = same_Ok one.made two.made
-      (sym one.by_rules ∙ ap (λ b. amended_file b (neighbour_amendment_of amendments b)) beside ∙ two.by_rules) in
+      let made = becomes_neighbour amendment two.beside one.made two.made
+      (subst (λ (b : List ℕ). BecomesNeighbour amendment b one.made) beside one.becomes) two.becomes in
       one.holds ∙ ap (λ (m : List ℕ). record { file = old.file; neighbour = Some m }) made ∙ sym two.holds
 
-  no_neighbour_there : (new : Pair) → old.neighbour ≡ None → IsNeighbourAmended amendments old new → ⊥
+  no_neighbour_there : (new : Pair) → old.neighbour ≡ None → IsNeighbourAmended amendment old new → ⊥
   no_neighbour_there new alone beside = none-some beside.beside (sym alone ∙ beside.there)
 
   abbrev Becomes : Pair → Type 0
-  Becomes new = (HasNoPlace scope own path bytes old × (new ≡ old))
-      ⊎ IsFileAmended amendments scope own path bytes old new ⊎ IsNeighbourAmended amendments old new
+  Becomes new = (HasNoPlace amendment scope own path bytes old × (new ≡ old))
+      ⊎ IsFileAmended amendment scope own path bytes old new ⊎ IsNeighbourAmended amendment old new
 
   becomes_one : (new other : Pair) → Becomes new → Becomes other → new ≡ other
   becomes_one new other (inl one) (inl two) = one.1 ∙ sym two.1
@@ -87,13 +106,13 @@ module _ (amendments : Amendments) (scope : Scope) (own : OwnKinds) (path bytes 
   becomes_one new other (inr (inr one)) (inr (inl two)) = absurd (no_neighbour_there new two.alone one)
   becomes_one new other (inr (inr one)) (inr (inr two)) = both_neighbours new other one two
 
-covered_one : (amendments : Amendments) (scope : Scope) (own : OwnKinds) (path : List ℕ) (old new other : Pair)
-    → IsCoveredAmended amendments scope own path old new
-    → IsCoveredAmended amendments scope own path old other → new ≡ other
-covered_one amendments scope own path old new other one two =
+covered_one : (amendment : FileAmendment) (scope : Scope) (own : OwnKinds) (path : List ℕ) (old new other : Pair)
+    → IsCoveredAmended amendment scope own path old new
+    → IsCoveredAmended amendment scope own path old other → new ≡ other
+covered_one amendment scope own path old new other one two =
     let same = same_Some two.bytes one.bytes (sym two.there ∙ one.there) in
-    becomes_one amendments scope own path one.bytes old new other one.becomes
-    (subst (λ bytes. Becomes amendments scope own path bytes old other) same two.becomes)
+    becomes_one amendment scope own path one.bytes old new other one.becomes
+    (subst (λ bytes. Becomes amendment scope own path bytes old other) same two.becomes)
 
 -- a table
 both_tables : (amendments : Amendments) (old new other : Pair) → IsTableAmended amendments old new
@@ -108,19 +127,19 @@ both_tables amendments old new other one two =
 not_both : (path : List ℕ) → is_table path ≡ true → is_covered path ≡ true → ⊥
 not_both path table covered = false≢true (sym (not_table path covered) ∙ table)
 
-amended_one : (amendments : Amendments) (scope : Scope) (own : OwnKinds) (path : List ℕ) (old new other : Pair)
-    → IsAmended amendments scope own path old new → IsAmended amendments scope own path old other → new ≡ other
-amended_one amendments scope own path old new other (inl one) (inl two) =
-    both_tables amendments old new other one.1 two.1
-amended_one amendments scope own path old new other (inl one) (inr two) = absurd (not_both path one.0 two.covered)
-amended_one amendments scope own path old new other (inr one) (inl two) = absurd (not_both path two.0 one.covered)
-amended_one amendments scope own path old new other (inr one) (inr two) =
-    covered_one amendments scope own path old new other one two
+amended_one : (amendment : FileAmendment) (scope : Scope) (own : OwnKinds) (path : List ℕ) (old new other : Pair)
+    → IsAmended amendment scope own path old new → IsAmended amendment scope own path old other → new ≡ other
+amended_one amendment scope own path old new other (inl one) (inl two) =
+    both_tables (values_of amendment) old new other one.1 two.1
+amended_one amendment scope own path old new other (inl one) (inr two) = absurd (not_both path one.0 two.covered)
+amended_one amendment scope own path old new other (inr one) (inl two) = absurd (not_both path two.0 one.covered)
+amended_one amendment scope own path old new other (inr one) (inr two) =
+    covered_one amendment scope own path old new other one two
 
 -- ---- the tree
 
-module _ (places : List Place) (amendments : Amendments) (scope : Scope) (before after other : Files)
-    (one : Amends places amendments scope before after) (two : Amends places amendments scope before other) where
+module _ (places : List Place) (amendment : FileAmendment) (scope : Scope) (before after other : Files)
+    (one : Amends places amendment scope before after) (two : Amends places amendment scope before other) where
   abbrev paths : List (List ℕ)
   paths = amended_paths scope places before
 
@@ -129,8 +148,8 @@ module _ (places : List Place) (amendments : Amendments) (scope : Scope) (before
   same_pair path there =
       let here = Contains-from_in paths path there in
       let own = same_Ok two.own one.own (sym two.styles ∙ one.styles) in
-      let same = amended_one amendments scope one.own path _ _ _ (one.selected path here)
-      (subst (λ names. IsAmended amendments scope names path _ _) own (two.selected path here)) in
+      let same = amended_one amendment scope one.own path _ _ _ (one.selected path here)
+      (subst (λ names. IsAmended amendment scope names path _ _) own (two.selected path here)) in
       (ap (λ (pair : Pair). pair.file) same, ap (λ (pair : Pair). pair.neighbour) same)
 
   same_at : (q : List ℕ) → get after q ≡ get other q

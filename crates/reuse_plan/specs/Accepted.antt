@@ -9,6 +9,7 @@ use Rattle.reuse_amend.specs.declared.amendments.Amendments.{Amendments}
 use Rattle.reuse_header.specs.Annotation.{annotated}
 use Rattle.reuse_header.specs.Amendment.{amended_file, amendment_of, neighbour_amendment_of}
 use Rattle.reuse_header.specs.Neighbour.{is_text, neighbour_annotated}
+use Rattle.reuse_tags.specs.Everywhere.{amended_everywhere}
 use Rattle.reuse_header.specs.declared.annotation.How.{How}
 use Rattle.reuse_style.specs.Kinds.{OwnKinds, kind_unread}
 use Rattle.reuse_style.specs.declared.style.Style.{Style}
@@ -20,7 +21,7 @@ use Rattle.reuse_change.specs.Files.{Files, Clashes}
 use Rattle.reuse_plan.specs.Amend.{amended_table}
 use Rattle.reuse_plan.specs.Annotate.{neighbour_of}
 use Rattle.reuse_plan.specs.Annotated.{Pair, pair_at, IsSkipped, IsStyleOf, TakesComment, TakesNeighbour}
-use Rattle.reuse_command.specs.Command.{has_root}
+use Rattle.reuse_command.specs.Command.{has_root, values_of}
 use Rattle.reuse_plan.specs.Conversion.{dep5_path, toml_path}
 use Rattle.reuse_command.specs.Covered.{is_covered}
 use Rattle.reuse_plan.specs.Downloads.{text_for}
@@ -31,6 +32,8 @@ use Rattle.reuse_plan.specs.TreeStyles.{styles_in}
 use Rattle.reuse_plan.specs.Selected.{amended_paths, selected_paths}
 use Rattle.reuse_command.specs.declared.command.Command.{Command}
 use Rattle.reuse_command.specs.declared.command.Command.TheVariants.{Amend, Annotate, ConvertDep5, Download}
+use Rattle.reuse_command.specs.declared.command.FileAmendment.{FileAmendment}
+use Rattle.reuse_command.specs.declared.command.FileAmendment.TheVariants.{InHeader, Everywhere}
 use Rattle.reuse_command.specs.declared.command.Place.{Place}
 use Rattle.reuse_command.specs.declared.command.Scope.{Scope}
 use Rattle.reuse_command.specs.declared.licence.LicenceText.{LicenceText}
@@ -118,34 +121,54 @@ pub record CanAnnotate (places : List Place) (additions : Additions) (how : How)
 
 -- ---- amendments
 
+-- the rules accept each tag of a text, and make none of it that is too long
+abbrev pub CanTextBeAmended : Amendments → List ℕ → Type 0
+CanTextBeAmended values bytes =
+    (made : List ℕ) × (amended_everywhere values bytes ≡ Some made) × (length made ≤ LONGEST_FILE)
+
+-- the rules accept what a neighbour says; or it is text, and they accept each tag of it
+abbrev pub IsNeighbourAccepted : FileAmendment → List ℕ → Type 0
+IsNeighbourAccepted (InHeader values) beside = IsOk (amended_file beside (neighbour_amendment_of values beside))
+IsNeighbourAccepted (Everywhere values) beside = (is_text beside ≡ true) × CanTextBeAmended values beside
+
 -- the path of the neighbour isn't too long, nor is the neighbour, and the rules accept its bytes
-pub record CanNeighbourBeAmended (amendments : Amendments) (path beside : List ℕ) : Type 0 where
+pub record CanNeighbourBeAmended (amendment : FileAmendment) (path beside : List ℕ) : Type 0 where
   pub short_path : length (neighbour_of path) ≤ 4096
   pub short : length beside ≤ LONGEST_FILE
-  pub accepted : IsOk (amended_file beside (neighbour_amendment_of amendments beside))
+  pub accepted : IsNeighbourAccepted amendment beside
 
 -- the file has no style whatever it holds, and isn't read
 abbrev pub HasNoStyleUnread : Scope → OwnKinds → List ℕ → Type 0
 HasNoStyleUnread scope own path =
     HasKindUnread scope own path kind.Uncommentable ⊎ HasKindUnread scope own path kind.Unknown
 
--- the file isn't too long, and the rules accept its bytes in its style, where it is text and has one
-pub record CanFileBeAmended (amendments : Amendments) (scope : Scope) (own : OwnKinds)
+-- so it is where a header block is looked for
+abbrev pub StaysUnread : FileAmendment → Scope → OwnKinds → List ℕ → Type 0
+StaysUnread (InHeader values) scope own path = HasNoStyleUnread scope own path
+StaysUnread (Everywhere values) scope own path = ⊥
+
+-- the rules accept a text in its style, where it has one; or they accept each tag of it
+abbrev pub IsTextAccepted : FileAmendment → Scope → OwnKinds → List ℕ → List ℕ → Type 0
+IsTextAccepted (InHeader values) scope own path bytes =
+    (style : Style) → IsStyleOf scope own path bytes style → IsOk (amended_file bytes (amendment_of style values bytes))
+IsTextAccepted (Everywhere values) scope own path bytes = CanTextBeAmended values bytes
+
+-- the file isn't too long, and the rules accept its bytes where they are text
+pub record CanFileBeAmended (amendment : FileAmendment) (scope : Scope) (own : OwnKinds)
     (path bytes : List ℕ) : Type 0 where
   pub short : length bytes ≤ LONGEST_FILE
-  pub accepted : is_text bytes ≡ true → (style : Style) → IsStyleOf scope own path bytes style
-      → IsOk (amended_file bytes (amendment_of style amendments bytes))
+  pub accepted : is_text bytes ≡ true → IsTextAccepted amendment scope own path bytes
 
 -- the path has a covered file; its neighbour can be amended where that is there, else the file itself where it is read
-pub record CanCoveredBeAmended (amendments : Amendments) (scope : Scope) (own : OwnKinds) (tree : Files)
+pub record CanCoveredBeAmended (amendment : FileAmendment) (scope : Scope) (own : OwnKinds) (tree : Files)
     (path : List ℕ) : Type 0 where
   pub bytes : List ℕ
   pub there : get tree path ≡ Some bytes
   pub covered : is_covered path ≡ true
   pub by_neighbour : (beside : List ℕ) → get tree (neighbour_of path) ≡ Some beside
-      → CanNeighbourBeAmended amendments path beside
-  pub by_file : get tree (neighbour_of path) ≡ None → ¬ (HasNoStyleUnread scope own path)
-      → CanFileBeAmended amendments scope own path bytes
+      → CanNeighbourBeAmended amendment path beside
+  pub by_file : get tree (neighbour_of path) ≡ None → ¬ (StaysUnread amendment scope own path)
+      → CanFileBeAmended amendment scope own path bytes
 
 -- the path has a table, which isn't too long, and the rules accept its bytes
 pub record CanTableBeAmended (amendments : Amendments) (tree : Files) (path : List ℕ) : Type 0 where
@@ -156,16 +179,16 @@ pub record CanTableBeAmended (amendments : Amendments) (tree : Files) (path : Li
   pub accepted : IsOk (amended_table bytes (toml_amendment_of amendments bytes))
 
 -- the path has a table that can be amended, or a covered file that can be
-abbrev pub CanBeAmended : Amendments → Scope → OwnKinds → Files → List ℕ → Type 0
-CanBeAmended amendments scope own tree path =
-    CanTableBeAmended amendments tree path ⊎ CanCoveredBeAmended amendments scope own tree path
+abbrev pub CanBeAmended : FileAmendment → Scope → OwnKinds → Files → List ℕ → Type 0
+CanBeAmended amendment scope own tree path =
+    CanTableBeAmended (values_of amendment) tree path ⊎ CanCoveredBeAmended amendment scope own tree path
 
 -- the tree's own styles are good, the root is given only where folders are gone through, each path that is gone through
 -- can be amended, and one entry holds them all
-pub record CanAmend (places : List Place) (amendments : Amendments) (scope : Scope) (tree : Files) : Type 0 where
+pub record CanAmend (places : List Place) (amendment : FileAmendment) (scope : Scope) (tree : Files) : Type 0 where
   pub own : OwnKinds
   pub styles : styles_in tree ≡ Ok own
   pub root : has_root places ≡ true → scope.recursive ≡ true
   pub each : (path : List ℕ) → Contains (amended_paths scope places tree) path
-      → CanBeAmended amendments scope own tree path
-  pub fits : FitsEntry (Amend places amendments scope) tree
+      → CanBeAmended amendment scope own tree path
+  pub fits : FitsEntry (Amend places amendment scope) tree

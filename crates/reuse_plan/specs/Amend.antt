@@ -1,6 +1,7 @@
 -- What amend does at each path of a tree: the information is amended where it stands, in the neighbour that is there or
--- else in the file's own header block, and in a table, a file `REUSE.toml`, in its values. Nothing is made, and no file
--- is refused for want of a style (docs/RULES.md, "What amend writes").
+-- else in the file's own header block, and in a table, a file `REUSE.toml`, in its values. Where it is asked for, each
+-- tag of a text is amended in place of the header block. Nothing is made, and no file is refused for want of a style
+-- (docs/RULES.md, "What amend writes").
 use Rattle.std.specs.Prelude.{ℕ, Bool, false, not, ◌&&◌, List, length, take, drop, nat_lt, Option, Some, None, is_none}
 use Rattle.std.specs.Prelude.{Result, Ok, Err, if◌then◌else◌}
 use Rattle.std.specs.FinMap.{get}
@@ -10,6 +11,8 @@ use Rattle.reuse_toml.specs.declared.toml_values.AmendTomlRefusal.{AmendTomlRefu
 use Rattle.reuse_toml.specs.declared.toml_values.AmendTomlRefusal.TheVariants as toml_refusals
 use Rattle.reuse_toml.specs.TomlAmending.{toml_amendment_of}
 use Rattle.reuse_amend.specs.declared.amendments.Amendments.{Amendments}
+use Rattle.reuse_amend.specs.declared.amendments.AmendRefusal.{AmendRefusal}
+use Rattle.reuse_amend.specs.declared.amendments.AmendRefusal.TheVariants as tag_refusals
 use Rattle.reuse_style.specs.declared.style.Style.{Style}
 use Rattle.reuse_style.specs.declared.style.Kind.{Kind}
 use Rattle.reuse_style.specs.declared.style.Kind.TheVariants as kind
@@ -20,20 +23,25 @@ use Rattle.reuse_text.specs.declared.TheConstants.{LONGEST_FILE}
 use Rattle.reuse_header.specs.Amendment.{amendment_of, neighbour_amendment_of}
 use Rattle.reuse_header.specs.Annotation as header
 use Rattle.reuse_header.specs.Neighbour.{is_text}
+use Rattle.reuse_tags.specs.Everywhere.{amended_everywhere}
 use Rattle.reuse_change.specs.Files.{Files}
 use Rattle.reuse_change.specs.Listing.{is_folder}
 use Rattle.reuse_plan.specs.Annotate.{neighbour_of, edit_by}
 use Rattle.reuse_command.specs.Covered.{is_covered}
-use Rattle.reuse_plan.specs.Edit.{Edit}
+use Rattle.reuse_command.specs.Command.{values_of}
+use Rattle.reuse_plan.specs.Edit.{Edit, edit_between}
 use Rattle.reuse_plan.specs.HeaderFaults.{refused_by}
 use Rattle.reuse_plan.specs.Tables.{is_table}
 use Rattle.reuse_command.specs.declared.amend_fault.AmendFault.TheVariants.{BadExpression, NothingLeft, CannotBeAmended}
+use Rattle.reuse_command.specs.declared.header_fault.HeaderFault.TheVariants as faults
+use Rattle.reuse_command.specs.declared.command.FileAmendment.{FileAmendment}
+use Rattle.reuse_command.specs.declared.command.FileAmendment.TheVariants.{InHeader, Everywhere}
 use Rattle.reuse_command.specs.declared.command.Place.TheVariants as place
 use Rattle.reuse_command.specs.declared.command.Scope.{Scope}
 use Rattle.reuse_command.specs.declared.reply.Refusal.{Refusal}
 use Rattle.reuse_command.specs.declared.failure.Failure.TheVariants.{Memory}
 use Rattle.reuse_command.specs.declared.reply.Refusal.TheVariants.{NoSuchPath, IsFolder, NotCovered, TooLong, Amend}
-use Rattle.reuse_command.specs.declared.reply.Refusal.TheVariants.{Failed}
+use Rattle.reuse_command.specs.declared.reply.Refusal.TheVariants.{Failed, Header}
 
 -- ---- the style of a file
 
@@ -75,32 +83,72 @@ amendment_edit path at bytes (Ok None) = Ok None
 amendment_edit path at bytes (Ok (Some edit)) = edit_by path at bytes (Ok edit)
 amendment_edit path at bytes (Err refusal) = Err (amend_refused_by path refusal)
 
+-- ---- each tag of a text
+
+-- why it can't be amended, as a refusal that names the file
+abbrev pub tags_refused_by : List ℕ → AmendRefusal → Refusal
+tags_refused_by path tag_refusals.BadExpression = Amend path BadExpression
+tags_refused_by path (tag_refusals.Memory e) = Failed Memory
+
+-- a text that is amended takes the place of these bytes, none where a licence leaves the grammar; a refusal names the
+-- file
+abbrev pub text_edit : List ℕ → List ℕ → List ℕ → Option (List ℕ) → Result (Option Edit) Refusal
+text_edit path at bytes None = Err (Amend path BadExpression)
+text_edit path at bytes (Some made) =
+    if nat_lt LONGEST_FILE (length made) then Err (Header path faults.TooLong) else Ok (edit_between at bytes made)
+
+-- each tag of a text of these bytes is amended
+abbrev pub amend_text : Amendments → List ℕ → List ℕ → List ℕ → Result (Option Edit) Refusal
+amend_text values path at bytes = text_edit path at bytes (amended_everywhere values bytes)
+
+-- ---- a neighbour
+
+-- what amending makes of its bytes: of all that it says, or of each tag of it
+abbrev pub amend_beside : FileAmendment → List ℕ → List ℕ → Result (Option Edit) Refusal
+amend_beside (InHeader values) path beside =
+    amendment_edit path (neighbour_of path) beside (neighbour_amendment_of values beside)
+amend_beside (Everywhere values) path beside =
+    if not (is_text beside) then Err (Header path faults.NotText)
+    else amend_text values path (neighbour_of path) beside
+
 -- the neighbour that is there, of these bytes
-abbrev pub amend_neighbour : Amendments → List ℕ → List ℕ → Result (Option Edit) Refusal
-amend_neighbour amendments path beside =
+abbrev pub amend_neighbour : FileAmendment → List ℕ → List ℕ → Result (Option Edit) Refusal
+amend_neighbour amendment path beside =
     if nat_lt 4096 (length (neighbour_of path)) then Err (TooLong path)
     else if nat_lt LONGEST_FILE (length beside) then Err (TooLong path)
-    else amendment_edit path (neighbour_of path) beside (neighbour_amendment_of amendments beside)
+    else amend_beside amendment path beside
 
--- the header block of a file; without a style it isn't looked for
+-- ---- the file itself
+
+-- its header block; without a style that isn't looked for
 abbrev pub amend_block : Amendments → List ℕ → List ℕ → Option Style → Result (Option Edit) Refusal
-amend_block amendments path bytes None = Ok None
-amend_block amendments path bytes (Some style) =
-    amendment_edit path path bytes (amendment_of style amendments bytes)
+amend_block values path bytes None = Ok None
+amend_block values path bytes (Some style) =
+    amendment_edit path path bytes (amendment_of style values bytes)
 
--- the file itself, if it is text; it isn't read where it has no style whatever it holds
-abbrev pub amend_inside : Amendments → Scope → OwnKinds → List ℕ → List ℕ → Result (Option Edit) Refusal
-amend_inside amendments scope own path bytes =
-    if has_no_style_unread scope own path then Ok None
+-- the file is not amended, whatever it holds: it has no style, and a header block is looked for
+abbrev pub stays_unread : FileAmendment → Scope → OwnKinds → List ℕ → Bool
+stays_unread (InHeader values) scope own path = has_no_style_unread scope own path
+stays_unread (Everywhere values) scope own path = false
+
+-- a text of these bytes: its header block, or each tag, whatever its style
+abbrev pub amend_own_text : FileAmendment → Scope → OwnKinds → List ℕ → List ℕ → Result (Option Edit) Refusal
+amend_own_text (InHeader values) scope own path bytes = amend_block values path bytes (style_for scope own path bytes)
+amend_own_text (Everywhere values) scope own path bytes = amend_text values path path bytes
+
+-- the file, if it is text
+abbrev pub amend_inside : FileAmendment → Scope → OwnKinds → List ℕ → List ℕ → Result (Option Edit) Refusal
+amend_inside amendment scope own path bytes =
+    if stays_unread amendment scope own path then Ok None
     else if nat_lt LONGEST_FILE (length bytes) then Err (TooLong path)
     else if not (is_text bytes) then Ok None
-    else amend_block amendments path bytes (style_for scope own path bytes)
+    else amend_own_text amendment scope own path bytes
 
 -- the neighbour where it is there, else the file
-abbrev pub amend_covered : Amendments → Scope → OwnKinds → List ℕ → List ℕ → Option (List ℕ)
+abbrev pub amend_covered : FileAmendment → Scope → OwnKinds → List ℕ → List ℕ → Option (List ℕ)
     → Result (Option Edit) Refusal
-amend_covered amendments scope own path bytes (Some beside) = amend_neighbour amendments path beside
-amend_covered amendments scope own path bytes None = amend_inside amendments scope own path bytes
+amend_covered amendment scope own path bytes (Some beside) = amend_neighbour amendment path beside
+amend_covered amendment scope own path bytes None = amend_inside amendment scope own path bytes
 
 -- ---- a table
 
@@ -141,14 +189,14 @@ amend_table amendments path bytes =
 -- ---- a path
 
 -- what amend does at a path, where the tree has this
-abbrev pub amended_where : Amendments → Scope → OwnKinds → Files → List ℕ → Option (List ℕ)
+abbrev pub amended_where : FileAmendment → Scope → OwnKinds → Files → List ℕ → Option (List ℕ)
     → Result (Option Edit) Refusal
-amended_where amendments scope own tree path None =
+amended_where amendment scope own tree path None =
     if is_folder tree path then Err (IsFolder (place.Path path)) else Err (NoSuchPath path)
-amended_where amendments scope own tree path (Some bytes) =
-    if is_table path then amend_table amendments path bytes
+amended_where amendment scope own tree path (Some bytes) =
+    if is_table path then amend_table (values_of amendment) path bytes
     else if not (is_covered path) then Err (NotCovered path)
-    else amend_covered amendments scope own path bytes (get tree (neighbour_of path))
+    else amend_covered amendment scope own path bytes (get tree (neighbour_of path))
 
-abbrev pub amended_at : Amendments → Scope → OwnKinds → Files → List ℕ → Result (Option Edit) Refusal
-amended_at amendments scope own tree path = amended_where amendments scope own tree path (get tree path)
+abbrev pub amended_at : FileAmendment → Scope → OwnKinds → Files → List ℕ → Result (Option Edit) Refusal
+amended_at amendment scope own tree path = amended_where amendment scope own tree path (get tree path)

@@ -1,10 +1,10 @@
 -- What amend makes of a tree, in other words: each file that is gone through, or its neighbour where that is there,
 -- becomes what the rules say of these bytes alone, a table what they say of its values, and all else stays.
-use Rattle.std.specs.Prelude.{◌≡◌, ◌≢◌, ◌⊎◌, ℕ, true, false, List, Some, None, is_some, Ok}
+use Rattle.std.specs.Prelude.{◌≡◌, ◌≢◌, ◌⊎◌, ℕ, true, false, List, [], ◌∷◌, ◌++◌, take, Option, Some, None, is_some, Ok}
 use Rattle.std.specs.List.{Contains}
 use Rattle.std.specs.Option.{option_map}
 use Rattle.std.specs.FinMap.{get}
-use Rattle.reuse_text.specs.Text.{mark_len_of}
+use Rattle.reuse_text.specs.Text.{TextLine, file_lines, line_bytes, mark_len_of}
 use Rattle.reuse_amend.specs.declared.amendments.Amendments.{Amendments}
 use Rattle.reuse_toml.specs.TomlAmending.{toml_amendment_of}
 use Rattle.reuse_toml.specs.TomlLaws.{IsAmendedText, DiffersInStrings}
@@ -14,16 +14,46 @@ use Rattle.reuse_style.specs.declared.style.Kind.TheVariants as kind
 use Rattle.reuse_header.specs.Amendment.{amended_file, amendment_of, neighbour_amendment_of}
 use Rattle.reuse_header.specs.Header.{HeaderSpan, header_of, span_in}
 use Rattle.reuse_header.specs.Neighbour.{is_text, neighbour_end}
+use Rattle.reuse_tags.specs.Everywhere.{amended_everywhere, kept_bytes}
+use Rattle.reuse_tags.specs.Placed.{IsChangedInValues}
 use Rattle.reuse_change.specs.Files.{Files}
 use Rattle.reuse_plan.specs.Amend.{amended_table}
 use Rattle.reuse_plan.specs.Annotate.{neighbour_of}
 use Rattle.reuse_plan.specs.Annotated.{IsSameAround, IsStyleOf, HasKind, Pair, pair_at}
+use Rattle.reuse_command.specs.Command.{values_of}
 use Rattle.reuse_command.specs.Covered.{is_covered}
 use Rattle.reuse_plan.specs.Tables.{is_table}
 use Rattle.reuse_plan.specs.TreeStyles.{styles_in}
 use Rattle.reuse_plan.specs.Selected.{amended_paths}
+use Rattle.reuse_command.specs.declared.command.FileAmendment.{FileAmendment}
+use Rattle.reuse_command.specs.declared.command.FileAmendment.TheVariants.{InHeader, Everywhere}
 use Rattle.reuse_command.specs.declared.command.Place.{Place}
 use Rattle.reuse_command.specs.declared.command.Scope.{Scope}
+
+-- ---- each tag of a text
+
+-- a line becomes these bytes: it stays, or is changed in the values of its tags alone, with its ending
+abbrev pub BecomesLine : TextLine → List ℕ → Type 0
+BecomesLine line made =
+    (made ≡ line_bytes line)
+    ⊎ ((kept : Option (List ℕ)) × IsChangedInValues line.content kept × (made ≡ kept_bytes line.ending kept))
+
+-- lines become these bytes, one after the other
+unfoldable pub BecomeLines : List (ℕ × TextLine) → List ℕ → Type 0
+BecomeLines [] made = made ≡ []
+BecomeLines (line ∷ lines) made =
+    (first : List ℕ) × (rest : List ℕ) × (made ≡ first ++ rest) × BecomesLine line.1 first × BecomeLines lines rest
+
+-- each byte of a text outside of the values of its tags stays
+abbrev pub KeepsOutsideValues : List ℕ → List ℕ → Type 0
+KeepsOutsideValues old new =
+    (rest : List ℕ) × (new ≡ take (mark_len_of old) old ++ rest) × BecomeLines (file_lines old) rest
+
+-- it is text, and the rules make this of each of its tags
+pub record IsTextAmended (values : Amendments) (bytes made : List ℕ) : Type 0 where
+  pub text : is_text bytes ≡ true
+  pub by_rules : amended_everywhere values bytes ≡ Some made
+  pub keeps : KeepsOutsideValues bytes made
 
 -- ---- one file
 
@@ -33,45 +63,68 @@ KeepsOutsideBlock style old new =
     (block : HeaderSpan) × (option_map (span_in old) (header_of style old) ≡ Some block)
     × IsSameAround block.start block.end old new
 
--- The neighbour is there. It holds what the rules make of its own bytes, and the file stays. It is as it was, or each
--- byte outside its block stays.
-pub record IsNeighbourAmended (amendments : Amendments) (old new : Pair) : Type 0 where
+-- the rules make this of what a neighbour says; it is as it was, or each byte outside its block stays
+pub record IsNeighbourWritten (values : Amendments) (beside made : List ℕ) : Type 0 where
+  pub by_rules : amended_file beside (neighbour_amendment_of values beside) ≡ Ok made
+  pub keeps : (made ≡ beside) ⊎ IsSameAround (mark_len_of beside) (neighbour_end beside) beside made
+
+-- the rules make this of a neighbour
+abbrev pub BecomesNeighbour : FileAmendment → List ℕ → List ℕ → Type 0
+BecomesNeighbour (InHeader values) beside made = IsNeighbourWritten values beside made
+BecomesNeighbour (Everywhere values) beside made = IsTextAmended values beside made
+
+-- the neighbour is there, and holds what the rules make of its own bytes, and the file stays
+pub record IsNeighbourAmended (amendment : FileAmendment) (old new : Pair) : Type 0 where
   pub beside : List ℕ
   pub there : old.neighbour ≡ Some beside
   pub made : List ℕ
-  pub by_rules : amended_file beside (neighbour_amendment_of amendments beside) ≡ Ok made
+  pub becomes : BecomesNeighbour amendment beside made
   pub holds : new ≡ record { file = old.file; neighbour = Some made }
-  pub keeps : (made ≡ beside) ⊎ IsSameAround (mark_len_of beside) (neighbour_end beside) beside made
 
--- The file has no neighbour, is text and has a style. It holds what the rules make of its own bytes, and no neighbour
--- is made. It is as it was, or has a header block and each byte outside it stays.
-pub record IsFileAmended (amendments : Amendments) (scope : Scope) (own : OwnKinds) (path bytes : List ℕ)
-    (old new : Pair) : Type 0 where
-  pub alone : old.neighbour ≡ None
+-- The file is text and has a style, and the rules make this of its bytes. It is as it was, or has a header block and
+-- each byte outside it stays.
+pub record IsBlockAmended (values : Amendments) (scope : Scope) (own : OwnKinds) (path bytes made : List ℕ)
+    : Type 0 where
   pub text : is_text bytes ≡ true
   pub style : Style
   pub of_style : IsStyleOf scope own path bytes style
-  pub made : List ℕ
-  pub by_rules : amended_file bytes (amendment_of style amendments bytes) ≡ Ok made
-  pub holds : new ≡ record { file = Some made; neighbour = None }
+  pub by_rules : amended_file bytes (amendment_of style values bytes) ≡ Ok made
   pub keeps : (made ≡ bytes) ⊎ KeepsOutsideBlock style bytes made
 
--- it has no neighbour, and isn't text or has no style, so that nothing in it is amended
-abbrev pub HasNoPlace : Scope → OwnKinds → List ℕ → List ℕ → Pair → Type 0
-HasNoPlace scope own path bytes pair =
-    (pair.neighbour ≡ None)
-    × ((is_text bytes ≡ false) ⊎ HasKind scope own path bytes kind.Uncommentable
-    ⊎ HasKind scope own path bytes kind.Unknown)
+-- the rules make this of a file itself
+abbrev pub BecomesFile : FileAmendment → Scope → OwnKinds → List ℕ → List ℕ → List ℕ → Type 0
+BecomesFile (InHeader values) scope own path bytes made = IsBlockAmended values scope own path bytes made
+BecomesFile (Everywhere values) scope own path bytes made = IsTextAmended values bytes made
+
+-- the file has no neighbour, and holds what the rules make of its own bytes, and no neighbour is made
+pub record IsFileAmended (amendment : FileAmendment) (scope : Scope) (own : OwnKinds) (path bytes : List ℕ)
+    (old new : Pair) : Type 0 where
+  pub alone : old.neighbour ≡ None
+  pub made : List ℕ
+  pub becomes : BecomesFile amendment scope own path bytes made
+  pub holds : new ≡ record { file = Some made; neighbour = None }
+
+-- the file isn't text; or a header block is looked for, and it has no style
+abbrev pub HasNoText : FileAmendment → Scope → OwnKinds → List ℕ → List ℕ → Type 0
+HasNoText (InHeader values) scope own path bytes =
+    (is_text bytes ≡ false) ⊎ HasKind scope own path bytes kind.Uncommentable
+    ⊎ HasKind scope own path bytes kind.Unknown
+HasNoText (Everywhere values) scope own path bytes = is_text bytes ≡ false
+
+-- it has no neighbour either, so that nothing in it is amended
+abbrev pub HasNoPlace : FileAmendment → Scope → OwnKinds → List ℕ → List ℕ → Pair → Type 0
+HasNoPlace amendment scope own path bytes pair =
+    (pair.neighbour ≡ None) × HasNoText amendment scope own path bytes
 
 -- the path has a covered file, which has no place that is amended, and then both stay; or it is amended, or its
 -- neighbour is
-pub record IsCoveredAmended (amendments : Amendments) (scope : Scope) (own : OwnKinds) (path : List ℕ)
+pub record IsCoveredAmended (amendment : FileAmendment) (scope : Scope) (own : OwnKinds) (path : List ℕ)
     (old new : Pair) : Type 0 where
   pub bytes : List ℕ
   pub there : old.file ≡ Some bytes
   pub covered : is_covered path ≡ true
-  pub becomes : (HasNoPlace scope own path bytes old × (new ≡ old))
-      ⊎ IsFileAmended amendments scope own path bytes old new ⊎ IsNeighbourAmended amendments old new
+  pub becomes : (HasNoPlace amendment scope own path bytes old × (new ≡ old))
+      ⊎ IsFileAmended amendment scope own path bytes old new ⊎ IsNeighbourAmended amendment old new
 
 -- ---- a table
 
@@ -88,19 +141,21 @@ pub record IsTableAmended (amendments : Amendments) (old new : Pair) : Type 0 wh
   pub keeps : (made ≡ bytes) ⊎ DiffersInStrings bytes made
 
 -- the path is that of a table, which is amended; or it has a covered file, which is
-abbrev pub IsAmended : Amendments → Scope → OwnKinds → List ℕ → Pair → Pair → Type 0
-IsAmended amendments scope own path old new =
-    ((is_table path ≡ true) × IsTableAmended amendments old new) ⊎ IsCoveredAmended amendments scope own path old new
+abbrev pub IsAmended : FileAmendment → Scope → OwnKinds → List ℕ → Pair → Pair → Type 0
+IsAmended amendment scope own path old new =
+    ((is_table path ≡ true) × IsTableAmended (values_of amendment) old new)
+    ⊎ IsCoveredAmended amendment scope own path old new
 
 -- ---- the tree
 
 -- by the tree's own styles each file that is gone through is amended, and each path holds what it held that is none of
 -- these nor a neighbour of one
-pub record Amends (places : List Place) (amendments : Amendments) (scope : Scope) (before after : Files) : Type 0 where
+pub record Amends (places : List Place) (amendment : FileAmendment) (scope : Scope) (before after : Files)
+    : Type 0 where
   pub own : OwnKinds
   pub styles : styles_in before ≡ Ok own
   pub selected : (path : List ℕ) → Contains (amended_paths scope places before) path
-      → IsAmended amendments scope own path (pair_at before path) (pair_at after path)
+      → IsAmended amendment scope own path (pair_at before path) (pair_at after path)
   pub others : (other : List ℕ)
       → ((path : List ℕ) → Contains (amended_paths scope places before) path → (other ≢ path)
       × (other ≢ neighbour_of path))

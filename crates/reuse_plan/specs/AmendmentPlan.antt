@@ -4,13 +4,15 @@ use Rattle.reuse_toml.specs.declared.toml_change.TomlSplice.{TomlSplice}
 use Rattle.reuse_toml.specs.declared.toml_values.AmendTomlRefusal.{AmendTomlRefusal}
 use Rattle.reuse_header.specs.Annotation as header
 use Rattle.reuse_style.specs.Kinds.{OwnKinds, kinds_by}
+use Rattle.reuse_amend.specs.declared.amendments.Amendments.{Amendments}
 use Rattle.reuse_header.specs.declared.amendment.AmendHeaderRefusal.{AmendHeaderRefusal}
 use Rattle.reuse_header.specs.declared.annotation.Splice.{Splice}
 use Rattle.reuse_style.specs.declared.style.Style.{Style}
 use Rattle.reuse_text.specs.declared.TheConstants.{LONGEST_FILE}
 use Rattle.reuse_change.specs.Files.{Files}
+use Rattle.reuse_command.specs.Command.{values_of}
 use Rattle.reuse_plan.specs.Amend.{amended_at, amend_inside, amend_neighbour, amend_table}
-use Rattle.reuse_plan.specs.Amend.{amend_block, has_no_style_unread, style_for}
+use Rattle.reuse_plan.specs.Amend.{amend_own_text, has_no_style_unread, stays_unread, style_for}
 use Rattle.reuse_plan.specs.Edit.{Edit}
 use Rattle.reuse_plan.specs.Left.{is_left, names_behind}
 use Rattle.reuse_plan.specs.Plan.{IsRefusalOf, MakesEdit}
@@ -34,31 +36,35 @@ abbrev pub own_of : Amendment → OwnKinds
 own_of asked = kinds_by asked.styles.now
 
 abbrev pub amended_by : Amendment → Files → List ℕ → Result (Option Edit) Refusal
-amended_by asked tree path = amended_at asked.amendments.now asked.scope.now (own_of asked) tree path
+amended_by asked tree path = amended_at asked.amendment.now asked.scope.now (own_of asked) tree path
 
 -- the style of the file, of these bytes
 abbrev pub style_by : Amendment → List ℕ → List ℕ → Option Style
 style_by asked path bytes = style_for asked.scope.now (own_of asked) path bytes
 
--- there is none, whatever the file holds
+-- the file is not amended, whatever it holds
+abbrev pub stays_unread_by : Amendment → List ℕ → Bool
+stays_unread_by asked path = stays_unread asked.amendment.now asked.scope.now (own_of asked) path
+
+-- it has no style, whatever it holds
 abbrev pub has_no_style_by : Amendment → List ℕ → Bool
 has_no_style_by asked path = has_no_style_unread asked.scope.now (own_of asked) path
 
 -- where its neighbour is there, of these bytes
 abbrev pub beside_by : Amendment → List ℕ → List ℕ → Result (Option Edit) Refusal
-beside_by asked path beside = amend_neighbour asked.amendments.now path beside
+beside_by asked path beside = amend_neighbour asked.amendment.now path beside
 
 -- where it isn't, and the file has these bytes
 abbrev pub inside_by : Amendment → List ℕ → List ℕ → Result (Option Edit) Refusal
-inside_by asked path bytes = amend_inside asked.amendments.now asked.scope.now (own_of asked) path bytes
+inside_by asked path bytes = amend_inside asked.amendment.now asked.scope.now (own_of asked) path bytes
 
--- its header block, in this style
-abbrev pub block_by : Amendment → List ℕ → List ℕ → Option Style → Result (Option Edit) Refusal
-block_by asked path bytes style = amend_block asked.amendments.now path bytes style
+-- and they are a text
+abbrev pub own_text_by : Amendment → List ℕ → List ℕ → Result (Option Edit) Refusal
+own_text_by asked path bytes = amend_own_text asked.amendment.now asked.scope.now (own_of asked) path bytes
 
 -- a table, of these bytes
 abbrev pub table_by : Amendment → List ℕ → List ℕ → Result (Option Edit) Refusal
-table_by asked path bytes = amend_table asked.amendments.now path bytes
+table_by asked path bytes = amend_table (values_of asked.amendment.now) path bytes
 
 -- the change that is made of it stands in the file
 abbrev pub IsWithin : List ℕ → Result (Option TomlSplice) AmendTomlRefusal → Type 0
@@ -80,10 +86,14 @@ abbrev pub AnswersAmended : Files → Result (Option Edit) Refusal → Bool → 
 AnswersAmended tree given left (Ok amended) = MakesEdit tree given amended.change × (amended.is_left ≡ left)
 AnswersAmended tree given left (Err refusal) = IsRefusalOf given refusal
 
+-- so it is of a text of these bytes, in which these values are amended
+abbrev pub AnswersValues : Amendments → Files → List ℕ → Result (Option Edit) Refusal → Result Amended Refusal → Type 0
+AnswersValues values tree bytes given result = AnswersAmended tree given (names_behind values bytes given) result
+
 -- so it is of what tells the licensing of a path, which has these bytes
 abbrev pub AnswersText : Amendment → Files → List ℕ → Result (Option Edit) Refusal → Result Amended Refusal → Type 0
 AnswersText asked tree bytes given result =
-    AnswersAmended tree given (names_behind asked.amendments.now bytes given) result
+    AnswersValues (values_of asked.amendment.now) tree bytes given result
 
 abbrev pub left_by : Amendment → Files → List ℕ → Bool
-left_by asked tree path = is_left asked.amendments.now tree path (amended_by asked tree path)
+left_by asked tree path = is_left (values_of asked.amendment.now) tree path (amended_by asked tree path)

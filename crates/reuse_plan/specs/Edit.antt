@@ -1,5 +1,8 @@
 -- What a command does at one path.
-use Rattle.std.specs.Prelude.{ℕ, List, [], ◌++◌, Option, Some, None}
+use Rattle.std.specs.Prelude.{ℕ, List, [], ◌++◌, take, drop, Option, Some, None, if◌then◌else◌}
+use Rattle.std.specs.Str.{bytes_eq}
+use Rattle.reuse_text.specs.Difference.{difference_of}
+use Rattle.reuse_text.specs.declared.difference.Difference.{Difference}
 
 -- the bytes that it takes away there, those that it writes, and the file then
 pub record Edit : Type 0 where
@@ -19,3 +22,17 @@ dropped path bytes = record { path = path; removed = bytes; written = []; file =
 -- bytes come behind those of a file
 abbrev pub appended : List ℕ → List ℕ → List ℕ → Edit
 appended path bytes more = record { path = path; removed = []; written = more; file = Some (bytes ++ more) }
+
+-- a text gives way to another one, in these bytes, which differ
+abbrev pub exchanged : List ℕ → List ℕ → List ℕ → Difference → Edit
+exchanged path old new differing = record {
+  path = path;
+  removed = take differing.old_len (drop differing.at old);
+  written = take differing.new_len (drop differing.at new);
+  file = Some new;
+}
+
+-- where the two differ
+abbrev pub edit_between : List ℕ → List ℕ → List ℕ → Option Edit
+edit_between path old new =
+    if bytes_eq new old then None else Some (exchanged path old new (difference_of old new))

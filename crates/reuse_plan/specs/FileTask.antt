@@ -34,7 +34,7 @@ paths_of asked places tree = paths_for (works_on asked) (scope_of asked) places 
 -- what is done at a path
 abbrev pub at_by : FileTask → Files → List ℕ → PathEdit
 at_by (Annotation asked) tree path = path_by asked tree path
-at_by (Amendment asked) tree path = amendment_at asked.amendments.now asked.scope.now (own_of asked) tree path
+at_by (Amendment asked) tree path = amendment_at asked.amendment.now asked.scope.now (own_of asked) tree path
 
 -- at places
 abbrev pub at_places_by : FileTask → Files → List Place → List PathEdit

@@ -5,12 +5,11 @@ use Rattle.std.specs.List.{sum_by}
 use Rattle.std.specs.FinMap.{insert, remove}
 use Rattle.reuse_change.specs.declared.layout.TheConstants.{LARGEST_ENTRY, MOST_CHANGES}
 use Rattle.reuse_notice.specs.declared.adding.Additions.{Additions}
-use Rattle.reuse_amend.specs.declared.amendments.Amendments.{Amendments}
 use Rattle.reuse_header.specs.declared.annotation.How.{How}
 use Rattle.reuse_change.specs.Files.{Files}
 use Rattle.reuse_plan.specs.Amend.{amended_at}
 use Rattle.reuse_plan.specs.Annotate.{annotated_at}
-use Rattle.reuse_command.specs.Command.{has_root}
+use Rattle.reuse_command.specs.Command.{has_root, values_of}
 use Rattle.reuse_plan.specs.Conversion.{conversion_edits}
 use Rattle.reuse_plan.specs.Downloads.{downloads_at}
 pub use Rattle.reuse_plan.specs.Edit.{Edit}
@@ -26,6 +25,7 @@ use Rattle.reuse_plan.specs.Selected.{amended_paths, selected_paths}
 use Rattle.reuse_command.specs.declared.command.Command.{Command}
 use Rattle.reuse_command.specs.declared.command.Command.TheVariants.{Annotate, Amend, ConvertDep5, Download, Revert}
 use Rattle.reuse_command.specs.declared.command.Command.TheVariants.{AddStyles}
+use Rattle.reuse_command.specs.declared.command.FileAmendment.{FileAmendment}
 use Rattle.reuse_command.specs.declared.command.Place.{Place}
 use Rattle.reuse_command.specs.declared.command.Place.TheVariants as place
 use Rattle.reuse_command.specs.declared.command.Scope.{Scope}
@@ -88,27 +88,27 @@ annotations_by places additions how scope tree (Ok own) =
     at_places (annotation_at how scope additions own tree) scope places (selected_paths scope places tree)
 
 -- what amend does at a path: it skips none, and puts no header into a file without one
-abbrev pub amendment_at : Amendments → Scope → OwnKinds → Files → List ℕ → PathEdit
-amendment_at amendments scope own tree path =
+abbrev pub amendment_at : FileAmendment → Scope → OwnKinds → Files → List ℕ → PathEdit
+amendment_at amendment scope own tree path =
     record {
       path = path;
       skipped = false;
       harm = None;
-      left = is_left amendments tree path (amended_at amendments scope own tree path);
-      edit = amended_at amendments scope own tree path;
+      left = is_left (values_of amendment) tree path (amended_at amendment scope own tree path);
+      edit = amended_at amendment scope own tree path;
     }
 
-abbrev pub amendments_by : List Place → Amendments → Scope → Files → Result OwnKinds Refusal → List PathEdit
-amendments_by places amendments scope tree (Err refusal) = refused_alone refusal
-amendments_by places amendments scope tree (Ok own) =
-    at_places (amendment_at amendments scope own tree) scope places (amended_paths scope places tree)
+abbrev pub amendments_by : List Place → FileAmendment → Scope → Files → Result OwnKinds Refusal → List PathEdit
+amendments_by places amendment scope tree (Err refusal) = refused_alone refusal
+amendments_by places amendment scope tree (Ok own) =
+    at_places (amendment_at amendment scope own tree) scope places (amended_paths scope places tree)
 
 -- what a command does, path by path
 abbrev pub path_edits_of : Command → Files → List PathEdit
 path_edits_of (Annotate places additions how scope) tree =
     annotations_by places additions how scope tree (styles_in tree)
-path_edits_of (Amend places amendments scope) tree =
-    amendments_by places amendments scope tree (styles_in tree)
+path_edits_of (Amend places amendment scope) tree =
+    amendments_by places amendment scope tree (styles_in tree)
 path_edits_of ConvertDep5 tree = all_or_none (conversion_edits tree)
 path_edits_of (Download ids texts) tree = downloads_at ids texts tree
 path_edits_of (AddStyles additions) tree = all_or_none (style_edits additions tree)

@@ -43,8 +43,8 @@ left_at here = left_by here.path here.left here.edit
 
 -- the paths that an amendment leaves, in their order; no other command leaves any
 unfoldable pub left_paths : Command → Files → List (List ℕ)
-left_paths (Amend places amendments scope) tree =
-    filter_map left_at (amendments_by places amendments scope tree (styles_in tree))
+left_paths (Amend places amendment scope) tree =
+    filter_map left_at (amendments_by places amendment scope tree (styles_in tree))
 left_paths command tree = []
 
 -- where nothing else is refused, that the edits are too many together

@@ -86,7 +86,7 @@ left_planned other = None
 
 -- of the plans of a command
 abbrev pub left_planned_by : Command → List PathPlan → List (List ℕ)
-left_planned_by (Amend places amendments scope) plans = filter_map left_planned plans
+left_planned_by (Amend places amendment scope) plans = filter_map left_planned plans
 left_planned_by command plans = []
 
 abbrev pub change_planned : PathPlan → Option Change

@@ -72,6 +72,6 @@ AreUnusedIf (Err refusal) works_on scope places tree unused = Unit {0}
 abbrev pub AreUnusedBy : Command → Files → Unused → Type 0
 AreUnusedBy (Annotate places additions how scope) tree unused =
     AreUnusedIf (styles_in tree) is_covered scope places tree unused
-AreUnusedBy (Amend places amendments scope) tree unused =
+AreUnusedBy (Amend places amendment scope) tree unused =
     AreUnusedIf (styles_in tree) is_amendable scope places tree unused
 AreUnusedBy command tree unused = Unit {0}

@@ -1,23 +1,30 @@
 //! What amend does at a path. What it works on is a table, a file `REUSE.toml`, or the neighbour of
-//! a file where that is there, else the header block of the file itself. It makes nothing.
+//! a file where that is there, else the header block of the file itself. Where it is asked for,
+//! each tag of the neighbour or of the file is amended (`amend_text`). It makes nothing.
 ghost use Rattle.std.specs.Prelude.{◌≡◌, ◌≤◌, ℕ, List, IfErr, Ok, Some, None, length, nat_lt, false};
 ghost use Rattle.reuse_text.specs.declared.TheConstants.{LONGEST_FILE};
 ghost use Rattle.reuse_command.specs.Reading.{get, reading_of, tree_of, Files, IsOfPlan, ReadsAlone};
-ghost use Rattle.reuse_plan.specs.Amend.{has_no_style, style_of_kind};
+ghost use Rattle.reuse_header.specs.Amendment.{neighbour_amendment_of};
+ghost use Rattle.reuse_plan.specs.Amend.{amend_beside, amend_block, amendment_edit, has_no_style, style_of_kind};
 ghost use Rattle.reuse_plan.specs.AmendmentPlan.{amended_by, beside_by, has_no_style_by, inside_by, style_by};
-ghost use Rattle.reuse_plan.specs.AmendmentPlan.{block_by, left_by, table_by, AnswersAmended, AnswersText};
+ghost use Rattle.reuse_plan.specs.AmendmentPlan.{left_by, own_text_by, stays_unread_by, table_by};
+ghost use Rattle.reuse_plan.specs.AmendmentPlan.{AnswersAmended, AnswersText, AnswersValues};
 ghost use Rattle.reuse_plan.specs.Annotate.{neighbour_of};
 ghost use Rattle.reuse_plan.specs.Plan.{AnswersEdit};
 ghost use Rattle.reuse_command.specs.Refused.{IsNoFault};
 ghost use Rattle.reuse_plan.specs.Shown.{ShowsPair};
 
+use crate::amend_text::plan_text;
 use crate::annotation::Amendment;
 use crate::covered::{is_covered, is_table};
 use crate::edit::{amended_as, table_change_by};
 use crate::left::{Amended, still_names, still_names_read};
 use crate::place::{absent_refusal, neighbour_path, short_bytes};
 use crate::target_choice::neighbour_of;
+use reuse_amend::Amendments;
 use reuse_change::{Change, PathText, is_among};
+use reuse_command::command::FileAmendment;
+use reuse_command::header_fault::HeaderFault;
 use reuse_command::reply::Refusal;
 use reuse_header::{Kind, Style, amend_file, amend_neighbour, amendments_fit};
 use reuse_store::{Reading, Store};
@@ -57,7 +64,7 @@ pub(crate) fn plan_amended<S: Store>(
     if is_among(paths, neighbour.as_slice()) {
         return plan_in_neighbour(alloc, store, path, asked);
     }
-    if has_no_style_unread(path, asked) {
+    if stays_unread(path, asked) {
         return plan_unstyled(alloc, store, path, asked);
     }
     plan_inside(alloc, store, path, asked)
@@ -90,8 +97,19 @@ fn plan_table_text(
     ensures no_fault { IfErr result IsNoFault }
 {
     let bytes = short_bytes(alloc, path, reading)?;
-    let made = amend_toml(alloc, bytes.as_slice(), asked.amendments);
+    let made = amend_toml(alloc, bytes.as_slice(), asked.amendment.values());
     table_change_by(alloc, path, bytes.as_slice(), made)
+}
+
+// Whether a file isn't amended, whatever it holds: it has no style, and a header block is looked
+// for.
+fn stays_unread(path: &PathText, asked: &Amendment<'_, '_>) -> bool
+    ensures { result ≡ stays_unread_by asked.now path.now }
+{
+    match asked.amendment {
+        FileAmendment::InHeader(_) => has_no_style_unread(path, asked),
+        FileAmendment::Everywhere(_) => false,
+    }
 }
 
 // Whether a file has no style, whatever it holds.
@@ -165,17 +183,51 @@ fn plan_neighbour(
     ensures no_fault { IfErr result IsNoFault }
 {
     let bytes = short_bytes(alloc, path, reading)?;
+    plan_beside(alloc, path, neighbour, bytes.as_slice(), asked)
+}
+
+// What is done with a neighbour of these bytes: with all that it says, or with each tag of it.
+fn plan_beside(
+    alloc: Global,
+    path: &PathText,
+    neighbour: &PathText,
+    bytes: &[u8],
+    asked: &Amendment<'_, '_>,
+) -> Result<Amended, Refusal>
+    requires { length bytes.now ≤ LONGEST_FILE }
+    ensures edit { (tree : Files) → neighbour.now ≡ neighbour_of path.now → get tree neighbour.now ≡ Some bytes.now
+        → AnswersText asked.now tree bytes.now (amend_beside asked.now.amendment.now path.now bytes.now) result }
+    ensures no_fault { IfErr result IsNoFault }
+{
+    match asked.amendment {
+        FileAmendment::InHeader(values) => plan_written(alloc, path, neighbour, bytes, values),
+        FileAmendment::Everywhere(values) => {
+            if !is_text(bytes) {
+                let path = path.try_clone(alloc)?;
+                return Err(Refusal::Header(path, HeaderFault::NotText));
+            }
+            plan_text(alloc, path, neighbour, bytes, values)
+        }
+    }
+}
+
+// What is done with all that a neighbour of these bytes says.
+fn plan_written(
+    alloc: Global,
+    path: &PathText,
+    neighbour: &PathText,
+    bytes: &[u8],
+    values: &Amendments,
+) -> Result<Amended, Refusal>
+    requires { length bytes.now ≤ LONGEST_FILE }
+    ensures edit { (tree : Files) → get tree neighbour.now ≡ Some bytes.now → AnswersValues values.now tree bytes.now
+        (amendment_edit path.now neighbour.now bytes.now (neighbour_amendment_of values.now bytes.now)) result }
+    ensures no_fault { IfErr result IsNoFault }
+{
     // That the edit lies within the file, and makes none that is too long.
     amendments_fit();
-    let made = amend_neighbour(alloc, bytes.as_slice(), asked.amendments);
-    amended_as(
-        alloc,
-        path,
-        neighbour,
-        bytes.as_slice(),
-        made,
-        asked.amendments,
-    )
+    let made = amend_neighbour(alloc, bytes, values);
+    amended_as(alloc, path, neighbour, bytes, made, values)
 }
 
 // What is done with a file that has no neighbour and no style, whatever it holds.
@@ -192,11 +244,11 @@ fn plan_unstyled<S: Store>(
     let reading = store.read(alloc, path, LONGEST_FILE)?;
     Ok(Amended {
         change: None,
-        is_left: still_names_read(asked.amendments, &reading),
+        is_left: still_names_read(asked.amendment.values(), &reading),
     })
 }
 
-// What is done with the header block of a file that has no neighbour and may have a style.
+// What is done with a file that has no neighbour and is read.
 fn plan_inside<S: Store>(
     alloc: Global,
     store: &mut S,
@@ -204,7 +256,7 @@ fn plan_inside<S: Store>(
     asked: &Amendment<'_, '_>,
 ) -> Result<Amended, Refusal>
     ensures edit { S.honest store.new → (bytes : List ℕ) → get (tree_of (S.files store.old)) path.now ≡ Some bytes
-        → has_no_style_by asked.now path.now ≡ false
+        → stays_unread_by asked.now path.now ≡ false
         → AnswersText asked.now (tree_of (S.files store.old)) bytes (inside_by asked.now path.now bytes) result }
     ensures asks { ReadsAlone S.Store IsOfPlan store.old store.new result }
 {
@@ -212,7 +264,7 @@ fn plan_inside<S: Store>(
     plan_reading(alloc, path, asked, reading)
 }
 
-// What is done with the header block of a file, by what was read of it.
+// What is done with a file that has no neighbour, by what was read of it.
 fn plan_reading(
     alloc: Global,
     path: &PathText,
@@ -220,7 +272,7 @@ fn plan_reading(
     reading: Reading,
 ) -> Result<Amended, Refusal>
     ensures edit { (tree : Files) (bytes : List ℕ) → get tree path.now ≡ Some bytes
-        → has_no_style_by asked.now path.now ≡ false → reading ≡ reading_of (Some bytes) LONGEST_FILE
+        → stays_unread_by asked.now path.now ≡ false → reading ≡ reading_of (Some bytes) LONGEST_FILE
         → AnswersText asked.now tree bytes (inside_by asked.now path.now bytes) result }
     ensures no_fault { IfErr result IsNoFault }
 {
@@ -231,30 +283,66 @@ fn plan_reading(
             is_left: false,
         });
     }
-    match style_of(path, bytes.as_slice(), asked) {
-        Some(style) => plan_block(alloc, path, bytes.as_slice(), &style, asked),
+    plan_own_text(alloc, path, bytes.as_slice(), asked)
+}
+
+// What is done with a file that is text of these bytes: with its header block, or with each tag.
+fn plan_own_text(
+    alloc: Global,
+    path: &PathText,
+    bytes: &[u8],
+    asked: &Amendment<'_, '_>,
+) -> Result<Amended, Refusal>
+    requires { length bytes.now ≤ LONGEST_FILE }
+    ensures edit { (tree : Files) → get tree path.now ≡ Some bytes.now
+        → AnswersText asked.now tree bytes.now (own_text_by asked.now path.now bytes.now) result }
+    ensures no_fault { IfErr result IsNoFault }
+{
+    match asked.amendment {
+        FileAmendment::InHeader(values) => {
+            plan_header(alloc, path, bytes, style_of(path, bytes, asked), values)
+        }
+        FileAmendment::Everywhere(values) => plan_text(alloc, path, path, bytes, values),
+    }
+}
+
+// What is done with the header block of a file of these bytes, in its style, if it has one.
+fn plan_header(
+    alloc: Global,
+    path: &PathText,
+    bytes: &[u8],
+    style: Option<Style<'_>>,
+    values: &Amendments,
+) -> Result<Amended, Refusal>
+    requires { length bytes.now ≤ LONGEST_FILE }
+    ensures edit { (tree : Files) → get tree path.now ≡ Some bytes.now
+        → AnswersValues values.now tree bytes.now (amend_block values.now path.now bytes.now style.entry) result }
+    ensures no_fault { IfErr result IsNoFault }
+{
+    match style {
+        Some(style) => plan_block(alloc, path, bytes, &style, values),
         None => Ok(Amended {
             change: None,
-            is_left: still_names(asked.amendments, bytes.as_slice()),
+            is_left: still_names(values, bytes),
         }),
     }
 }
 
-// What is done with the header block of a file of these bytes.
+// What is done with the header block of a file of these bytes, in this style.
 fn plan_block(
     alloc: Global,
     path: &PathText,
     bytes: &[u8],
     style: &Style<'_>,
-    asked: &Amendment<'_, '_>,
+    values: &Amendments,
 ) -> Result<Amended, Refusal>
     requires { length bytes.now ≤ LONGEST_FILE }
     ensures edit { (tree : Files) → get tree path.now ≡ Some bytes.now
-        → AnswersText asked.now tree bytes.now (block_by asked.now path.now bytes.now (Some style.now)) result }
+        → AnswersValues values.now tree bytes.now (amend_block values.now path.now bytes.now (Some style.now)) result }
     ensures no_fault { IfErr result IsNoFault }
 {
     // That the edit lies within the file, and makes none that is too long.
     amendments_fit();
-    let made = amend_file(alloc, bytes, style, asked.amendments);
-    amended_as(alloc, path, path, bytes, made, asked.amendments)
+    let made = amend_file(alloc, bytes, style, values);
+    amended_as(alloc, path, path, bytes, made, values)
 }

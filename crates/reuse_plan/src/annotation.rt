@@ -3,9 +3,8 @@ ghost use Rattle.std.specs.Prelude.{◌≡◌};
 ghost use Rattle.reuse_plan.specs.FileTask.{scope_of, works_on};
 
 use crate::covered::{is_amendable, is_covered};
-use reuse_amend::Amendments;
 use reuse_change::PathText;
-use reuse_command::command::Scope;
+use reuse_command::command::{FileAmendment, Scope};
 use reuse_header::{How, StyleTable};
 use reuse_notice::Additions;
 
@@ -21,7 +20,7 @@ pub(crate) struct Annotation<'a, 'own> {
 /// What is asked of an amendment, and the styles of the tree that it is of.
 #[derive(Clone, Copy)]
 pub(crate) struct Amendment<'a, 'own> {
-    pub(crate) amendments: &'a Amendments,
+    pub(crate) amendment: &'a FileAmendment,
     pub(crate) scope: &'a Scope,
     pub(crate) styles: &'a StyleTable<'own>,
 }

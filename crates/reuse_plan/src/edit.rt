@@ -1,5 +1,5 @@
 //! The change of a place, by what an annotation or an amendment makes of its bytes.
-ghost use Rattle.std.specs.Prelude.{◌≡◌, ◌≤◌, ◌+◌, [], take, drop, IfOk, IfErr, Some, None, length};
+ghost use Rattle.std.specs.Prelude.{◌≡◌, ◌≤◌, ◌+◌, [], take, drop, IfOk, IfErr, Ok, Some, None, length};
 ghost use Rattle.reuse_text.specs.declared.TheConstants.{LONGEST_FILE};
 ghost use Rattle.reuse_command.specs.Reading.{get, Files};
 ghost use Rattle.reuse_change.specs.Change.{sealed_splice};
@@ -14,7 +14,8 @@ ghost use Rattle.reuse_plan.specs.Annotate.{edit_by};
 ghost use Rattle.reuse_plan.specs.HeaderFaults.{refused_by};
 ghost use Rattle.reuse_plan.specs.Left.{names_behind};
 ghost use Rattle.reuse_plan.specs.Annotations.{Fits, Expected};
-ghost use Rattle.reuse_plan.specs.Plan.{AnswersEdit};
+ghost use Rattle.reuse_plan.specs.Edit.{edit_between};
+ghost use Rattle.reuse_plan.specs.Plan.{AnswersEdit, MakesEdit};
 ghost use Rattle.reuse_command.specs.Refused.{IsNoFault};
 
 use crate::left::{Amended, still_names, still_names_behind};
@@ -25,7 +26,7 @@ use reuse_command::failure::Failure;
 use reuse_command::header_fault::HeaderFault;
 use reuse_command::reply::Refusal;
 use reuse_header::{AmendHeaderRefusal, HeaderRefusal, Splice};
-use reuse_text::Bytes;
+use reuse_text::{Bytes, Difference, difference_of};
 use reuse_toml::{AmendTomlRefusal, TomlSplice};
 use std::alloc::{AllocError, Global};
 
@@ -108,6 +109,46 @@ pub(crate) fn amended_as(
         }
         Err(refusal) => Err(amend_refused_by(alloc, path, refusal)?),
     }
+}
+
+/// The change of a file that is there, of these bytes, if others that take their place differ.
+pub(crate) fn change_between(
+    alloc: Global,
+    at: &PathText,
+    old: &[u8],
+    new: &[u8],
+) -> Result<Option<Change>, AllocError>
+    requires old { length old.now ≤ LONGEST_FILE }
+    requires new { length new.now ≤ LONGEST_FILE }
+    ensures { (tree : Files) → get tree at.now ≡ Some old.now
+        → IfOk result (MakesEdit tree (Ok (edit_between at.now old.now new.now))) }
+{
+    if new == old {
+        return Ok(None);
+    }
+    let differing = difference_of(old, new);
+    Ok(Some(change_of(alloc, at, old, new, differing)?))
+}
+
+// The change that takes the one range of a file away, and puts the other of a text in its place.
+fn change_of(
+    alloc: Global,
+    at: &PathText,
+    old: &[u8],
+    new: &[u8],
+    differing: Difference,
+) -> Result<Change, AllocError>
+    requires old { differing.at + differing.old_len ≤ length old.now }
+    requires new { differing.at + differing.new_len ≤ length new.now }
+    ensures { IfOk result (λ change. change ≡ sealed_splice at.now old.now differing.at
+        (take differing.old_len (drop differing.at old.now)) (take differing.new_len (drop differing.at new.now))) }
+{
+    let from = &old[differing.at..];
+    let removed = Bytes::from_slice(alloc, &from[..differing.old_len])?;
+    let to = &new[differing.at..];
+    let written = Bytes::from_slice(alloc, &to[..differing.new_len])?;
+    let path = at.try_clone(alloc)?;
+    Ok(Change::sealed_splice(path, old, differing.at, removed, written))
 }
 
 /// The change of a table, which is there and has these bytes, by what an amendment makes of it.

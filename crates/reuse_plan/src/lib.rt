@@ -8,6 +8,7 @@
 
 mod add_styles;
 mod amend;
+mod amend_text;
 mod annotate;
 mod annotation;
 mod convert;

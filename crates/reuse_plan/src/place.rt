@@ -8,7 +8,7 @@ ghost use Rattle.reuse_change.specs.Clash.{is_clash};
 ghost use Rattle.reuse_header.specs.declared.annotation.How.{How};
 ghost use Rattle.reuse_style.specs.Kinds.{OwnKinds};
 ghost use Rattle.reuse_notice.specs.declared.adding.Additions.{Additions};
-ghost use Rattle.reuse_amend.specs.declared.amendments.Amendments.{Amendments};
+ghost use Rattle.reuse_command.specs.declared.command.FileAmendment.{FileAmendment};
 ghost use Rattle.reuse_plan.specs.Amend.{amended_at};
 ghost use Rattle.reuse_plan.specs.Annotate.{neighbour_of, annotated_at};
 ghost use Rattle.reuse_plan.specs.AnnotationPlan.{neighbour_by, path_inside_by, path_neighbour_by};
@@ -57,9 +57,9 @@ pub(crate) fn absent_refusal(
     ensures annotated { (how : How) (scope : Scope) (additions : Additions) (own : OwnKinds) (tree : Files)
         → ShowsPair paths.now tree path.now → is_among paths.now path.now ≡ false
         → IfOk result (λ refusal. annotated_at how scope additions own tree path.now ≡ Err refusal) }
-    ensures amended { (amendments : Amendments) (scope : Scope) (own : OwnKinds) (tree : Files)
+    ensures amended { (amendment : FileAmendment) (scope : Scope) (own : OwnKinds) (tree : Files)
         → ShowsPair paths.now tree path.now → is_among paths.now path.now ≡ false
-        → IfOk result (λ refusal. amended_at amendments scope own tree path.now ≡ Err refusal) }
+        → IfOk result (λ refusal. amended_at amendment scope own tree path.now ≡ Err refusal) }
     ensures no_fault { IfOk result IsNoFault }
 {
     let refused = path.try_clone(alloc)?;

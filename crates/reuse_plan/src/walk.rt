@@ -25,9 +25,8 @@ use crate::select::{Listing, find_selected, gives_root};
 use crate::styles::{OwnFiles, read_own_files, styles_by};
 use crate::tree_paths::pair_paths;
 use crate::unused::Unused;
-use reuse_amend::Amendments;
 use reuse_change::PathText;
-use reuse_command::command::{Command, Place, Scope};
+use reuse_command::command::{Command, FileAmendment, Place, Scope};
 use reuse_command::reply::Refusal;
 use reuse_header::How;
 use reuse_notice::Additions;
@@ -67,12 +66,12 @@ pub(crate) fn plan_command<S: Store>(
         }
         Command::Amend {
             places,
-            amendments,
+            amendment,
             scope,
         } => {
             let amending = Amending {
                 places: places.as_slice(),
-                amendments,
+                amendment,
                 scope,
             };
             plan_amendment(alloc, store, &amending, policy, unused)
@@ -112,7 +111,7 @@ struct Annotating<'a> {
 #[derive(Clone, Copy)]
 struct Amending<'a> {
     places: &'a [Place],
-    amendments: &'a Amendments,
+    amendment: &'a FileAmendment,
     scope: &'a Scope,
 }
 
@@ -178,7 +177,7 @@ fn plan_amendment<S: Store>(
     unused: &mut Unused,
 ) -> Result<Vec<PathPlan>, Refusal>
     ensures plans { S.honest store.new → AnswersPlans policy (tree_of (S.files store.old))
-        (amendments_by amending.now.places.now amending.now.amendments.now amending.now.scope.now
+        (amendments_by amending.now.places.now amending.now.amendment.now amending.now.scope.now
         (tree_of (S.files store.old)) (styles_in (tree_of (S.files store.old)))) result }
     ensures unused { S.honest store.new → OnOk result
         (AreUnusedIf (styles_in (tree_of (S.files store.old))) is_amendable amending.now.scope.now
@@ -201,7 +200,7 @@ fn amend_by<S: Store>(
     unused: &mut Unused,
 ) -> Result<Vec<PathPlan>, Refusal>
     ensures plans { S.honest store.new → AnswersPlans policy (tree_of (S.files store.old))
-        (amendments_by amending.now.places.now amending.now.amendments.now amending.now.scope.now
+        (amendments_by amending.now.places.now amending.now.amendment.now amending.now.scope.now
         (tree_of (S.files store.old)) (styles_given own.now.styles own.now.comments)) result }
     ensures unused { S.honest store.new → OnOk result
         (AreUnusedIf (styles_given own.now.styles own.now.comments) is_amendable amending.now.scope.now
@@ -211,7 +210,7 @@ fn amend_by<S: Store>(
     match styles_by(alloc, own) {
         Ok(styles) => {
             let asked = FileTask::Amendment(Amendment {
-                amendments: amending.amendments,
+                amendment: amending.amendment,
                 scope: amending.scope,
                 styles: &styles,
             });

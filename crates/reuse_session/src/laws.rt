@@ -10,7 +10,6 @@ ghost use Rattle.std.specs.List.Sorted.{IsPermutation, IsStrictlySortedBy};
 ghost use Rattle.std.specs.FinMap.{get};
 ghost use Rattle.reuse_header.specs.declared.annotation.How.{How};
 ghost use Rattle.reuse_notice.specs.declared.adding.Additions.{Additions};
-ghost use Rattle.reuse_amend.specs.declared.amendments.Amendments.{Amendments};
 ghost use Rattle.reuse_notice.specs.Plain.{ArePlain, AreUtf8};
 ghost use Rattle.reuse_change.specs.Files.{Files, AreFiles, Clashes};
 ghost use Rattle.reuse_ready.specs.declared.additions.StyleAdditions.{StyleAdditions};
@@ -53,6 +52,7 @@ ghost use Rattle.reuse_command.specs.declared.command.Command.{Command};
 ghost use Rattle.reuse_change.specs.Listing.{is_among};
 ghost use Rattle.reuse_command.specs.declared.command.Command.TheVariants.{Amend, Annotate, ConvertDep5, Download};
 ghost use Rattle.reuse_command.specs.declared.command.Command.TheVariants.{AddStyles, Revert};
+ghost use Rattle.reuse_command.specs.declared.command.FileAmendment.{FileAmendment};
 ghost use Rattle.reuse_command.specs.declared.command.Place.{Place};
 ghost use Rattle.reuse_command.specs.declared.command.Scope.{Scope};
 ghost use Rattle.reuse_change.specs.declared.direction.Direction.{Direction};
@@ -145,27 +145,28 @@ pub fn annotations_change_chosen_places_alone()
 /// What amend does on a tree, in other words. Where it isn't refused, each file that is gone
 /// through has a neighbour, which holds what the rules make of its own bytes; or, where it has
 /// none, it is text of some style and holds what the rules make of its own bytes in that style; or
-/// it is neither, and stays. Every byte outside the header block stays. Each `REUSE.toml` that is
-/// gone through is read as the table that was there with the values of the two keys amended, and
-/// differs in strings and commas alone. Every other path stays as it is. These words leave one
-/// tree. No file is made and none is removed. A run that isn't refused leaves that tree. It isn't
-/// refused exactly where the tree's own styles are good, the root is given only where folders are
-/// gone through, each path that is gone through can be amended by itself, and one entry holds them
-/// all.
+/// it is neither, and stays. Every byte outside the header block stays. Where each tag is amended,
+/// it is text, whatever its style, and every byte outside of the tags' values stays. Each
+/// `REUSE.toml` that is gone through is read as the table that was there with the values of the two
+/// keys amended, and differs in strings and commas alone. Every other path stays as it is. These
+/// words leave one tree. No file is made and none is removed. A run that isn't refused leaves that
+/// tree. It isn't refused exactly where the tree's own styles are good, the root is given only
+/// where folders are gone through, each path that is gone through can be amended by itself, and one
+/// entry holds them all.
 pub fn amendments_change_selected_places_alone()
-    ensures accepted { (places : List Place) (amendments : Amendments) (scope : Scope) (tree : Files)
-        → ((after : Files) × (outcome_of (Amend places amendments scope) tree ≡ Ok after))
-        ↔ CanAmend places amendments scope tree }
-    ensures made { (places : List Place) (amendments : Amendments) (scope : Scope) (tree after : Files)
-        → outcome_of (Amend places amendments scope) tree ≡ Ok after → Amends places amendments scope tree after }
-    ensures one { (places : List Place) (amendments : Amendments) (scope : Scope) (before after other : Files)
-        → Amends places amendments scope before after
-        → Amends places amendments scope before other → after ≡ other }
-    ensures files { (places : List Place) (amendments : Amendments) (scope : Scope) (before after : Files)
-        → Amends places amendments scope before after → HaveSamePaths before after }
-    ensures left { (places : List Place) (amendments : Amendments) (scope : Scope) (when : ℕ) (old new : State)
-        (reply : Response) → Runs (Amend places amendments scope) when old (Ok reply) new
-        → Amends places amendments scope old.tree new.tree }
+    ensures accepted { (places : List Place) (amendment : FileAmendment) (scope : Scope) (tree : Files)
+        → ((after : Files) × (outcome_of (Amend places amendment scope) tree ≡ Ok after))
+        ↔ CanAmend places amendment scope tree }
+    ensures made { (places : List Place) (amendment : FileAmendment) (scope : Scope) (tree after : Files)
+        → outcome_of (Amend places amendment scope) tree ≡ Ok after → Amends places amendment scope tree after }
+    ensures one { (places : List Place) (amendment : FileAmendment) (scope : Scope) (before after other : Files)
+        → Amends places amendment scope before after
+        → Amends places amendment scope before other → after ≡ other }
+    ensures files { (places : List Place) (amendment : FileAmendment) (scope : Scope) (before after : Files)
+        → Amends places amendment scope before after → HaveSamePaths before after }
+    ensures left { (places : List Place) (amendment : FileAmendment) (scope : Scope) (when : ℕ) (old new : State)
+        (reply : Response) → Runs (Amend places amendment scope) when old (Ok reply) new
+        → Amends places amendment scope old.tree new.tree }
 {
     amending_keeps_other_bytes();
 }

@@ -1,8 +1,8 @@
 //! From the words of `annotate` and `amend` to the commands that they ask for.
 ghost use Rattle.std.specs.Prelude.{◌≡◌, ◌≤◌};
 ghost use Rattle.std.specs.Option.{option_map};
-ghost use Rattle.reuse_arguments.specs.CommandWords.{additions_read, amend_read, annotate_read, named_prefix};
-ghost use Rattle.reuse_arguments.specs.CommandWords.{scope_read};
+ghost use Rattle.reuse_arguments.specs.CommandWords.{additions_read, amend_read, amendment_of, annotate_read};
+ghost use Rattle.reuse_arguments.specs.CommandWords.{named_prefix, scope_read};
 ghost use Rattle.reuse_arguments.specs.Found.{found_in};
 ghost use Rattle.reuse_arguments.specs.LineFaults.{IsExpected};
 
@@ -13,7 +13,8 @@ use crate::words::choices::{read_how, read_unknown};
 use crate::words::file_words::{read_globs, read_places, read_style};
 use crate::words::found::{flag, value, values};
 use clap::ArgMatches;
-use reuse_command::command::{Command, Scope};
+use reuse_amend::Amendments;
+use reuse_command::command::{Command, FileAmendment, Scope};
 use reuse_notice::{Additions, Prefix};
 use std::alloc::Global;
 
@@ -49,9 +50,20 @@ pub fn read_amend(
     let scope = read_scope(alloc, matches)?;
     Ok(Command::Amend {
         places,
-        amendments,
+        amendment: amendment_of(flag(matches, "everywhere"), amendments),
         scope,
     })
+}
+
+/// What becomes of a file, everywhere or in its header.
+fn amendment_of(everywhere: bool, amendments: Amendments) -> FileAmendment
+    ensures { result ≡ amendment_of everywhere amendments }
+{
+    if everywhere {
+        FileAmendment::Everywhere(amendments)
+    } else {
+        FileAmendment::InHeader(amendments)
+    }
 }
 
 fn read_additions(

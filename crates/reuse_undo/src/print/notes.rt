@@ -349,7 +349,7 @@ pub fn note_call(rt: &impl Eprint, diagnostics: &Diagnostics, outcome: &Result<u
     if let Ok(_) | Err(Fault::WouldRefuse(_)) = outcome {
         note_unused(rt, diagnostics);
         note_harms(rt, diagnostics.counts.harms.as_slice());
-        note_left(rt, diagnostics.counts.left);
+        note_left(rt, diagnostics.counts.left, diagnostics.is_everywhere);
     }
     if diagnostics.is_table_empty && outcome.is_ok() {
         note(

@@ -47,20 +47,27 @@ pub fn note_unused(rt: &impl Eprint, diagnostics: &Diagnostics) {
     };
 }
 
-/// Prints how many paths an amendment left, and what it changes.
-pub fn note_left(rt: &impl Eprint, count: usize) {
+/// Prints how many paths an amendment left, and why: by its kind.
+pub fn note_left(rt: &impl Eprint, count: usize, is_everywhere: bool) {
     let (word, verb) = if count == 1 {
         ("path", "holds")
     } else {
         ("paths", "hold")
     };
+    let why = if is_everywhere { BESIDE } else { HEADERS };
     if count > 0 {
         let _ = eprintln!(rt;
-            "reuse-undo: note: {count} {word} still {verb} what the call names: \
-            amend changes header blocks, neighbours and REUSE.toml alone"
+            "reuse-undo: note: {count} {word} still {verb} what the call names: {why}"
         );
     }
 }
+
+/// Why paths are left if header blocks are amended.
+const HEADERS: &str = "amend changes header blocks, neighbours and REUSE.toml alone, \
+    and with --everywhere each tag of a text";
+
+/// Why paths are left if each tag is amended.
+const BESIDE: &str = "what is removed stays if other text stands on its line";
 
 /// Prints in which files a header could break something: the first of them, and how many more. Those
 /// whose header may be in a string are told apart.

@@ -6,6 +6,7 @@ use crate::run::damage::{JournalDamage, MissingHead, damage_of, is_gone, steps_w
 use reuse_arguments::line::Line;
 use reuse_change::PathText;
 use reuse_change::layout::HEAD;
+use reuse_command::command::FileAmendment;
 use reuse_folder::{Failure, HostStore, OwnerReport};
 use reuse_print::fault::Fault;
 use reuse_ready::tally;
@@ -101,6 +102,8 @@ pub struct Diagnostics {
     pub is_table_empty: bool,
     /// What the call counted.
     pub counts: Counts,
+    /// Whether tags are amended wherever they stand.
+    pub is_everywhere: bool,
     /// The globs that left nothing out, as they are written.
     pub idle_globs: Vec<Bytes>,
     /// The files whose names aren't recognised, where the call was refused for one or passed them
@@ -145,6 +148,7 @@ impl Diagnostics {
             is_gone: false,
             is_table_empty: false,
             counts: Counts::none(alloc),
+            is_everywhere: amends_everywhere(&line.request),
             idle_globs: Vec::new(alloc),
             unrecognised: Unrecognised::default(),
             failure: None,
@@ -258,16 +262,31 @@ fn missing_root(rt: &impl Files, alloc: Global, root: &str) -> Option<String> {
     }
 }
 
-/// The scope of the command that a request runs or previews, where it chooses files.
-fn scope_of(request: &Request) -> Option<&Scope> {
+/// The command that a request runs or previews.
+fn command_of(request: &Request) -> Option<&Command> {
     match request {
         Request::Make(Call::Run(command), _) | Request::Preview(Call::Run(command)) => {
-            match command {
-                Command::Annotate { scope, .. } | Command::Amend { scope, .. } => Some(scope),
-                _ => None,
-            }
+            Some(command)
         }
         _ => None,
+    }
+}
+
+/// The scope of the command that a request runs or previews, where it chooses files.
+fn scope_of(request: &Request) -> Option<&Scope> {
+    match command_of(request) {
+        Some(Command::Annotate { scope, .. } | Command::Amend { scope, .. }) => Some(scope),
+        _ => None,
+    }
+}
+
+/// Whether a request amends tags wherever they stand.
+fn amends_everywhere(request: &Request) -> bool {
+    match command_of(request) {
+        Some(Command::Amend { amendment, .. }) => {
+            matches!(amendment, FileAmendment::Everywhere(_))
+        }
+        _ => false,
     }
 }
 

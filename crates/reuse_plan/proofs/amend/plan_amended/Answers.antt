@@ -25,7 +25,7 @@ returns-then-not-is_among-clause-edit g c honest are =
     let tree = tree_of (g.S.Store.files c.args.store.now) in
     let asked = c.args.asked.now in
     is_refusal_of (amended_by asked tree c.args.path.now) c.in_ok-absent_refusal.field-0
-    (c.in_ok-absent_refusal.ensures.amended asked.amendments.now asked.scope.now (own_of asked) tree are
+    (c.in_ok-absent_refusal.ensures.amended asked.amendment.now asked.scope.now (own_of asked) tree are
     (sym (c.is_among.ensures are.ordered ∙ ap (is_among c.args.paths.now) c.as_bytes.ensures.bytes)
     ∙ c.if-not-is_among.true))
 
@@ -102,9 +102,9 @@ returns-then-is_among-clause-edit g c honest are =
     (goes_to_neighbour c.args.asked.now tree path file.0 beside.0 file.1 is beside.1)
     (c.plan_in_neighbour.ensures.edit honest beside.0 beside.1)
 
-pub returns-then-has_no_style_unread-clause-edit : goal.returns-then-has_no_style_unread-clause-edit
-returns-then-has_no_style_unread-clause-edit g c honest are =
-    let at = (goal.at.returns-then-has_no_style_unread-clause-edit g c).After-is_covered in
+pub returns-then-stays_unread-clause-edit : goal.returns-then-stays_unread-clause-edit
+returns-then-stays_unread-clause-edit g c honest are =
+    let at = (goal.at.returns-then-stays_unread-clause-edit g c).After-is_covered in
     let tree = tree_of (g.S.Store.files c.args.store.now) in
     let path = c.args.path.now in
     let file = found g at are in
@@ -115,7 +115,7 @@ returns-then-has_no_style_unread-clause-edit g c honest are =
     answers_path c.args.asked.now tree path file.0 (edited_to None) c.plan_unstyled.result (not_table path is)
     (ap₂ option_or alone file.1)
     (goes_nowhere c.args.asked.now tree path file.0 file.1 is alone
-    (sym c.has_no_style_unread.ensures ∙ c.if-has_no_style_unread.true))
+    (sym c.stays_unread.ensures ∙ c.if-stays_unread.true))
     (c.plan_unstyled.ensures.edit honest file.0 file.1)
 
 pub returns-clause-edit : goal.returns-clause-edit
@@ -132,4 +132,4 @@ returns-clause-edit g c honest are =
     (not_table path is) (ap₂ option_or alone file.1)
     (goes_inside c.args.asked.now tree path file.0 file.1 is alone)
     (c.plan_inside.ensures.edit honest file.0 file.1
-    (sym c.has_no_style_unread.ensures ∙ c.if-has_no_style_unread.false))
+    (sym c.stays_unread.ensures ∙ c.if-stays_unread.false))

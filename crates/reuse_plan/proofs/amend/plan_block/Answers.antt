@@ -8,17 +8,17 @@ use Rattle.reuse_plan.proofs.amend.plan_block.Goals.{After-amend_file-made}
 
 -- what amending makes of the file fits it
 module _ (c : After-amend_file-made) where
-  fits : Fits c.args.bytes.now (amendment_of c.args.style.now c.args.asked.now.amendments.now c.args.bytes.now)
+  fits : Fits c.args.bytes.now (amendment_of c.args.style.now c.args.values.now c.args.bytes.now)
   fits =
       fits_amendment c.args.bytes.now
-      (amendment_of c.args.style.now c.args.asked.now.amendments.now c.args.bytes.now)
-      (λ edit e. c.amendments_fit.ensures.files c.args.style.now c.args.asked.now.amendments.now c.args.bytes.now edit e)
+      (amendment_of c.args.style.now c.args.values.now c.args.bytes.now)
+      (λ edit e. c.amendments_fit.ensures.files c.args.style.now c.args.values.now c.args.bytes.now edit e)
 
 pub amended_as-requires : goal.amended_as-requires
 amended_as-requires c =
     let at = (goal.at.amended_as-requires c).After-amend_file-made in
     let bytes = c.args.bytes.now in
-    let expected = amendment_of c.args.style.now c.args.asked.now.amendments.now bytes in
+    let expected = amendment_of c.args.style.now c.args.values.now bytes in
     made_within bytes expected c.amend_file-made.result c.requires (fits at)
     (λ splice e. subst (IsExpectedAmendment (amendment_answer bytes expected)) e (search rules))
 
@@ -26,5 +26,5 @@ pub returns-clause-edit : goal.returns-clause-edit
 returns-clause-edit c tree here =
     let at = (goal.at.returns-clause-edit c).After-amend_file-made in
     c.amended_as.ensures.edit tree
-    (amendment_of c.args.style.now c.args.asked.now.amendments.now c.args.bytes.now) here c.requires (fits at)
+    (amendment_of c.args.style.now c.args.values.now c.args.bytes.now) here c.requires (fits at)
     (search rules)

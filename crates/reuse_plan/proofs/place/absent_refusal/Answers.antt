@@ -17,13 +17,13 @@ returns-else-branch-clause-annotated c how scope additions own tree are none =
     ∙ ap (λ p. Err (refusals.NoSuchPath p)) (sym c.in_ok-refused.ensures)
 
 pub returns-then-branch-clause-amended : goal.returns-then-branch-clause-amended
-returns-then-branch-clause-amended c amendments scope own tree are none =
-    absent_amended tree c.args.path.now c.args.paths.now are amendments scope own true none
+returns-then-branch-clause-amended c amendment scope own tree are none =
+    absent_amended tree c.args.path.now c.args.paths.now are amendment scope own true none
     (sym (c.in_ok-is_folder.ensures are.ordered) ∙ c.if-branch.true)
     ∙ ap (λ p. Err (refusals.IsFolder (place.Path p))) (sym c.in_ok-refused.ensures)
 
 pub returns-else-branch-clause-amended : goal.returns-else-branch-clause-amended
-returns-else-branch-clause-amended c amendments scope own tree are none =
-    absent_amended tree c.args.path.now c.args.paths.now are amendments scope own false none
+returns-else-branch-clause-amended c amendment scope own tree are none =
+    absent_amended tree c.args.path.now c.args.paths.now are amendment scope own false none
     (sym (c.in_ok-is_folder.ensures are.ordered) ∙ c.if-branch.false)
     ∙ ap (λ p. Err (refusals.NoSuchPath p)) (sym c.in_ok-refused.ensures)

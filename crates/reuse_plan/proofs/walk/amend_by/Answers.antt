@@ -12,7 +12,7 @@ use Rattle.reuse_plan.proofs.walk.amend_by.Goals as goal
 pub returns-in-Ok-clause-plans : goal.returns-in-Ok-clause-plans
 returns-in-Ok-clause-plans g c honest =
     let it = c.args.amending.now in
-    let by = amendments_by it.places.now it.amendments.now it.scope.now in
+    let by = amendments_by it.places.now it.amendment.now it.scope.now in
     let tree = tree_of (g.S.Store.files c.args.store.now) in
     subst (λ given. AnswersPlans c.args.policy tree (by tree given) c.plan_places.result) (sym c.in-Ok.ensures.styles)
     (c.plan_places.ensures.plans honest)
@@ -20,7 +20,7 @@ returns-in-Ok-clause-plans g c honest =
 pub returns-in-Err-clause-plans : goal.returns-in-Err-clause-plans
 returns-in-Err-clause-plans g c honest =
     let it = c.args.amending.now in
-    let by = amendments_by it.places.now it.amendments.now it.scope.now in
+    let by = amendments_by it.places.now it.amendment.now it.scope.now in
     let tree = tree_of (g.S.Store.files c.args.store.now) in
     let given = styles_given c.args.own.now.styles c.args.own.now.comments in
     alone_as c.args.policy tree given (by tree given) c.in-Err.refusal c.refused_alone.result

@@ -12,7 +12,7 @@ use Rattle.reuse_plan.proofs.walk.plan_amendment.Goals as goal
 pub returns-in-Ok-clause-plans : goal.returns-in-Ok-clause-plans
 returns-in-Ok-clause-plans g c honest =
     let it = c.args.amending.now in
-    let by = amendments_by it.places.now it.amendments.now it.scope.now in
+    let by = amendments_by it.places.now it.amendment.now it.scope.now in
     let tree = tree_of (g.S.Store.files c.args.store.now) in
     let before = c.amend_by.ensures.asks.reads.was_honest honest in
     let same = c.read_own_files.ensures.asks.reads.files before in
@@ -24,7 +24,7 @@ returns-in-Ok-clause-plans g c honest =
 pub returns-in-Err-clause-plans : goal.returns-in-Err-clause-plans
 returns-in-Err-clause-plans g c honest =
     let it = c.args.amending.now in
-    let by = amendments_by it.places.now it.amendments.now it.scope.now in
+    let by = amendments_by it.places.now it.amendment.now it.scope.now in
     let tree = tree_of (g.S.Store.files c.args.store.now) in
     alone_as c.args.policy tree (styles_in tree) (by tree (styles_in tree)) c.in-Err.refusal c.refused_alone.result
     (c.in-Err.ensures.refusal honest) (λ e. ap (by tree) e) c.refused_alone.ensures.reported

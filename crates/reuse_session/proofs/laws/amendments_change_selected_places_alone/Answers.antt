@@ -9,13 +9,13 @@ pub returns : goal.returns
 returns c =
     let kept = c.amending_keeps_other_bytes.ensures in
     record {
-      accepted = λ places amendments scope tree. amend_accepted places amendments scope tree kept.files kept.neighbours;
-      made = λ places amendments scope tree after h.
-          amends kept.files kept.neighbours places amendments scope tree after h;
-      one = λ places amendments scope before after other this that.
-          one_amended places amendments scope before after other this that;
-      files = λ places amendments scope before after is. same_paths places amendments scope before after is;
-      left = λ places amendments scope when old new reply runs.
-          amends kept.files kept.neighbours places amendments scope old.tree new.tree
-          (left_by_run (Amend places amendments scope) when old new reply runs);
+      accepted = λ places amendment scope tree. amend_accepted places amendment scope tree kept.files kept.neighbours;
+      made = λ places amendment scope tree after h.
+          amends kept.files kept.neighbours places amendment scope tree after h;
+      one = λ places amendment scope before after other this that.
+          one_amended places amendment scope before after other this that;
+      files = λ places amendment scope before after is. same_paths places amendment scope before after is;
+      left = λ places amendment scope when old new reply runs.
+          amends kept.files kept.neighbours places amendment scope old.tree new.tree
+          (left_by_run (Amend places amendment scope) when old new reply runs);
     }

@@ -23,4 +23,4 @@ returns-in_err-scope c =
 pub returns : goal.returns
 unfolding amend_read
 returns c = read_on _ _ _ c.in_ok-places.ensures ∙ read_on _ _ _ c.in_ok-amendments.ensures
-    ∙ read_on _ _ _ c.in_ok-scope.ensures
+    ∙ read_on _ _ _ c.in_ok-scope.ensures ∙ cc
