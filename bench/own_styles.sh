@@ -17,13 +17,7 @@ top=$(realpath "$(dirname "$0")/..")
 files=${2:-20000}
 times=${3:-5}
 header=$'# SPDX-FileCopyrightText: 2024 Jane Doe\n#\n# SPDX-License-Identifier: MIT\n\n'
-cc -O2 -o "$room/floor" "$top/bench/floor.c"
-measured=$program
-build=$room/build
-mkdir "$build"
-. "$top/bench/build.sh" hash_speed sha2
-hash_speed=$program
-program=$measured
+. "$top/bench/floor.sh"
 
 # Gives a tree all ready names and comments, without rules.
 add_tables() {
@@ -58,14 +52,6 @@ rename_files() {
   find "$1" -name '*.py' | while IFS= read -r path; do
     if [[ $(head -c 2 "$path") == '#!' ]]; then mv "$path" "${path%.py}"; else mv "$path" "${path%.py}.part.1"; fi
   done
-}
-
-declare -A best
-note() {
-  if [[ -z ${best[$1]:-} ]] ||
-    awk -v one="${2%% *}" -v other="${best[$1]%% *}" 'BEGIN { exit !(one < other) }'; then
-    best[$1]=$2
-  fi
 }
 
 # measure NAME TREE COMMAND..: runs a command on a copy of a tree, and notes what it took.
@@ -119,8 +105,7 @@ fi
 echo "annotate of $files files, $(du -sm --apparent-size "$room/plain" | cut -f1) MB, the least of" \
   "$times (load $(cut -d' ' -f1 /proc/loadavg)):"
 for ((round = 0; round < times; round++)); do
-  find "$room/plain" -type f > "$room/list"
-  note hashing "$("$hash_speed" "$room/list" | cut -d' ' -f1) 0 0 0"
+  hashing "$room/plain"
   measure floor "$room/plain" "$room/floor" "$room/tree" "$header"
   for call in "${calls[@]}"; do annotate "${told[$call]}" "$room/$call"; done
 done

@@ -22,23 +22,7 @@ annotate=(--no-sync annotate -c "Jane Doe" -l MIT -y 2024 -r .)
 # The tags below are data: REUSE-IgnoreStart
 header=$'# SPDX-FileCopyrightText: 2024 Jane Doe\n#\n# SPDX-License-Identifier: MIT\n\n'
 # REUSE-IgnoreEnd
-cc -O2 -o "$room/floor" "$(dirname "$0")/floor.c"
-undo=$program
-build=$room/build
-mkdir "$build"
-. "$(dirname "$0")/build.sh" hash_speed sha2
-hash_speed=$program
-program=$undo
-
-# Notes the times and the peak memory of a command if it was never faster: seconds, user, system,
-# kB.
-declare -A best
-note() {
-  if [[ -z ${best[$1]:-} ]] ||
-    awk -v one="${2%% *}" -v other="${best[$1]%% *}" 'BEGIN { exit !(one < other) }'; then
-    best[$1]=$2
-  fi
-}
+. "$(dirname "$0")/floor.sh"
 
 # Runs a command, and notes what it took.
 measure() {
@@ -49,12 +33,6 @@ measure() {
     { echo "refused: $*" >&2; exit 1; }
   took=$((${EPOCHREALTIME/./} - start))
   note "$name" "$((took / 1000000)).$(printf %06d $((took % 1000000))) $(cat "$room/time")"
-}
-
-# Notes the seconds in which each file of a tree is hashed twice.
-hashing() {
-  find "$1" -type f > "$room/list"
-  note hashing "$("$hash_speed" "$room/list" | cut -d' ' -f1) 0 0 0"
 }
 
 # report LEAST NAME..: prints what was noted of these commands, beside `cp -r` and what the floor

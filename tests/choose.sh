@@ -6,13 +6,8 @@
 # usage: tests/choose.sh PROGRAM
 set -euo pipefail
 . "$(dirname "$0")/common.sh"
-wants git git
+use_git
 tree=$room/tree
-export GIT_CONFIG_GLOBAL=/dev/null GIT_CONFIG_NOSYSTEM=1
-git() {
-  command git -c user.name=Jane -c user.email=jane@example.org -c protocol.file.allow=always \
-    -c init.defaultBranch=main "$@"
-}
 
 # Each file outside of git's and the journal's, with its bytes, and each link with its target
 files_of() {

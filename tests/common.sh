@@ -36,12 +36,62 @@ as_format_1() {
     "$1"/.reuse/undo/*.json
 }
 
-# Whether the journal of a tree tells a step that is under way
+# Whether the journal of a tree names a pending step
 is_pending() {
   grep -q '"pending":{' "$1/.reuse/undo/head.json" 2> /dev/null
 }
 
-# Tells a fault, and keeps the folder.
+# What a call on `$tree` prints, and its status
+answer_of() {
+  local status=0
+  "$program" --root "$tree" "$@" > "$room/answer" 2>&1 || status=$?
+  cat "$room/answer"
+  echo "status $status"
+}
+
+# Fails if a text isn't the one that is expected; the third argument says of what.
+is() { [[ $1 == "$2" ]] || fail "$3: $1"; }
+
+# Makes a call in the background; what it prints goes into files of this name.
+in_background() {
+  local name=$1
+  shift
+  {
+    found=0
+    "$program" "$@" > "$room/$name.out" 2> "$room/$name.error" || found=$?
+    echo $found > "$room/$name.status"
+  } &
+}
+
+# What a refused call prints while another run works
+busy='reuse-undo: in use by another run'
+
+# What came of such a call: done, idle (there was nothing to undo or redo), busy (it was refused as
+# in use, and printed nothing else) or moved
+outcome() {
+  local status error
+  status=$(< "$room/$1.status")
+  error=$(< "$room/$1.error")
+  case "$status:$error" in
+    0:) echo done ;;
+    "1:$busy") [[ ! -s $room/$1.out ]] && echo busy ;;
+    '1:reuse-undo: nothing to undo' | '1:reuse-undo: nothing to redo') echo idle ;;
+    1:*': moved') echo moved ;;
+    *) return 1 ;;
+  esac
+}
+
+# Makes git act alike everywhere: as Jane, on a branch main, by no settings of this machine.
+use_git() {
+  wants git git
+  export GIT_CONFIG_GLOBAL=/dev/null GIT_CONFIG_NOSYSTEM=1
+  git() {
+    command git -c user.name=Jane -c user.email=jane@example.org -c protocol.file.allow=always \
+      -c init.defaultBranch=main "$@"
+  }
+}
+
+# Reports a fault, and keeps the folder.
 fail() {
   trap - EXIT
   echo "fault: $1; kept in $room" >&2

@@ -11,16 +11,6 @@ set -euo pipefail
 wants strace strace
 tree=$room/tree
 
-# What a call prints and its status
-told() {
-  local status=0
-  "$program" --root "$tree" "$@" > "$room/told" 2>&1 || status=$?
-  cat "$room/told"
-  echo "status $status"
-}
-
-is() { [[ $1 == "$2" ]] || fail "$3: $1"; }
-
 # The numbers of the log, each with its state
 steps() {
   "$program" --root "$tree" log | sed -E 's/^([0-9]+) .* (done|undone)$/\1 \2/' | tr '\n' ' '
@@ -42,37 +32,37 @@ make_history() {
 }
 
 files a.py 'x = 1\n'
-is "$(told forget --all)" $'nothing changed\nstatus 0' "without a journal"
-is "$(told forget 1)" $'reuse-undo: no such step: 1\nstatus 1' "a step without a journal"
+is "$(answer_of forget --all)" $'nothing changed\nstatus 0' "without a journal"
+is "$(answer_of forget 1)" $'reuse-undo: no such step: 1\nstatus 1' "a step without a journal"
 [[ ! -e $tree/.reuse ]] || fail "forgetting nothing makes a folder"
 
 make_history
 sums > "$room/before"
 is "$(steps)" '1 done 2 done 3 undone 4 undone ' "the log at first"
 cp -a "$tree" "$room/whole"
-is "$(told forget 2 7 9)" $'reuse-undo: no such step: 7\nstatus 1' "a step that isn't there"
+is "$(answer_of forget 2 7 9)" $'reuse-undo: no such step: 7\nstatus 1' "a step that isn't there"
 diff -r "$room/whole" "$tree" > "$room/out" || fail "a refused call changed the tree"
 for words in 'forget' 'forget --all 1' 'forget x' 'forget -1' 'forget 1 4294967296'; do
-  [[ $(told $words) == *'status 2' ]] || fail "$words: $(cat "$room/told")"
+  [[ $(answer_of $words) == *'status 2' ]] || fail "$words: $(cat "$room/answer")"
 done
-is "$(told forget 1)" $'forgot 1\nstatus 0' "the oldest step"
+is "$(answer_of forget 1)" $'forgot 1\nstatus 0' "the oldest step"
 is "$(steps)" '2 done 3 undone 4 undone ' "the log without the oldest"
 is "$(entries)" '000002.json 000003.json 000004.json ' "the entries without the oldest"
 sums | cmp - "$room/before" || fail "forgetting changed a file"
-is "$(told redo)" $'redone c.py\nstatus 0' "redo afterwards"
-is "$(told undo)" $'undone c.py\nstatus 0' "undo of that"
-is "$(told undo)" $'undone b.py\nstatus 0' "undo of the step above the oldest"
-is "$(told undo)" $'reuse-undo: nothing to undo\nstatus 1' "undo of what is forgotten"
-is "$(told redo)" $'redone b.py\nstatus 0' "redo of that"
-is "$(told forget 4 2 4)" $'forgot 2\nforgot 4\nstatus 0' \
+is "$(answer_of redo)" $'redone c.py\nstatus 0' "redo afterwards"
+is "$(answer_of undo)" $'undone c.py\nstatus 0' "undo of that"
+is "$(answer_of undo)" $'undone b.py\nstatus 0' "undo of the step above the oldest"
+is "$(answer_of undo)" $'reuse-undo: nothing to undo\nstatus 1' "undo of what is forgotten"
+is "$(answer_of redo)" $'redone b.py\nstatus 0' "redo of that"
+is "$(answer_of forget 4 2 4)" $'forgot 2\nforgot 4\nstatus 0' \
   "a done and an undone step, one of them twice"
 is "$(steps)" '3 undone ' "the log without these"
-is "$(told annotate -l ISC d.py)" $'changed d.py\nstatus 0' "a step afterwards"
+is "$(answer_of annotate -l ISC d.py)" $'changed d.py\nstatus 0' "a step afterwards"
 is "$(steps)" '5 done ' "no number is given out again"
-is "$(told forget --all)" $'forgot 5\nstatus 0' "all"
-is "$(told forget --all)" $'nothing changed\nstatus 0' "all once more"
-is "$(told log)" 'status 0' "the log without all"
-is "$(told undo)" $'reuse-undo: nothing to undo\nstatus 1' "undo without all"
+is "$(answer_of forget --all)" $'forgot 5\nstatus 0' "all"
+is "$(answer_of forget --all)" $'nothing changed\nstatus 0' "all once more"
+is "$(answer_of log)" 'status 0' "the log without all"
+is "$(answer_of undo)" $'reuse-undo: nothing to undo\nstatus 1' "undo without all"
 
 # A journal that lists as many done steps as it can
 make_history
@@ -82,15 +72,15 @@ for ((k = 2; k <= 4096; k++)); do
 done
 printf '{"done":[%s],"format":2,"next":4097,"pending":null,"undone":[]}' "$numbers" \
   > "$tree/.reuse/undo/head.json"
-is "$(told annotate -l ISC d.py)" $'reuse-undo: journal full\nstatus 1' "a full journal"
-is "$(told forget $(seq 1 4000) | tail -n 2)" $'forgot 4000\nstatus 0' \
+is "$(answer_of annotate -l ISC d.py)" $'reuse-undo: journal full\nstatus 1' "a full journal"
+is "$(answer_of forget $(seq 1 4000) | tail -n 2)" $'forgot 4000\nstatus 0' \
   "forgetting in a full journal"
-is "$(told annotate -l ISC d.py)" $'changed d.py\nstatus 0' \
+is "$(answer_of annotate -l ISC d.py)" $'changed d.py\nstatus 0' \
   "a step afterwards in what was a full journal"
 # The numbers are used up for good
 sed -E 's/"next":[0-9]+/"next":1000000/' -i "$tree/.reuse/undo/head.json"
-is "$(told forget --all | tail -n 1)" 'status 0' "forgetting where no number is left"
-is "$(told annotate -l MIT c.py)" $'reuse-undo: journal full\nstatus 1' \
+is "$(answer_of forget --all | tail -n 1)" 'status 0' "forgetting where no number is left"
+is "$(answer_of annotate -l MIT c.py)" $'reuse-undo: journal full\nstatus 1' \
   "a step where no number is left"
 
 # Killed at each system call that changes a file

@@ -10,7 +10,6 @@ set -euo pipefail
 rounds=${2:-50}
 files=${3:-2000}
 tree=$room/tree
-busy='reuse-undo: in use by another run'
 
 # The files, in folders of a hundred
 mkdir "$tree"
@@ -22,30 +21,8 @@ done
 # One checksum over all names, bits and bytes outside of the journal
 all_files() { tar -C "$tree" --sort=name --mtime=@0 --exclude=./.reuse -cf - . | sha256sum; }
 
-# Makes a call in the background; what it tells goes into files of this name.
-start() {
-  local name=$1
-  shift
-  {
-    found=0
-    "$program" --root "$tree" "$@" > "$room/$name.out" 2> "$room/$name.error" || found=$?
-    echo $found > "$room/$name.status"
-  } &
-}
-
-# What came of a call: done, idle (there was nothing to undo or redo) or busy (refused, and nothing
-# is told but that).
-outcome() {
-  local status error
-  status=$(< "$room/$1.status")
-  error=$(< "$room/$1.error")
-  case "$status:$error" in
-    0:) echo done ;;
-    "1:$busy") [[ ! -s $room/$1.out ]] && echo busy ;;
-    '1:reuse-undo: nothing to undo' | '1:reuse-undo: nothing to redo') echo idle ;;
-    *) return 1 ;;
-  esac
-}
+# Makes a call on the tree in the background.
+start() { in_background "$1" --root "$tree" "${@:2}"; }
 
 # Takes every step back.
 undo_all() {
@@ -75,7 +52,7 @@ for ((round = 1; round <= rounds; round++)); do
   done
   wait
   for process in {1..8}; do
-    what=$(outcome $process) ||
+    what=$(outcome $process) && [[ -v seen[$what] ]] ||
       fail \
       "round $round: $(cat "$room/$process.status" "$room/$process.error" "$room/$process.out")"
     seen[$what]=$((seen[$what] + 1))

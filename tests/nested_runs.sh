@@ -11,7 +11,6 @@ rounds=${2:-50}
 files=${3:-300}
 outer=$room/tree
 inner=$outer/deep/in
-busy='reuse-undo: in use by another run'
 
 # Half of the files in the inner tree
 make_tree() {
@@ -24,31 +23,6 @@ make_tree() {
       echo "line = $k" > "$inner/file$k.py"
     fi
   done
-}
-
-# Makes a call in the background; what it tells goes into files of this name.
-start() {
-  local name=$1
-  shift
-  {
-    found=0
-    "$program" "$@" > "$room/$name.out" 2> "$room/$name.error" || found=$?
-    echo $found > "$room/$name.status"
-  } &
-}
-
-# What came of a call
-outcome() {
-  local status error
-  status=$(< "$room/$1.status")
-  error=$(< "$room/$1.error")
-  case "$status:$error" in
-    0:) echo done ;;
-    "1:$busy") [[ ! -s $room/$1.out ]] && echo busy ;;
-    '1:reuse-undo: nothing to undo' | '1:reuse-undo: nothing to redo') echo idle ;;
-    1:*': moved') echo moved ;;
-    *) return 1 ;;
-  esac
 }
 
 # How many files below the root have a header of this holder
@@ -64,15 +38,16 @@ for ((round = 1; round <= rounds; round++)); do
     ((process % 2)) || root=$inner
     case $((RANDOM % 5)) in
       0 | 1 | 2)
-        start $process --root "$root" annotate -c "Holder $round.$process." -l MIT -y 2024 -r .
+        in_background $process --root "$root" annotate -c "Holder $round.$process." -l MIT \
+          -y 2024 -r .
         ;;
-      3) start $process --root "$root" undo ;;
-      4) start $process --root "$root" redo ;;
+      3) in_background $process --root "$root" undo ;;
+      4) in_background $process --root "$root" redo ;;
     esac
   done
   wait
   for process in {1..8}; do
-    what=$(outcome $process) ||
+    what=$(outcome $process) && [[ -v seen[$what] ]] ||
       fail \
       "round $round: $(cat "$room/$process.status" "$room/$process.error" "$room/$process.out")"
     seen[$what]=$((seen[$what] + 1))

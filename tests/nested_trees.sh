@@ -5,13 +5,8 @@
 # usage: tests/nested_trees.sh PROGRAM
 set -euo pipefail
 . "$(dirname "$0")/common.sh"
-wants git git
+use_git
 tree=$room/tree
-export GIT_CONFIG_GLOBAL=/dev/null GIT_CONFIG_NOSYSTEM=1
-git() {
-  command git -c user.name=Jane -c user.email=jane@example.org -c protocol.file.allow=always \
-    -c init.defaultBranch=main "$@"
-}
 
 # A repository with two commits
 git init -q "$room/library"

@@ -25,16 +25,6 @@ kill_at() {
   } 2> /dev/null || true
 }
 
-# What a call prints and its status
-told() {
-  local status=0
-  "$program" --root "$tree" "$@" > "$room/told" 2>&1 || status=$?
-  cat "$room/told"
-  echo "status $status"
-}
-
-is() { [[ $1 == "$2" ]] || fail "$3: $1"; }
-
 # Makes `$tree` that of `$room/FROM`.
 stand() {
   rm -rf "$tree"
@@ -43,10 +33,10 @@ stand() {
 
 # Without a pending step nothing happens
 files a.py 'x = 1\n' b.py 'y = 2\n'
-is "$(told recover)" $'nothing changed\nstatus 0' "without a journal"
+is "$(answer_of recover)" $'nothing changed\nstatus 0' "without a journal"
 "$program" --root "$tree" annotate -l MIT -r . > "$room/out"
-is "$(told recover --skip-moved)" $'nothing changed\nstatus 0' "without a pending step"
-is "$(told log | sed 's/[0-9-]\{10\}/DATE/')" $'1 DATE annotate 2 done\nstatus 0' \
+is "$(answer_of recover --skip-moved)" $'nothing changed\nstatus 0' "without a pending step"
+is "$(answer_of log | sed 's/[0-9-]\{10\}/DATE/')" $'1 DATE annotate 2 done\nstatus 0' \
   "the log afterwards"
 
 # A tree with a step that is done, and the same with that step undone
@@ -65,7 +55,7 @@ round_of() {
   local from=$1 first=$2 edited log changed expected call
   shift 2
   stand "$from"
-  log=$(told log)
+  log=$(answer_of log)
   kill_at $((first + 1 + RANDOM % count)) "$@"
   is_pending "$tree" || return 1
   mapfile -t changed < <(diff -rq "$room/$from" "$tree" |
@@ -77,20 +67,20 @@ round_of() {
   cp -a "$tree" "$room/stuck"
   for call in log undo 'annotate -l ISC -r .' 'show 1' recover; do
     # shellcheck disable=SC2086
-    is "$(told $call)" "reuse-undo: $edited: moved"$'\nstatus 1' "$call with a stuck step"
+    is "$(answer_of $call)" "reuse-undo: $edited: moved"$'\nstatus 1' "$call with a stuck step"
   done
   diff -r "$room/stuck" "$tree" > "$room/out" || fail "a refused call changed the tree"
   expected=$(for file in "${changed[@]}"; do [[ $file == "$edited" ]] ||
     echo "set back $file"; done)
   [[ -n $expected ]] || expected='nothing changed'
-  is "$(told recover --skip-moved)" "$expected"$'\n'"skipped $edited"$'\nstatus 0' \
+  is "$(answer_of recover --skip-moved)" "$expected"$'\n'"skipped $edited"$'\nstatus 0' \
     "recover --skip-moved"
   is \
     "$(diff -rq -x .reuse "$room/$from" "$tree" |
       sed -E 's/.* and .*\/(f[0-9]+\.py) differ/\1/')" "$edited" "the files that differ afterwards"
   cmp -s "$room/stuck/$edited" "$tree/$edited" || fail "the edited file isn't left"
-  is "$(told log)" "$log" "the log afterwards"
-  is "$(told recover)" $'nothing changed\nstatus 0' "recover once more"
+  is "$(answer_of log)" "$log" "the log afterwards"
+  is "$(answer_of recover)" $'nothing changed\nstatus 0' "recover once more"
   "$program" --root "$tree" annotate -l MIT -r . > "$room/out" || fail "no call goes on"
 }
 
@@ -114,7 +104,7 @@ kill_at 5 annotate -l MIT -r .
 is_pending "$tree" || fail "the run wasn't killed in the middle"
 rm -rf "$room/stuck"
 cp -a "$tree" "$room/stuck"
-told recover > "$room/said"
+answer_of recover > "$room/said"
 diff -r -x .reuse "$room/clean" "$tree" > "$room/out" ||
   fail "recover without an edit leaves another tree"
 grep -q '^set back ' "$room/said" || fail "nothing was set back"
@@ -122,7 +112,8 @@ grep -q '^set back ' "$room/said" || fail "nothing was set back"
 # A recovery that leaves a file, stopped at each of its system calls, and ended by the next one
 echo '# edited' >> "$room/stuck/a.py"
 stand stuck
-is "$(told recover --skip-moved)" $'set back b.py\nskipped a.py\nstatus 0' "recover --skip-moved"
+is "$(answer_of recover --skip-moved)" $'set back b.py\nskipped a.py\nstatus 0' \
+  "recover --skip-moved"
 ended=$(state_of "$tree")
 stops=0
 for call in openat read write close fchmod rename renameat renameat2 unlink unlinkat fsync \
@@ -137,7 +128,7 @@ for call in openat read write close fchmod rename renameat renameat2 unlink unli
       } 2> /dev/null || status=$?
       if ((status != 137)) && ! grep -q INJECTED "$room/trace"; then break; fi
       if ((status)); then
-        told recover --skip-moved > "$room/said"
+        answer_of recover --skip-moved > "$room/said"
         is "$(tail -n 1 "$room/said")" 'status 0' "recover behind $call $number $fault"
       fi
       is "$(state_of "$tree")" "$ended" "recover behind $call $number $fault"
