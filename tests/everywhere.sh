@@ -63,6 +63,12 @@ calls() {
   is "$(told --replace-license MIT 'ISC OR 0BSD' -r .)" \
     $'reuse-undo: b: bad licence expression\nstatus 1' 'a bad expression'
   holds a "$mit"
+  # Of files over 16 MiB those stay whose names have no style. Any other is refused.
+  files a.py "$mit" big.png ''
+  truncate -s 16777217 "$tree/big.png"
+  is "$(told "${change[@]}" -r .)" $'changed a.py\nstatus 0' 'a long file without a style'
+  mv "$tree/big.png" "$tree/big.py"
+  is "$(told "${change[@]}" -r .)" $'reuse-undo: big.py: too long\nstatus 1' 'a long file'
   # Words
   is "$(told a)" $'reuse-undo: nothing to amend\nstatus 2' 'nothing to amend'
   told "${change[@]}" --style python a > "$room/out"

@@ -2,7 +2,7 @@
 use Rattle.std.proofs.Common.{◌≡◌, ◌↔◌, inl, inr, ℕ, Bool, true, false, cond, not, ◌&&◌, nat_lt, List, length, Option}
 use Rattle.std.proofs.Common.{Some, None, Result, Ok, Err, refl, sym, ap, subst, ◌∙◌, IsOk}
 use Rattle.reuse_command.specs.Reading.{get, Files}
-use Rattle.std.proofs.lemmas.Bool.{false≢true, ltb-false, le-ltb}
+use Rattle.std.proofs.lemmas.Bool.{false≢true, and_from, and_parts, ltb-true, ltb-false, le-ltb, lt-ltb}
 use Rattle.std.proofs.lemmas.Option.{none-some, same_Some}
 use Rattle.reuse_text.specs.declared.TheConstants.{LONGEST_FILE}
 use Rattle.reuse_amend.specs.declared.amendments.Amendments.{Amendments}
@@ -17,10 +17,10 @@ use Rattle.reuse_tags.specs.Everywhere.{amended_everywhere}
 use Rattle.reuse_change.specs.Listing.{is_folder}
 use Rattle.reuse_plan.specs.Accepted.{CanNeighbourBeAmended, CanFileBeAmended, CanBeAmended, CanAmend, FitsEntry}
 use Rattle.reuse_plan.specs.Accepted.{CanTableBeAmended, CanCoveredBeAmended, CanTextBeAmended}
-use Rattle.reuse_plan.specs.Accepted.{IsNeighbourAccepted, IsTextAccepted, StaysUnread}
+use Rattle.reuse_plan.specs.Accepted.{IsNeighbourAccepted, IsTextAccepted, IsPassedOver}
 use Rattle.reuse_plan.specs.Amend.{style_or_named, style_for, amendment_edit, amend_neighbour, amend_inside}
 use Rattle.reuse_plan.specs.Amend.{amend_covered, amended_where, amended_at, table_edit, table_amendment, amended_table}
-use Rattle.reuse_plan.specs.Amend.{amend_beside, amend_own_text, amend_table, stays_unread, text_edit}
+use Rattle.reuse_plan.specs.Amend.{amend_beside, amend_own_text, amend_table, has_no_style_unread, is_passed_over, text_edit}
 use Rattle.reuse_plan.specs.AmendmentPlan.{Expected}
 use Rattle.reuse_plan.specs.Annotate.{neighbour_of}
 use Rattle.reuse_plan.specs.Annotated.{IsStyleOf}
@@ -148,15 +148,19 @@ module _ (scope : Scope) (own : OwnKinds) (path bytes : List ℕ) where
       amendment_accepted path path bytes (amendment_of style values bytes) given
       (sym (ap (amend_block values path bytes) (style_is scope own path bytes style styled)) ∙ h)
 
-  test_unread : (amendment : FileAmendment) → StaysUnread amendment scope own path
-      → stays_unread amendment scope own path ≡ true
-  test_unread (InHeader values) is = reason_unread scope own path is
-  test_unread (Everywhere values) is = absurd is
+  test_passed : (amendment : FileAmendment) → IsPassedOver amendment scope own path bytes
+      → is_passed_over amendment scope own path bytes ≡ true
+  test_passed (InHeader values) is = reason_unread scope own path is
+  test_passed (Everywhere values) is =
+      and_from (nat_lt LONGEST_FILE (length bytes)) (has_no_style_unread scope own path)
+      (lt-ltb LONGEST_FILE (length bytes) is.0) (reason_unread scope own path is.1)
 
-  unread_test : (amendment : FileAmendment) → stays_unread amendment scope own path ≡ true
-      → StaysUnread amendment scope own path
-  unread_test (InHeader values) is = unread_reason scope own path is
-  unread_test (Everywhere values) is = absurd (false≢true is)
+  passed_test : (amendment : FileAmendment) → is_passed_over amendment scope own path bytes ≡ true
+      → IsPassedOver amendment scope own path bytes
+  passed_test (InHeader values) is = unread_reason scope own path is
+  passed_test (Everywhere values) is =
+      let parts = and_parts (nat_lt LONGEST_FILE (length bytes)) (has_no_style_unread scope own path) is in
+      (ltb-true LONGEST_FILE (length bytes) parts.0, unread_reason scope own path parts.1)
 
 module _ (amendment : FileAmendment) (scope : Scope) (own : OwnKinds) (tree : Files) (path : List ℕ) where
   -- a table, or another file
@@ -174,20 +178,20 @@ module _ (amendment : FileAmendment) (scope : Scope) (own : OwnKinds) (tree : Fi
       (beside_is_done amendment path beside can.accepted))
 
   inside_done : (bytes : List ℕ)
-      → (¬ (StaysUnread amendment scope own path) → CanFileBeAmended amendment scope own path bytes)
+      → (¬ (IsPassedOver amendment scope own path bytes) → CanFileBeAmended amendment scope own path bytes)
       → IsDone (amend_inside amendment scope own path bytes)
-  inside_done bytes can = by_unread (stays_unread amendment scope own path) refl
+  inside_done bytes can = by_passed (is_passed_over amendment scope own path bytes) refl
     where
       by_text : CanFileBeAmended amendment scope own path bytes → (text : Bool) → is_text bytes ≡ text
           → IsDone (cond (not (is_text bytes)) (done None) (amend_own_text amendment scope own path bytes))
       by_text it false e = done_nothing _ _ (ap not e)
       by_text it true e = done_rest _ _ _ (ap not e) (own_text_done scope own path bytes amendment (it.accepted e))
 
-      by_unread : (none : Bool) → stays_unread amendment scope own path ≡ none
+      by_passed : (passed : Bool) → is_passed_over amendment scope own path bytes ≡ passed
           → IsDone (amend_inside amendment scope own path bytes)
-      by_unread true e = done_nothing _ _ e
-      by_unread false e =
-          let it = can (λ is. false≢true (sym e ∙ test_unread scope own path bytes amendment is)) in
+      by_passed true e = done_nothing _ _ e
+      by_passed false e =
+          let it = can (λ is. false≢true (sym e ∙ test_passed scope own path bytes amendment is)) in
           done_rest _ _ _ e (done_rest _ _ _ (le-ltb LONGEST_FILE (length bytes) it.short)
           (by_text it (is_text bytes) refl))
 
@@ -246,17 +250,17 @@ module _ (amendment : FileAmendment) (scope : Scope) (own : OwnKinds) (tree : Fi
       }
 
   file_can : (bytes : List ℕ) (given : Option Edit) → amend_inside amendment scope own path bytes ≡ Ok given
-      → ¬ (StaysUnread amendment scope own path) → CanFileBeAmended amendment scope own path bytes
-  file_can bytes given h read = by_unread (stays_unread amendment scope own path) refl h
+      → ¬ (IsPassedOver amendment scope own path bytes) → CanFileBeAmended amendment scope own path bytes
+  file_can bytes given h read = by_passed (is_passed_over amendment scope own path bytes) refl h
     where
       inner : Result (Option Edit) Refusal
       inner = cond (not (is_text bytes)) (done None) (amend_own_text amendment scope own path bytes)
 
-      by_unread : (none : Bool) → stays_unread amendment scope own path ≡ none
-          → cond none (done None) (cond (nat_lt LONGEST_FILE (length bytes)) (Err (refusals.TooLong path)) inner)
+      by_passed : (passed : Bool) → is_passed_over amendment scope own path bytes ≡ passed
+          → cond passed (done None) (cond (nat_lt LONGEST_FILE (length bytes)) (Err (refusals.TooLong path)) inner)
           ≡ Ok given → CanFileBeAmended amendment scope own path bytes
-      by_unread true e f = absurd (read (unread_test scope own path bytes amendment e))
-      by_unread false e f =
+      by_passed true e f = absurd (read (passed_test scope own path bytes amendment e))
+      by_passed false e f =
           let short = err_or (nat_lt LONGEST_FILE (length bytes)) (refusals.TooLong path) inner given f in
           record {
             short = ltb-false LONGEST_FILE (length bytes) short.0;

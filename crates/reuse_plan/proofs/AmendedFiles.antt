@@ -3,7 +3,7 @@ use Rattle.std.proofs.Common.{◌≡◌, ◌⊎◌, inl, inr, ℕ, Bool, true, f
 use Rattle.std.proofs.Common.{◌&&◌, is_none, drop, Option, Some, None, Ok, Err, refl, sym, ap, ap₂, subst, ◌∙◌, Result}
 use Rattle.std.specs.Option.{option_map, option_map_or}
 use Rattle.reuse_command.specs.Reading.{get, Files}
-use Rattle.std.proofs.lemmas.Bool.{not-false, false≢true, and_parts}
+use Rattle.std.proofs.lemmas.Bool.{not-false, false≢true, and_parts, ltb-true, ltb-false}
 use Rattle.std.proofs.lemmas.Option.{same_Some}
 use Rattle.reuse_text.specs.Text.{mark_len_of, spliced}
 use Rattle.reuse_text.specs.declared.TheConstants.{LONGEST_FILE}
@@ -26,7 +26,7 @@ use Rattle.reuse_plan.proofs.TagLemmas.{keeps_values}
 use Rattle.reuse_change.specs.Listing.{is_folder}
 use Rattle.reuse_command.specs.Command.{values_of}
 use Rattle.reuse_plan.specs.Amend.{style_or_named, style_for, amendment_edit, amend_neighbour, amend_beside}
-use Rattle.reuse_plan.specs.Amend.{amend_own_text, stays_unread, text_edit}
+use Rattle.reuse_plan.specs.Amend.{amend_own_text, is_passed_over, text_edit}
 use Rattle.reuse_plan.specs.Amend.{amend_covered, table_edit, table_amendment, amended_table, amend_table}
 use Rattle.reuse_plan.specs.Amend.{amended_where, amended_at}
 use Rattle.reuse_plan.specs.Amended.{KeepsOutsideBlock, IsNeighbourAmended, IsFileAmended, HasNoPlace, IsTableAmended}
@@ -245,7 +245,7 @@ module _ (keeps_block : KeepsBlock) (keeps_neighbour : KeepsNeighbour) where
     abbrev Becomes : List ℕ → Type 0
     Becomes bytes =
         (HasNoPlace amendment scope own path bytes (pair_at tree path)
-            × (pair_then tree given path ≡ pair_at tree path))
+        × (pair_then tree given path ≡ pair_at tree path))
         ⊎ IsFileAmended amendment scope own path bytes (pair_at tree path) (pair_then tree given path)
         ⊎ IsNeighbourAmended amendment (pair_at tree path) (pair_then tree given path)
 
@@ -313,27 +313,32 @@ module _ (keeps_block : KeepsBlock) (keeps_neighbour : KeepsNeighbour) where
         })
 
     own_text_by : (amendment : FileAmendment) (bytes : List ℕ) → get tree path ≡ Some bytes
-        → get tree (neighbour_of path) ≡ None → is_text bytes ≡ true
+        → get tree (neighbour_of path) ≡ None → length bytes ≤ LONGEST_FILE → is_text bytes ≡ true
         → amend_own_text amendment scope own path bytes ≡ Ok given → Becomes amendment scope own tree path given bytes
-    own_text_by (InHeader values) bytes here alone text h =
+    own_text_by (InHeader values) bytes here alone short text h =
         block_by values bytes (style_for scope own path bytes) here alone refl text h
-    own_text_by (Everywhere values) bytes here alone text h =
+    own_text_by (Everywhere values) bytes here alone short text h =
         let m = text_makes values path path bytes given h in
-        file_to (Everywhere values) scope own tree path given bytes m.made here alone m.makes (record {
-          text = text;
-          by_rules = m.by_rules;
-          keeps = keeps_values values bytes m.made m.by_rules;
-        })
+        file_to (Everywhere values) scope own tree path given bytes m.made here alone m.makes (
+          short,
+          record {
+            text = text;
+            by_rules = m.by_rules;
+            keeps = keeps_values values bytes m.made m.by_rules;
+          },
+        )
 
-    unread_by : (amendment : FileAmendment) (bytes : List ℕ) → stays_unread amendment scope own path ≡ true
+    passed_by : (amendment : FileAmendment) (bytes : List ℕ) → is_passed_over amendment scope own path bytes ≡ true
         → HasNoText amendment scope own path bytes
-    unread_by (InHeader values) bytes unread = inr (unread_none scope own path bytes unread)
-    unread_by (Everywhere values) bytes unread = absurd (false≢true unread)
+    passed_by (InHeader values) bytes passed = inr (unread_none scope own path bytes passed)
+    passed_by (Everywhere values) bytes passed =
+        let parts = and_parts (nat_lt LONGEST_FILE (length bytes)) (has_no_style_unread scope own path) passed in
+        inr (ltb-true LONGEST_FILE (length bytes) parts.0, unread_none scope own path bytes parts.1)
 
     not_text : (amendment : FileAmendment) (bytes : List ℕ) → is_text bytes ≡ false
         → HasNoText amendment scope own path bytes
     not_text (InHeader values) bytes e = inl e
-    not_text (Everywhere values) bytes e = e
+    not_text (Everywhere values) bytes e = inl e
 
   module _ (amendment : FileAmendment) (scope : Scope) (own : OwnKinds) (tree : Files) (path : List ℕ)
       (given : Option Edit) where
@@ -348,28 +353,28 @@ module _ (keeps_block : KeepsBlock) (keeps_neighbour : KeepsNeighbour) where
         inr (inr (beside_by scope own tree path given amendment there is short.1))
 
     inside_text : (bytes : List ℕ) (text : Bool) → get tree path ≡ Some bytes → get tree (neighbour_of path) ≡ None
-        → is_text bytes ≡ text
+        → length bytes ≤ LONGEST_FILE → is_text bytes ≡ text
         → cond (not text) (done None) (amend_own_text amendment scope own path bytes) ≡ Ok given → BecomesAt bytes
-    inside_text bytes false here alone text h = unchanged amendment scope own tree path given bytes h
+    inside_text bytes false here alone short text h = unchanged amendment scope own tree path given bytes h
         (alone, not_text scope own tree path given amendment bytes text)
-    inside_text bytes true here alone text h =
-        own_text_by scope own tree path given amendment bytes here alone text h
+    inside_text bytes true here alone short text h =
+        own_text_by scope own tree path given amendment bytes here alone short text h
 
     inside : (bytes : List ℕ) (none : Bool) → get tree path ≡ Some bytes → get tree (neighbour_of path) ≡ None
-        → stays_unread amendment scope own path ≡ none
+        → is_passed_over amendment scope own path bytes ≡ none
         → cond none (done None) (cond (nat_lt LONGEST_FILE (length bytes)) (Err (refusals.TooLong path))
         (cond (not (is_text bytes)) (done None) (amend_own_text amendment scope own path bytes))) ≡ Ok given
         → BecomesAt bytes
-    inside bytes true here alone unread h = unchanged amendment scope own tree path given bytes h
-        (alone, unread_by scope own tree path given amendment bytes unread)
-    inside bytes false here alone unread h =
+    inside bytes true here alone passed h = unchanged amendment scope own tree path given bytes h
+        (alone, passed_by scope own tree path given amendment bytes passed)
+    inside bytes false here alone passed h =
         let short = err_or (nat_lt LONGEST_FILE (length bytes)) (refusals.TooLong path) _ given h in
-        inside_text bytes (is_text bytes) here alone refl short.1
+        inside_text bytes (is_text bytes) here alone (ltb-false LONGEST_FILE (length bytes) short.0) refl short.1
 
     by_neighbour : (bytes : List ℕ) (there : Option (List ℕ)) → get tree path ≡ Some bytes → get tree
         (neighbour_of path) ≡ there → amend_covered amendment scope own path bytes there ≡ Ok given → BecomesAt bytes
     by_neighbour bytes (Some there) here is h = beside bytes there is h
-    by_neighbour bytes None here is h = inside bytes (stays_unread amendment scope own path) here is refl h
+    by_neighbour bytes None here is h = inside bytes (is_passed_over amendment scope own path bytes) here is refl h
 
     table : (bytes : List ℕ) → get tree path ≡ Some bytes → amend_table (values_of amendment) path bytes ≡ Ok given
         → IsTableAmended (values_of amendment) (pair_at tree path) (pair_then tree given path)

@@ -13,7 +13,7 @@ use Rattle.reuse_tags.specs.Everywhere.{amended_everywhere}
 use Rattle.reuse_text.specs.declared.TheConstants.{LONGEST_FILE}
 use Rattle.reuse_change.specs.Listing.{is_folder}
 use Rattle.reuse_command.specs.Command.{values_of}
-use Rattle.reuse_plan.specs.Amend.{style_for, stays_unread, amendment_edit, amend_neighbour, amend_block}
+use Rattle.reuse_plan.specs.Amend.{style_for, is_passed_over, amendment_edit, amend_neighbour, amend_block}
 use Rattle.reuse_plan.specs.Amend.{amend_beside, amend_own_text, amend_inside, amend_covered, text_edit}
 use Rattle.reuse_plan.specs.Amend.{table_amendment, amend_table, amended_where, amended_at}
 use Rattle.reuse_plan.specs.Annotate.{neighbour_of, edit_by}
@@ -111,7 +111,7 @@ module _ (amendment : FileAmendment) (scope : Scope) (own : OwnKinds) (tree : Fi
   of_inside : (bytes : List ℕ) → get tree path ≡ Some bytes → is_covered path ≡ true
       → amend_inside amendment scope own path bytes ≡ some_edit edit → Here
   of_inside bytes here covered e =
-      let read = unskipped (stays_unread amendment scope own path) _ edit e in
+      let read = unskipped (is_passed_over amendment scope own path bytes) _ edit e in
       let short = err_or (nat_lt LONGEST_FILE (length bytes)) (refusals.TooLong path) _ (Some edit) read.1 in
       let text = unskipped (not (is_text bytes)) _ edit short.1 in
       let one = of_own_text path edit amendment scope own bytes text.1 in

@@ -29,7 +29,7 @@ use Rattle.reuse_command.specs.declared.reply.Refusal.{Refusal}
 use Rattle.reuse_command.specs.declared.reply.Refusal.TheVariants as refusals
 use Rattle.reuse_plan.proofs.EditLemmas.{edited_to, refused}
 use Rattle.reuse_plan.proofs.TableLemmas.{not_table}
-use Rattle.reuse_plan.specs.AmendmentPlan.{own_text_by, stays_unread_by}
+use Rattle.reuse_plan.specs.AmendmentPlan.{is_passed_over_by, own_text_by}
 
 -- what is known of each edit is known of an amendment
 pub fits_amendment : (bytes : List ℕ) (expected : Expected) → ((edit : header.Edit) → expected ≡ Ok (Some edit)
@@ -112,12 +112,18 @@ module _ (asked : Amendment) (path bytes : List ℕ) where
       ≡ table_amendment path bytes (toml_amendment_of (values_of asked.amendment.now) bytes)
   table_is short = ap (λ b. cond b (refused (refusals.TooLong path)) by_table) short
 
-  pub inside_is : (text : Bool) → stays_unread_by asked path ≡ false → nat_lt LONGEST_FILE (length bytes) ≡ false
+  abbrev by_length : Result (Option Edit) Refusal
+  by_length = cond (nat_lt LONGEST_FILE (length bytes)) (refused (refusals.TooLong path))
+      (cond (not (is_text bytes)) (edited_to None) (own_text_by asked path bytes))
+
+  pub passed_over_is : is_passed_over_by asked path bytes ≡ true → inside_by asked path bytes ≡ edited_to None
+  passed_over_is passed = ap (λ b. cond b (edited_to None) by_length) passed
+
+  pub inside_is : (text : Bool) → is_passed_over_by asked path bytes ≡ false → nat_lt LONGEST_FILE (length bytes) ≡ false
       → is_text bytes ≡ text
       → inside_by asked path bytes ≡ cond (not text) (edited_to None) (own_text_by asked path bytes)
   inside_is text read short is =
-      ap (λ b. cond b (edited_to None) (cond (nat_lt LONGEST_FILE (length bytes)) (refused (refusals.TooLong path))
-      (cond (not (is_text bytes)) (edited_to None) (own_text_by asked path bytes)))) read
+      ap (λ b. cond b (edited_to None) by_length) read
       ∙ ap (λ b. cond b (refused (refusals.TooLong path)) (cond (not (is_text bytes)) (edited_to None)
       (own_text_by asked path bytes))) short
       ∙ ap (λ b. cond (not b) (edited_to None) (own_text_by asked path bytes)) is
@@ -160,12 +166,3 @@ module _ (asked : Amendment) (tree : Files) (path : List ℕ) where
   pub goes_inside : (bytes : List ℕ) → get tree path ≡ Some bytes → is_covered path ≡ true
       → get tree (neighbour_of path) ≡ None → amended_by asked tree path ≡ inside_by asked path bytes
   goes_inside bytes here covered is = covered_is bytes None here covered is
-
-  -- and the file isn't amended, whatever it holds
-  pub goes_nowhere : (bytes : List ℕ) → get tree path ≡ Some bytes → is_covered path ≡ true
-      → get tree (neighbour_of path) ≡ None → stays_unread_by asked path ≡ true
-      → amended_by asked tree path ≡ edited_to None
-  goes_nowhere bytes here covered is none =
-      goes_inside bytes here covered is ∙ ap (λ b. cond b (edited_to None)
-      (cond (nat_lt LONGEST_FILE (length bytes)) (refused (refusals.TooLong path))
-      (cond (not (is_text bytes)) (edited_to None) (own_text_by asked path bytes)))) none

@@ -53,7 +53,8 @@ module _ (scope : Scope) (own : OwnKinds) (path bytes : List ℕ) where
       (uncommentable scope own path bytes file.style) file.of_style is
   becomes_text (InHeader values) made (inr (inr is)) file =
       styled scope own path bytes file.style kind.Unknown (unknown scope own path bytes file.style) file.of_style is
-  becomes_text (Everywhere values) made binary text = false≢true (sym binary ∙ text.text)
+  becomes_text (Everywhere values) made (inl binary) file = false≢true (sym binary ∙ file.1.text)
+  becomes_text (Everywhere values) made (inr long) file = omega (arith, long.0, file.0)
 
   becomes_file : (amendment : FileAmendment) (made other : List ℕ) → BecomesFile amendment scope own path bytes made
       → BecomesFile amendment scope own path bytes other → made ≡ other
@@ -61,7 +62,7 @@ module _ (scope : Scope) (own : OwnKinds) (path bytes : List ℕ) where
       let style = one_style scope own path bytes one.style two.style one.of_style two.of_style in
       same_Ok made other (sym one.by_rules ∙ ap (λ s. amended_file bytes (amendment_of s values bytes)) style
       ∙ two.by_rules)
-  becomes_file (Everywhere values) made other one two = same_Some made other (sym one.by_rules ∙ two.by_rules)
+  becomes_file (Everywhere values) made other one two = same_Some made other (sym one.1.by_rules ∙ two.1.by_rules)
 
 becomes_neighbour : (amendment : FileAmendment) (beside made other : List ℕ) → BecomesNeighbour amendment beside made
     → BecomesNeighbour amendment beside other → made ≡ other

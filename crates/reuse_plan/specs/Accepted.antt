@@ -1,5 +1,5 @@
 -- Where a command isn't refused, in other words.
-use Rattle.std.specs.Prelude.{◌≡◌, ◌⊎◌, ℕ, ◌≤◌, true, List, [], length, Some, None, Ok, IsOk, IsSome, unwrap_or}
+use Rattle.std.specs.Prelude.{◌≡◌, ◌⊎◌, ℕ, ◌<◌, ◌≤◌, true, List, [], length, Some, None, Ok, IsOk, IsSome, unwrap_or}
 use Rattle.std.specs.List.{Contains}
 use Rattle.std.specs.FinMap.{get}
 use Rattle.reuse_change.specs.declared.layout.TheConstants.{LARGEST_ENTRY, MOST_CHANGES}
@@ -137,15 +137,16 @@ pub record CanNeighbourBeAmended (amendment : FileAmendment) (path beside : List
   pub short : length beside ≤ LONGEST_FILE
   pub accepted : IsNeighbourAccepted amendment beside
 
--- the file has no style whatever it holds, and isn't read
+-- the file has no style whatever it holds
 abbrev pub HasNoStyleUnread : Scope → OwnKinds → List ℕ → Type 0
 HasNoStyleUnread scope own path =
     HasKindUnread scope own path kind.Uncommentable ⊎ HasKindUnread scope own path kind.Unknown
 
--- so it is where a header block is looked for
-abbrev pub StaysUnread : FileAmendment → Scope → OwnKinds → List ℕ → Type 0
-StaysUnread (InHeader values) scope own path = HasNoStyleUnread scope own path
-StaysUnread (Everywhere values) scope own path = ⊥
+-- so it is where a header block is looked for, and where the file is too long
+abbrev pub IsPassedOver : FileAmendment → Scope → OwnKinds → List ℕ → List ℕ → Type 0
+IsPassedOver (InHeader values) scope own path bytes = HasNoStyleUnread scope own path
+IsPassedOver (Everywhere values) scope own path bytes =
+    (LONGEST_FILE < length bytes) × HasNoStyleUnread scope own path
 
 -- the rules accept a text in its style, where it has one; or they accept each tag of it
 abbrev pub IsTextAccepted : FileAmendment → Scope → OwnKinds → List ℕ → List ℕ → Type 0
@@ -159,7 +160,8 @@ pub record CanFileBeAmended (amendment : FileAmendment) (scope : Scope) (own : O
   pub short : length bytes ≤ LONGEST_FILE
   pub accepted : is_text bytes ≡ true → IsTextAccepted amendment scope own path bytes
 
--- the path has a covered file; its neighbour can be amended where that is there, else the file itself where it is read
+-- the path has a covered file; its neighbour can be amended where that is there, else the file itself where that isn't
+-- passed over
 pub record CanCoveredBeAmended (amendment : FileAmendment) (scope : Scope) (own : OwnKinds) (tree : Files)
     (path : List ℕ) : Type 0 where
   pub bytes : List ℕ
@@ -167,7 +169,7 @@ pub record CanCoveredBeAmended (amendment : FileAmendment) (scope : Scope) (own 
   pub covered : is_covered path ≡ true
   pub by_neighbour : (beside : List ℕ) → get tree (neighbour_of path) ≡ Some beside
       → CanNeighbourBeAmended amendment path beside
-  pub by_file : get tree (neighbour_of path) ≡ None → ¬ (StaysUnread amendment scope own path)
+  pub by_file : get tree (neighbour_of path) ≡ None → ¬ (IsPassedOver amendment scope own path bytes)
       → CanFileBeAmended amendment scope own path bytes
 
 -- the path has a table, which isn't too long, and the rules accept its bytes

@@ -2,7 +2,7 @@
 -- else in the file's own header block, and in a table, a file `REUSE.toml`, in its values. Where it is asked for, each
 -- tag of a text is amended in place of the header block. Nothing is made, and no file is refused for want of a style
 -- (docs/RULES.md, "What amend writes").
-use Rattle.std.specs.Prelude.{ℕ, Bool, false, not, ◌&&◌, List, length, take, drop, nat_lt, Option, Some, None, is_none}
+use Rattle.std.specs.Prelude.{ℕ, Bool, not, ◌&&◌, List, length, take, drop, nat_lt, Option, Some, None, is_none}
 use Rattle.std.specs.Prelude.{Result, Ok, Err, if◌then◌else◌}
 use Rattle.std.specs.FinMap.{get}
 use Rattle.reuse_text.specs.Text.{spliced}
@@ -126,10 +126,12 @@ amend_block values path bytes None = Ok None
 amend_block values path bytes (Some style) =
     amendment_edit path path bytes (amendment_of style values bytes)
 
--- the file is not amended, whatever it holds: it has no style, and a header block is looked for
-abbrev pub stays_unread : FileAmendment → Scope → OwnKinds → List ℕ → Bool
-stays_unread (InHeader values) scope own path = has_no_style_unread scope own path
-stays_unread (Everywhere values) scope own path = false
+-- the file is passed over, since it has no style whatever it holds: no header block is looked for, and no tag where it
+-- is too long
+abbrev pub is_passed_over : FileAmendment → Scope → OwnKinds → List ℕ → List ℕ → Bool
+is_passed_over (InHeader values) scope own path bytes = has_no_style_unread scope own path
+is_passed_over (Everywhere values) scope own path bytes =
+    nat_lt LONGEST_FILE (length bytes) && has_no_style_unread scope own path
 
 -- a text of these bytes: its header block, or each tag, whatever its style
 abbrev pub amend_own_text : FileAmendment → Scope → OwnKinds → List ℕ → List ℕ → Result (Option Edit) Refusal
@@ -139,7 +141,7 @@ amend_own_text (Everywhere values) scope own path bytes = amend_text values path
 -- the file, if it is text
 abbrev pub amend_inside : FileAmendment → Scope → OwnKinds → List ℕ → List ℕ → Result (Option Edit) Refusal
 amend_inside amendment scope own path bytes =
-    if stays_unread amendment scope own path then Ok None
+    if is_passed_over amendment scope own path bytes then Ok None
     else if nat_lt LONGEST_FILE (length bytes) then Err (TooLong path)
     else if not (is_text bytes) then Ok None
     else amend_own_text amendment scope own path bytes

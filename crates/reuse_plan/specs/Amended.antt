@@ -1,9 +1,11 @@
 -- What amend makes of a tree, in other words: each file that is gone through, or its neighbour where that is there,
 -- becomes what the rules say of these bytes alone, a table what they say of its values, and all else stays.
-use Rattle.std.specs.Prelude.{◌≡◌, ◌≢◌, ◌⊎◌, ℕ, true, false, List, [], ◌∷◌, ◌++◌, take, Option, Some, None, is_some, Ok}
+use Rattle.std.specs.Prelude.{◌≡◌, ◌≢◌, ◌⊎◌, ℕ, ◌<◌, ◌≤◌, true, false, List, [], ◌∷◌, ◌++◌, length, take}
+use Rattle.std.specs.Prelude.{Option, Some, None, is_some, Ok}
 use Rattle.std.specs.List.{Contains}
 use Rattle.std.specs.Option.{option_map}
 use Rattle.std.specs.FinMap.{get}
+use Rattle.reuse_text.specs.declared.TheConstants.{LONGEST_FILE}
 use Rattle.reuse_text.specs.Text.{TextLine, file_lines, line_bytes, mark_len_of}
 use Rattle.reuse_amend.specs.declared.amendments.Amendments.{Amendments}
 use Rattle.reuse_toml.specs.TomlAmending.{toml_amendment_of}
@@ -91,10 +93,11 @@ pub record IsBlockAmended (values : Amendments) (scope : Scope) (own : OwnKinds)
   pub by_rules : amended_file bytes (amendment_of style values bytes) ≡ Ok made
   pub keeps : (made ≡ bytes) ⊎ KeepsOutsideBlock style bytes made
 
--- the rules make this of a file itself
+-- the rules make this of a file itself; one each of whose tags is amended isn't too long
 abbrev pub BecomesFile : FileAmendment → Scope → OwnKinds → List ℕ → List ℕ → List ℕ → Type 0
 BecomesFile (InHeader values) scope own path bytes made = IsBlockAmended values scope own path bytes made
-BecomesFile (Everywhere values) scope own path bytes made = IsTextAmended values bytes made
+BecomesFile (Everywhere values) scope own path bytes made =
+    (length bytes ≤ LONGEST_FILE) × IsTextAmended values bytes made
 
 -- the file has no neighbour, and holds what the rules make of its own bytes, and no neighbour is made
 pub record IsFileAmended (amendment : FileAmendment) (scope : Scope) (own : OwnKinds) (path bytes : List ℕ)
@@ -104,12 +107,16 @@ pub record IsFileAmended (amendment : FileAmendment) (scope : Scope) (own : OwnK
   pub becomes : BecomesFile amendment scope own path bytes made
   pub holds : new ≡ record { file = Some made; neighbour = None }
 
--- the file isn't text; or a header block is looked for, and it has no style
+-- the file has no style
+abbrev pub HasNoStyle : Scope → OwnKinds → List ℕ → List ℕ → Type 0
+HasNoStyle scope own path bytes =
+    HasKind scope own path bytes kind.Uncommentable ⊎ HasKind scope own path bytes kind.Unknown
+
+-- the file isn't text; or it has no style, and a header block is looked for, or it is too long
 abbrev pub HasNoText : FileAmendment → Scope → OwnKinds → List ℕ → List ℕ → Type 0
-HasNoText (InHeader values) scope own path bytes =
-    (is_text bytes ≡ false) ⊎ HasKind scope own path bytes kind.Uncommentable
-    ⊎ HasKind scope own path bytes kind.Unknown
-HasNoText (Everywhere values) scope own path bytes = is_text bytes ≡ false
+HasNoText (InHeader values) scope own path bytes = (is_text bytes ≡ false) ⊎ HasNoStyle scope own path bytes
+HasNoText (Everywhere values) scope own path bytes =
+    (is_text bytes ≡ false) ⊎ ((LONGEST_FILE < length bytes) × HasNoStyle scope own path bytes)
 
 -- it has no neighbour either, so that nothing in it is amended
 abbrev pub HasNoPlace : FileAmendment → Scope → OwnKinds → List ℕ → List ℕ → Pair → Type 0

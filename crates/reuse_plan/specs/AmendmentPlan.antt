@@ -12,7 +12,7 @@ use Rattle.reuse_text.specs.declared.TheConstants.{LONGEST_FILE}
 use Rattle.reuse_change.specs.Files.{Files}
 use Rattle.reuse_command.specs.Command.{values_of}
 use Rattle.reuse_plan.specs.Amend.{amended_at, amend_inside, amend_neighbour, amend_table}
-use Rattle.reuse_plan.specs.Amend.{amend_own_text, has_no_style_unread, stays_unread, style_for}
+use Rattle.reuse_plan.specs.Amend.{amend_own_text, has_no_style_unread, is_passed_over, style_for}
 use Rattle.reuse_plan.specs.Edit.{Edit}
 use Rattle.reuse_plan.specs.Left.{is_left, names_behind}
 use Rattle.reuse_plan.specs.Plan.{IsRefusalOf, MakesEdit}
@@ -42,9 +42,9 @@ amended_by asked tree path = amended_at asked.amendment.now asked.scope.now (own
 abbrev pub style_by : Amendment → List ℕ → List ℕ → Option Style
 style_by asked path bytes = style_for asked.scope.now (own_of asked) path bytes
 
--- the file is not amended, whatever it holds
-abbrev pub stays_unread_by : Amendment → List ℕ → Bool
-stays_unread_by asked path = stays_unread asked.amendment.now asked.scope.now (own_of asked) path
+-- the file, of these bytes, is passed over
+abbrev pub is_passed_over_by : Amendment → List ℕ → List ℕ → Bool
+is_passed_over_by asked path bytes = is_passed_over asked.amendment.now asked.scope.now (own_of asked) path bytes
 
 -- it has no style, whatever it holds
 abbrev pub has_no_style_by : Amendment → List ℕ → Bool

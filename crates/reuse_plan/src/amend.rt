@@ -1,13 +1,13 @@
 //! What amend does at a path. What it works on is a table, a file `REUSE.toml`, or the neighbour of
 //! a file where that is there, else the header block of the file itself. Where it is asked for,
 //! each tag of the neighbour or of the file is amended (`amend_text`). It makes nothing.
-ghost use Rattle.std.specs.Prelude.{◌≡◌, ◌≤◌, ℕ, List, IfErr, Ok, Some, None, length, nat_lt, false};
+ghost use Rattle.std.specs.Prelude.{◌≡◌, ◌≤◌, ℕ, List, IfErr, Some, length, nat_lt, false};
 ghost use Rattle.reuse_text.specs.declared.TheConstants.{LONGEST_FILE};
 ghost use Rattle.reuse_command.specs.Reading.{get, reading_of, tree_of, Files, IsOfPlan, ReadsAlone};
 ghost use Rattle.reuse_header.specs.Amendment.{neighbour_amendment_of};
 ghost use Rattle.reuse_plan.specs.Amend.{amend_beside, amend_block, amendment_edit, has_no_style, style_of_kind};
-ghost use Rattle.reuse_plan.specs.AmendmentPlan.{amended_by, beside_by, has_no_style_by, inside_by, style_by};
-ghost use Rattle.reuse_plan.specs.AmendmentPlan.{left_by, own_text_by, stays_unread_by, table_by};
+ghost use Rattle.reuse_plan.specs.AmendmentPlan.{amended_by, beside_by, has_no_style_by, inside_by, is_passed_over_by};
+ghost use Rattle.reuse_plan.specs.AmendmentPlan.{left_by, own_text_by, style_by, table_by};
 ghost use Rattle.reuse_plan.specs.AmendmentPlan.{AnswersAmended, AnswersText, AnswersValues};
 ghost use Rattle.reuse_plan.specs.Annotate.{neighbour_of};
 ghost use Rattle.reuse_plan.specs.Plan.{AnswersEdit};
@@ -64,9 +64,6 @@ pub(crate) fn plan_amended<S: Store>(
     if is_among(paths, neighbour.as_slice()) {
         return plan_in_neighbour(alloc, store, path, asked);
     }
-    if stays_unread(path, asked) {
-        return plan_unstyled(alloc, store, path, asked);
-    }
     plan_inside(alloc, store, path, asked)
 }
 
@@ -101,14 +98,26 @@ fn plan_table_text(
     table_change_by(alloc, path, bytes.as_slice(), made)
 }
 
-// Whether a file isn't amended, whatever it holds: it has no style, and a header block is looked
-// for.
-fn stays_unread(path: &PathText, asked: &Amendment<'_, '_>) -> bool
-    ensures { result ≡ stays_unread_by asked.now path.now }
+// Whether a file is passed over, by what was read of it, since it has no style whatever it holds: no
+// header block is looked for, and no tag where it is too long.
+fn is_passed_over(path: &PathText, asked: &Amendment<'_, '_>, reading: &Reading) -> bool
+    ensures { (bytes : List ℕ) → reading.now ≡ reading_of (Some bytes) LONGEST_FILE
+        → result ≡ is_passed_over_by asked.now path.now bytes }
 {
     match asked.amendment {
         FileAmendment::InHeader(_) => has_no_style_unread(path, asked),
-        FileAmendment::Everywhere(_) => false,
+        FileAmendment::Everywhere(_) => is_too_long(reading) && has_no_style_unread(path, asked),
+    }
+}
+
+// Whether a file is longer than one that is read may be.
+fn is_too_long(reading: &Reading) -> bool
+    ensures { (bytes : List ℕ) → reading.now ≡ reading_of (Some bytes) LONGEST_FILE
+        → result ≡ nat_lt LONGEST_FILE (length bytes) }
+{
+    match reading {
+        Reading::TooLong => true,
+        Reading::Absent | Reading::Found(_) => false,
     }
 }
 
@@ -230,25 +239,7 @@ fn plan_written(
     amended_as(alloc, path, neighbour, bytes, made, values)
 }
 
-// What is done with a file that has no neighbour and no style, whatever it holds.
-fn plan_unstyled<S: Store>(
-    alloc: Global,
-    store: &mut S,
-    path: &PathText,
-    asked: &Amendment<'_, '_>,
-) -> Result<Amended, Refusal>
-    ensures edit { S.honest store.new → (bytes : List ℕ) → get (tree_of (S.files store.old)) path.now ≡ Some bytes
-        → AnswersText asked.now (tree_of (S.files store.old)) bytes (Ok None) result }
-    ensures asks { ReadsAlone S.Store IsOfPlan store.old store.new result }
-{
-    let reading = store.read(alloc, path, LONGEST_FILE)?;
-    Ok(Amended {
-        change: None,
-        is_left: still_names_read(asked.amendment.values(), &reading),
-    })
-}
-
-// What is done with a file that has no neighbour and is read.
+// What is done with a file that has no neighbour.
 fn plan_inside<S: Store>(
     alloc: Global,
     store: &mut S,
@@ -256,15 +247,20 @@ fn plan_inside<S: Store>(
     asked: &Amendment<'_, '_>,
 ) -> Result<Amended, Refusal>
     ensures edit { S.honest store.new → (bytes : List ℕ) → get (tree_of (S.files store.old)) path.now ≡ Some bytes
-        → stays_unread_by asked.now path.now ≡ false
         → AnswersText asked.now (tree_of (S.files store.old)) bytes (inside_by asked.now path.now bytes) result }
     ensures asks { ReadsAlone S.Store IsOfPlan store.old store.new result }
 {
     let reading = store.read(alloc, path, LONGEST_FILE)?;
+    if is_passed_over(path, asked, &reading) {
+        return Ok(Amended {
+            change: None,
+            is_left: still_names_read(asked.amendment.values(), &reading),
+        });
+    }
     plan_reading(alloc, path, asked, reading)
 }
 
-// What is done with a file that has no neighbour, by what was read of it.
+// What is done with a file that isn't passed over, by what was read of it.
 fn plan_reading(
     alloc: Global,
     path: &PathText,
@@ -272,7 +268,7 @@ fn plan_reading(
     reading: Reading,
 ) -> Result<Amended, Refusal>
     ensures edit { (tree : Files) (bytes : List ℕ) → get tree path.now ≡ Some bytes
-        → stays_unread_by asked.now path.now ≡ false → reading ≡ reading_of (Some bytes) LONGEST_FILE
+        → is_passed_over_by asked.now path.now bytes ≡ false → reading ≡ reading_of (Some bytes) LONGEST_FILE
         → AnswersText asked.now tree bytes (inside_by asked.now path.now bytes) result }
     ensures no_fault { IfErr result IsNoFault }
 {

@@ -9,10 +9,9 @@ use Rattle.reuse_plan.specs.Plan.{AnswersEdit}
 use Rattle.reuse_plan.specs.Shown.{ShowsPair}
 use Rattle.reuse_plan.specs.Tables.{is_table}
 use Rattle.reuse_command.specs.declared.reply.Refusal.TheVariants as refusals
-use Rattle.reuse_plan.proofs.AmendmentEdits.{uncovered_is, goes_to_neighbour, goes_inside, goes_nowhere}
-use Rattle.reuse_plan.proofs.AmendmentEdits.{goes_to_table}
+use Rattle.reuse_plan.proofs.AmendmentEdits.{uncovered_is, goes_to_neighbour, goes_inside, goes_to_table}
 use Rattle.reuse_plan.proofs.Annotating.{is_absent, some_file}
-use Rattle.reuse_plan.proofs.EditLemmas.{edited_to, some_bytes}
+use Rattle.reuse_plan.proofs.EditLemmas.{some_bytes}
 use Rattle.reuse_plan.proofs.LeftLemmas.{answers_path, no_table_left}
 use Rattle.reuse_plan.proofs.PathPlanning.{is_refusal_of}
 use Rattle.reuse_plan.proofs.TableLemmas.{not_table}
@@ -102,22 +101,6 @@ returns-then-is_among-clause-edit g c honest are =
     (goes_to_neighbour c.args.asked.now tree path file.0 beside.0 file.1 is beside.1)
     (c.plan_in_neighbour.ensures.edit honest beside.0 beside.1)
 
-pub returns-then-stays_unread-clause-edit : goal.returns-then-stays_unread-clause-edit
-returns-then-stays_unread-clause-edit g c honest are =
-    let at = (goal.at.returns-then-stays_unread-clause-edit g c).After-is_covered in
-    let tree = tree_of (g.S.Store.files c.args.store.now) in
-    let path = c.args.path.now in
-    let file = found g at are in
-    let among = sym (c.is_among-2.ensures are.ordered
-    ∙ ap (is_among c.args.paths.now) (c.as_slice.ensures ∙ c.in_ok-neighbour.ensures)) ∙ c.if-is_among.false in
-    let alone = is_absent tree (neighbour_of path) c.args.paths.now are.beside among in
-    let is = covered g at are ∙ c.if-not-is_covered.false in
-    answers_path c.args.asked.now tree path file.0 (edited_to None) c.plan_unstyled.result (not_table path is)
-    (ap₂ option_or alone file.1)
-    (goes_nowhere c.args.asked.now tree path file.0 file.1 is alone
-    (sym c.stays_unread.ensures ∙ c.if-stays_unread.true))
-    (c.plan_unstyled.ensures.edit honest file.0 file.1)
-
 pub returns-clause-edit : goal.returns-clause-edit
 returns-clause-edit g c honest are =
     let at = (goal.at.returns-clause-edit g c).After-is_covered in
@@ -131,5 +114,4 @@ returns-clause-edit g c honest are =
     answers_path c.args.asked.now tree path file.0 (inside_by c.args.asked.now path file.0) c.plan_inside.result
     (not_table path is) (ap₂ option_or alone file.1)
     (goes_inside c.args.asked.now tree path file.0 file.1 is alone)
-    (c.plan_inside.ensures.edit honest file.0 file.1
-    (sym c.stays_unread.ensures ∙ c.if-stays_unread.false))
+    (c.plan_inside.ensures.edit honest file.0 file.1)

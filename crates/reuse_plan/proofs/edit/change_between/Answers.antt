@@ -14,7 +14,7 @@ returns c tree here =
     let new = c.args.new.now in
     let made = c.in_ok-change_of.ensures
     ∙ ap (λ (d : Difference). sealed_splice at old d.at (take d.old_len (drop d.at old))
-        (take d.new_len (drop d.at new)))
+    (take d.new_len (drop d.at new)))
     c.difference_of-differing.ensures.is in
     subst (λ change. MakesEdit tree (edited_to (edit_between at old new)) (Some change)) (sym made)
     (makes_exchange old new tree at here c.requires.old c.requires.new (sym c.eq.ensures ∙ c.if-eq.false))
