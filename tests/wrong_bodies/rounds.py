@@ -70,7 +70,10 @@ def load_kit():
 
 
 def words_of(text):
-    """Returns the names in a type or trait, without lifetimes and the paths before them."""
+    """Returns the names in a type or trait, without lifetimes and the paths before them.
+
+    An `io::Error` is the kit's `IoError`."""
+    text = re.sub(r"\bio::Error\b", "IoError", text)
     return [it for it in re.findall(r"'?\w+(?:\s*::)?", text) if re.fullmatch(r"[A-Za-z]\w*", it)]
 
 
@@ -118,6 +121,11 @@ class Function:
         self.owner = [it for it in words_of(of) + words_of(trait) if it not in bound]
         self.is_of_trait = bool(trait)
 
+    def is_meant(self, words):
+        """Returns whether a `refused by:` row names it: by its name, perhaps behind its type's."""
+        *owner, name = words.split("::")
+        return name == self.name and all(it in self.owner for it in owner)
+
     def names(self, crate, listed):
         """Returns its name in a check of the crate, or None, and how its closures' begin.
 
@@ -147,6 +155,8 @@ class Edit:
         self.file, self.shown = file, os.path.relpath(file, top)
         # The changed lines by file and number, the functions, and their names in a check
         self.lines, self.functions, self.names, self.closures = {}, [], [], []
+        # The function that it says it is refused by
+        self.refuser = ""
         self.state, self.why, self.tries, self.is_alone = OPEN, "", 0, False
 
     def settle(self, state, why=""):
@@ -158,7 +168,9 @@ class Edit:
         with open(self.file, encoding="utf-8") as it:
             rows = it.read().split("\n")
         for row in rows:
-            if row.startswith("file: "):
+            if row.startswith("refused by: "):
+                self.refuser = (re.findall(r"`([^`]*)`", row) or [""])[0]
+            elif row.startswith("file: "):
                 path = row[len("file: ") :].strip()
                 if path not in sources:
                     return f"there is no file {path} below src/"
@@ -179,16 +191,26 @@ class Edit:
         return None if self.lines and not old else "it changes nothing, or an 'old:' has no 'new:'"
 
     def find(self, functions, crate, listed):
-        """Finds the functions in which its lines stand. If one has no name, it is tried alone."""
+        """Finds the functions in which its lines stand.
+
+        One with a line in none is tried alone. If it has no other line, as where a constant is
+        changed, the function counts that it says it is refused by."""
+        inside = []
         for path, at in self.lines:
             around = [f for f in functions if f.path == path and f.first <= at <= f.last]
             inner = max(around, key=lambda it: it.first, default=None)
-            name, closures = inner.names(crate, listed) if inner else (None, "")
+            self.is_alone = self.is_alone or not inner
+            inside += [inner] if inner else []
+        if not inside:
+            meant = [it for it in functions if it.is_meant(self.refuser)]
+            inside = meant if len(meant) == 1 else []
+        for function in inside:
+            name, closures = function.names(crate, listed)
             if not name:
                 self.forget_functions(is_alone=True)
                 return
             if name not in self.names:
-                self.functions.append(inner)
+                self.functions.append(function)
                 self.names.append(name)
                 self.closures.append(closures)
 
