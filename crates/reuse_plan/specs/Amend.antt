@@ -2,7 +2,7 @@
 -- else in the file's own header block, and in a table, a file `REUSE.toml`, in its values. Where it is asked for, each
 -- tag of a text is amended in place of the header block. Nothing is made, and no file is refused for want of a style
 -- (docs/RULES.md, "What amend writes").
-use Rattle.std.specs.Prelude.{ℕ, Bool, not, ◌&&◌, List, length, take, drop, nat_lt, Option, Some, None, is_none}
+use Rattle.std.specs.Prelude.{ℕ, Bool, false, not, ◌&&◌, List, length, take, drop, nat_lt, Option, Some, None, is_none}
 use Rattle.std.specs.Prelude.{Result, Ok, Err, if◌then◌else◌}
 use Rattle.std.specs.FinMap.{get}
 use Rattle.reuse_text.specs.Text.{spliced}

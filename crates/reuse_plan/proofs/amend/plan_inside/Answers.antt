@@ -1,26 +1,17 @@
-use Rattle.std.proofs.Common.{◌≡◌, ◌∙◌, ℕ, List, Some, sym, ap}
+use Rattle.std.proofs.Common.{◌∙◌, sym, ap}
 use Rattle.reuse_amend.specs.declared.amendments.Amendments.{Amendments}
 use Rattle.reuse_text.specs.declared.TheConstants.{LONGEST_FILE}
 use Rattle.reuse_change.specs.Files.{tree_of}
 use Rattle.reuse_command.specs.Command.{values_of}
-use Rattle.reuse_command.specs.Reading.{get, reading_of}
 use Rattle.reuse_plan.specs.Left.{names_behind, still_names}
 use Rattle.reuse_plan.proofs.AmendmentEdits.{passed_over_is}
 use Rattle.reuse_store.proofs.TreeLemmas.{read_there}
-use Rattle.reuse_plan.proofs.amend.plan_inside.Given.{Over}
-use Rattle.reuse_plan.proofs.amend.plan_inside.Goals.{After-is_passed_over}
 use Rattle.reuse_plan.proofs.amend.plan_inside.Goals as goal
-
-module _ (g : Over) (c : After-is_passed_over g) (honest : g.S.Store.honest c.in_ok-reading.new.store)
-    (bytes : List ℕ) (here : get (tree_of (g.S.Store.files c.args.store.now)) c.args.path.now ≡ Some bytes) where
-  is_read : c.in_ok-reading.reading ≡ reading_of (Some bytes) LONGEST_FILE
-  is_read = read_there (g.S.Store.files c.args.store.now) c.args.path.now bytes LONGEST_FILE c.in_ok-reading.reading
-      here (c.in_ok-reading.ensures.reading honest)
 
 pub returns-then-is_passed_over-clause-edit : goal.returns-then-is_passed_over-clause-edit
 returns-then-is_passed_over-clause-edit g c honest bytes here =
-    let after = (goal.at.returns-then-is_passed_over-clause-edit g c).After-is_passed_over in
-    let reading = is_read g after honest bytes here in
+    let reading = read_there (g.S.Store.files c.args.store.now) c.args.path.now bytes LONGEST_FILE
+    c.in_ok-reading.reading here (c.in_ok-reading.ensures.reading honest) in
     let asked = c.args.asked.now in
     let at = passed_over_is asked c.args.path.now bytes
     (sym (c.is_passed_over.ensures bytes reading) ∙ c.if-is_passed_over.true) in (
@@ -32,7 +23,7 @@ returns-then-is_passed_over-clause-edit g c honest bytes here =
 
 pub returns-clause-edit : goal.returns-clause-edit
 returns-clause-edit g c honest bytes here =
-    let after = (goal.at.returns-clause-edit g c).After-is_passed_over in
-    let reading = is_read g after honest bytes here in
+    let reading = read_there (g.S.Store.files c.args.store.now) c.args.path.now bytes LONGEST_FILE
+    c.in_ok-reading.reading here (c.in_ok-reading.ensures.reading honest) in
     c.plan_reading.ensures.edit (tree_of (g.S.Store.files c.args.store.now)) bytes here
     (sym (c.is_passed_over.ensures bytes reading) ∙ c.if-is_passed_over.false) reading
