@@ -1,33 +1,26 @@
--- The refusals of an annotation, and the place of its old block.
+-- The refusal of a form that a style lacks, and the place of an old block.
 use Rattle.std.proofs.Common.{◌≡◌, ℕ, ◌≤◌, Bool, true, false, List, ◌++◌, length, length-append, Option, None, Some}
 use Rattle.std.proofs.Common.{refl, ap, ◌∙◌, arith}
 use Rattle.std.specs.Prelude.{Err, MatchOption}
 use Rattle.std.specs.Option.{option_map}
 use Rattle.reuse_notice.specs.declared.infos.Info.{Info}
-use Rattle.reuse_notice.specs.declared.adding.Additions.{Additions}
 use Rattle.reuse_style.specs.declared.style.Style.{Style}
 use Rattle.reuse_header.specs.declared.finder.Block.{Block}
-use Rattle.reuse_header.specs.declared.annotation.How.{How}
 use Rattle.reuse_header.specs.declared.annotation.HeaderRefusal.TheVariants.{NoSuchForm}
-use Rattle.reuse_header.specs.Marks.{LineMarks, marks_of}
-use Rattle.reuse_header.specs.Header.{HeaderSpan, header_of, span_in}
+use Rattle.reuse_header.specs.Marks.{LineMarks}
+use Rattle.reuse_text.specs.Text.{text_of, lines_of, after_mark}
+use Rattle.reuse_header.specs.Header.{Header, HeaderSpan, header_of, span_in}
 use Rattle.reuse_header.specs.Split.{IsHeaderBlock, HasNoHeader, bytes_of}
 use Rattle.reuse_header.specs.Found.{block_view}
-use Rattle.reuse_header.specs.Annotation.{annotation_of, chosen_form, written_by, replaced_block}
-use Rattle.reuse_header.specs.Splices.{answer_of}
+use Rattle.reuse_header.specs.Annotation.{written_by, replaced_block}
 use Rattle.reuse_header.specs.Drafts.{IsWithin}
+use Rattle.reuse_header.proofs.CutLemmas.{span_cuts}
 
-unmarked : (style : Style) (file : List ℕ) (old : Option HeaderSpan) (info : Info) (marks : Option LineMarks)
+-- the style does not have the form
+pub unmarked : (style : Style) (file : List ℕ) (old : Option HeaderSpan) (info : Info) (marks : Option LineMarks)
     → marks ≡ None → written_by style file old info marks ≡ Err NoSuchForm
 unfolding written_by
 unmarked style file old info marks e = rw e refl
-
--- the style does not have the form
-pub without_form : (style : Style) (how : How) (additions : Additions) (file : List ℕ)
-    → marks_of style (chosen_form style how.form (option_map (span_in file) (header_of style file))) ≡ None
-    → answer_of file (annotation_of style how additions file) ≡ Err NoSuchForm
-unfolding annotation_of
-without_form style how additions file e = ap (answer_of file) (unmarked style file _ _ _ e)
 
 -- a header block is within its file
 block_within : (style : Style) (file : List ℕ) (span : HeaderSpan) → IsHeaderBlock style file span
@@ -36,6 +29,19 @@ block_within style file span (before, header, front, at) =
     let whole = ap length at.bytes ∙ length-append front (bytes_of header.block ++ bytes_of header.after) in
     let rest = length-append (bytes_of header.block) (bytes_of header.after) in
     (omega (arith, at.start, at.end), omega (arith, at.end, whole, rest))
+
+-- the header block that is found, if one is
+header_within : (style : Style) (file : List ℕ) (header : Option Header)
+    → text_of (lines_of (after_mark file)) ≡ after_mark file → header_of style file ≡ header
+    → IsWithin file (option_map (span_in file) header)
+header_within style file None joined e = tt
+header_within style file (Some header) joined e =
+    block_within style file (span_in file header)
+    (span_cuts style file (span_in file header) joined (ap (option_map (span_in file)) e))
+
+pub headers_within : (style : Style) (file : List ℕ) → text_of (lines_of (after_mark file)) ≡ after_mark file
+    → IsWithin file (option_map (span_in file) (header_of style file))
+headers_within style file joined = header_within style file (header_of style file) joined refl
 
 pub found_within : (style : Style) (file : List ℕ) (found : Option Block) → MatchOption found (HasNoHeader style file)
     (λ block. IsHeaderBlock style file (block_view block)) → IsWithin file (option_map block_view found)

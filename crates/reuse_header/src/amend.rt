@@ -12,12 +12,11 @@ ghost use Rattle.reuse_header.specs.Amendment.{amendment_of, neighbour_amendment
 ghost use Rattle.reuse_header.specs.Amendment.{IsExpectedAmendment};
 
 use crate::amendment::AmendHeaderRefusal;
-use crate::annotate::{collected, write_block};
+use crate::annotate::{collected, write_header};
 use crate::annotation::{HeaderRefusal, Splice};
 use crate::blocks::Contents;
 use crate::finder::{Block, find};
 use crate::neighbour::{is_text_file, replaced_contents, write_neighbour};
-use crate::writer::marks_of;
 use reuse_amend::{AmendRefusal, Amendments, amend_info};
 use reuse_notice::Info;
 use reuse_style::Style;
@@ -108,10 +107,7 @@ fn write_amended(
     ensures { IsExpectedAmendment (amendment_answer file.now (as_amendment (written_by style.now file.now
         (Some (block_view block.entry)) info.now (marks_of style.now block.entry.form)))) result }
 {
-    let Some(marks) = marks_of(style, block.form) else {
-        return Err(AmendHeaderRefusal::Header(HeaderRefusal::NoSuchForm));
-    };
-    match write_block(alloc, file, style, Some(block), info, marks) {
+    match write_header(alloc, file, style, Some(block), block.form, info) {
         Ok(splice) => Ok(splice),
         Err(refusal) => Err(AmendHeaderRefusal::Header(refusal)),
     }

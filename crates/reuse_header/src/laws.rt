@@ -33,6 +33,7 @@ ghost use Rattle.reuse_header.specs.Laws.{IsInsertion, Keeps, IsBlockText, Reads
 ghost use Rattle.reuse_header.specs.Laws.{information_in, info_written, neighbour_info_written};
 ghost use Rattle.reuse_header.specs.LowerLaws.{Known, Laws};
 ghost use Rattle.reuse_header.specs.Splices.{answer_of};
+ghost use Rattle.reuse_header.specs.Drafts.{IsWithin};
 ghost use Rattle.reuse_header.specs.Split.{AreCommentBlocks, comment_blocks, IsSplit, IsHeaderBlock, HasNoHeader};
 
 use reuse_notice::{
@@ -90,6 +91,13 @@ pub fn header_spans_cut_files()
     ensures found { (style : Style) (file : List ℕ) (span : HeaderSpan)
         → option_map (span_in file) (header_of style file) ≡ Some span → IsHeaderBlock style file span }
     ensures none { (style : Style) (file : List ℕ) → header_of style file ≡ None → HasNoHeader style file }
+{
+    lines_are_one();
+}
+
+/// A header block lies within its file.
+pub fn header_blocks_are_within()
+    ensures { (style : Style) (file : List ℕ) → IsWithin file (option_map (span_in file) (header_of style file)) }
 {
     lines_are_one();
 }

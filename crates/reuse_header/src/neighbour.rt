@@ -50,16 +50,21 @@ pub fn annotate_neighbour(
     write_neighbour(alloc, file, how.replace, &info)
 }
 
-// Whether a file is UTF-8 without a NUL byte.
-pub(crate) fn is_text_file(file: &[u8]) -> bool
+/// Whether a file is UTF-8 without a NUL byte, as a neighbour has to be.
+pub fn is_text_file(file: &[u8]) -> bool
     ensures { result ≡ is_text file.now }
 {
     is_text(file)
 }
 
-// The change that writes the block of a neighbour file.
+/// The change that writes information as the block of a neighbour file of at most 16 MiB: in the
+/// place of all that stands in front of the first barrier, if that is replaced, else in front of
+/// it. None is the answer where no byte changes.
+///
+/// # Errors
+/// `TooLong` and then `Unsettled`, in the order of `HeaderRefusal`.
 #[tactic(auto, unfolding(crate::specs::Neighbour::neighbour_written))]
-pub(crate) fn write_neighbour(
+pub fn write_neighbour(
     alloc: Global,
     file: &[u8],
     replace: bool,
@@ -91,8 +96,8 @@ fn neighbour_stands(replace: bool, file: &[u8], start: usize, end: usize) -> boo
         }
 }
 
-// The contents of a neighbour file's block, if that is replaced.
-pub(crate) fn replaced_contents<'a>(
+/// The contents of a neighbour file's block, if that is replaced, else none.
+pub fn replaced_contents<'a>(
     alloc: Global,
     file: &'a [u8],
     replace: bool,
