@@ -53,7 +53,7 @@ fn has_separator(info: &Info) -> bool
 }
 
 // Whether the line of one of these values, behind the lead and the tag, holds a text.
-fn line_holds(
+pub(crate) fn line_holds(
     alloc: Global,
     text: &[u8],
     lead: &[u8],

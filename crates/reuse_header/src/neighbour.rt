@@ -18,7 +18,7 @@ use reuse_text::{LONGEST_FILE, Lines, is_text, line_kind, mark_len};
 use std::alloc::{AllocError, Global};
 
 // A neighbour file has no marks of a comment.
-const NEIGHBOUR_MARKS: Marks<'static> = Marks {
+pub(crate) const NEIGHBOUR_MARKS: Marks<'static> = Marks {
     lead: b"",
     mark: b"",
     first: None,

@@ -29,7 +29,7 @@ pub(crate) struct Place {
 
 impl Place {
     // The place of the bytes from `start` to `end`.
-    fn of_range(start: usize, end: usize) -> Place
+    pub(crate) fn of_range(start: usize, end: usize) -> Place
         requires { start ≤ end }
         ensures { result
             ≡ record {
@@ -113,7 +113,7 @@ pub(crate) fn neighbour_place(file: &[u8], replace: bool) -> Place
     places_fit();
     let start = mark_len(file);
     if replace {
-        return Place::of_range(start, neighbour_end(file));
+        return neighbour_range(file);
     }
     Place {
         start,
@@ -122,6 +122,22 @@ pub(crate) fn neighbour_place(file: &[u8], replace: bool) -> Place
         empty_before: false,
         empty_behind: begins_full(Lines::new(file)),
     }
+}
+
+// The place of a neighbour file's block.
+pub(crate) fn neighbour_range(file: &[u8]) -> Place
+    ensures range { result
+        ≡ record {
+          start = mark_len_of file.now;
+          old_len = neighbour_end file.now - mark_len_of file.now;
+          ends_line = false;
+          empty_before = false;
+          empty_behind = false;
+        } }
+    ensures within { result.start + result.old_len ≤ length file.now }
+{
+    places_fit();
+    Place::of_range(mark_len(file), neighbour_end(file))
 }
 
 // The place at which a neighbour file's block ends.
