@@ -1,0 +1,36 @@
+//! Laws of runs: where a text stands among contents, and what contents with it and without it are.
+ghost use Rattle.std.specs.Prelude.{◌≡◌, ◌≢◌, ◌+◌, ◌++◌, ℕ, List, [], None, Some, true, take, drop};
+ghost use Rattle.reuse_words.specs.declared.runs.Run.{Run};
+ghost use Rattle.reuse_words.specs.Words.{words_of};
+ghost use Rattle.reuse_words.specs.Runs.{run_of, holds_text, with_text, without_text, IsCut, IsFirstRun};
+
+/// The run of contents that is found is the first one that is the same text. Where none is found, no
+/// run is, if the text has words.
+pub fn runs_are_first()
+    ensures found { (punct : List ℕ) (text contents : List (List ℕ)) (run : Run) → run_of punct text contents ≡ Some run
+        → IsFirstRun punct (words_of punct text) contents (take run.start contents)
+        (take run.count (drop run.start contents)) (drop (run.start + run.count) contents) }
+    ensures none { (punct : List ℕ) (text contents : List (List ℕ)) → words_of punct text ≢ []
+        → run_of punct text contents ≡ None
+        → (front run back : List (List ℕ)) → IsCut punct (words_of punct text) contents front run back → ⊥ }
+{}
+
+/// Contents with a text hold it, and contents that hold it stay: with it once more they are the
+/// same.
+pub fn texts_are_added_once()
+    ensures held { (punct : List ℕ) (text contents : List (List ℕ))
+        → holds_text punct text (with_text punct text contents) ≡ true }
+    ensures stays { (punct : List ℕ) (text contents : List (List ℕ)) → holds_text punct text contents ≡ true
+        → with_text punct text contents ≡ contents }
+    ensures again { (punct : List ℕ) (text contents : List (List ℕ))
+        → with_text punct text (with_text punct text contents) ≡ with_text punct text contents }
+{}
+
+/// Contents without a text lack exactly the first run that is it: those in front of it and behind it
+/// stay, in order. All stay where no run is the text.
+pub fn first_runs_are_taken_out()
+    ensures found { (punct : List ℕ) (text contents : List (List ℕ)) (run : Run) → run_of punct text contents ≡ Some run
+        → without_text punct text contents ≡ take run.start contents ++ drop (run.start + run.count) contents }
+    ensures stays { (punct : List ℕ) (text contents : List (List ℕ)) → run_of punct text contents ≡ None
+        → without_text punct text contents ≡ contents }
+{}

@@ -1,0 +1,13 @@
+//! Words of a header: texts of a comment beside its tags.
+#![tactic(auto)]
+
+mod laws;
+mod lists;
+mod runs;
+mod text;
+mod words;
+
+pub use laws::{first_runs_are_taken_out, runs_are_first, texts_are_added_once};
+pub use runs::{Run, holds_text, run_of, with_text, without_text};
+pub use text::{HeaderText, LONGEST_TEXT, TextRefusal};
+pub use words::is_same_text;
