@@ -2,3 +2,4 @@ pub mod WordLemmas
 pub mod RunLemmas
 pub mod RowLemmas
 pub mod RunLawLemmas
+pub mod RemovalLemmas

@@ -3,11 +3,13 @@
 
 mod laws;
 mod lists;
+mod removal;
 mod runs;
 mod text;
 mod words;
 
 pub use laws::{first_runs_are_taken_out, runs_are_first, texts_are_added_once};
+pub use removal::{NeighbourChange, remove_header, remove_neighbour_header};
 pub use runs::{Run, holds_text, run_of, with_text, without_text};
 pub use text::{HeaderText, LONGEST_TEXT, TextRefusal};
 pub use words::is_same_text;
