@@ -115,6 +115,7 @@ whole_call() {
   [[ $(tail -n 1 "$room/seen") == 'status 0' ]] || fail "$name: $(grep reuse-undo "$room/seen")"
   diff -r --exclude=.reuse "$room/before" "$tree" > "$room/diff" || fail "$name: a dry run changes"
   told "$@" -r . > "$room/changed"
+  grep -q '^changed ' "$room/changed" || fail "$name: no file changes"
   is "$(sed -n 's/^would change //p' "$room/seen")" "$(sed -n 's/^changed //p' "$room/changed")" \
     "$name, what a dry run names"
   is "$(sed -n 's/^would leave //p' "$room/seen")" "$(sed -n 's/^left //p' "$room/changed")" \
