@@ -3,3 +3,4 @@ pub mod RunLemmas
 pub mod RowLemmas
 pub mod RunLawLemmas
 pub mod RemovalLemmas
+pub mod AmendedLemmas

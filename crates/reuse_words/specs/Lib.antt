@@ -1,4 +1,6 @@
 pub mod Words
 pub mod Runs
 pub mod Texts
+pub mod Information
 pub mod Removal
+pub mod Amended

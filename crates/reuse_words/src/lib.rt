@@ -1,6 +1,8 @@
 //! Words of a header: texts of a comment beside its tags.
 #![tactic(auto)]
 
+mod amending;
+mod information;
 mod laws;
 mod lists;
 mod removal;
@@ -8,6 +10,7 @@ mod runs;
 mod text;
 mod words;
 
+pub use amending::{amend_file_without, amend_neighbour_without};
 pub use laws::{first_runs_are_taken_out, runs_are_first, texts_are_added_once};
 pub use removal::{NeighbourChange, remove_header, remove_neighbour_header};
 pub use runs::{Run, holds_text, run_of, with_text, without_text};
