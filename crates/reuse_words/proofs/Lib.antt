@@ -4,3 +4,4 @@ pub mod RowLemmas
 pub mod RunLawLemmas
 pub mod RemovalLemmas
 pub mod AmendedLemmas
+pub mod AddedLemmas

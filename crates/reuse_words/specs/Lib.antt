@@ -4,3 +4,4 @@ pub mod Texts
 pub mod Information
 pub mod Removal
 pub mod Amended
+pub mod Added

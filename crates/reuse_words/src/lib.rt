@@ -1,17 +1,21 @@
 //! Words of a header: texts of a comment beside its tags.
 #![tactic(auto)]
 
+mod adding;
 mod amending;
 mod information;
 mod laws;
 mod lists;
+mod refusal;
 mod removal;
 mod runs;
 mod text;
 mod words;
 
+pub use adding::{annotate_file_with, annotate_neighbour_with};
 pub use amending::{amend_file_without, amend_neighbour_without};
 pub use laws::{first_runs_are_taken_out, runs_are_first, texts_are_added_once};
+pub use refusal::TextHeaderRefusal;
 pub use removal::{NeighbourChange, remove_header, remove_neighbour_header};
 pub use runs::{Run, holds_text, run_of, with_text, without_text};
 pub use text::{HeaderText, LONGEST_TEXT, TextRefusal};
