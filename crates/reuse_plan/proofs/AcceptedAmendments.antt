@@ -20,7 +20,8 @@ use Rattle.reuse_plan.specs.Accepted.{CanTableBeAmended, CanCoveredBeAmended, Ca
 use Rattle.reuse_plan.specs.Accepted.{IsNeighbourAccepted, IsTextAccepted, IsPassedOver}
 use Rattle.reuse_plan.specs.Amend.{style_or_named, style_for, amendment_edit, amend_neighbour, amend_inside}
 use Rattle.reuse_plan.specs.Amend.{amend_covered, amended_where, amended_at, table_edit, table_amendment, amended_table}
-use Rattle.reuse_plan.specs.Amend.{amend_beside, amend_own_text, amend_table, has_no_style_unread, is_passed_over, text_edit}
+use Rattle.reuse_plan.specs.Amend.{amend_beside, amend_own_text, amend_table, has_no_style_unread, is_passed_over}
+use Rattle.reuse_plan.specs.Amend.{text_edit}
 use Rattle.reuse_plan.specs.AmendmentPlan.{Expected}
 use Rattle.reuse_plan.specs.Annotate.{neighbour_of}
 use Rattle.reuse_plan.specs.Annotated.{IsStyleOf}

@@ -119,8 +119,8 @@ module _ (asked : Amendment) (path bytes : List ℕ) where
   pub passed_over_is : is_passed_over_by asked path bytes ≡ true → inside_by asked path bytes ≡ edited_to None
   passed_over_is passed = ap (λ b. cond b (edited_to None) by_length) passed
 
-  pub inside_is : (text : Bool) → is_passed_over_by asked path bytes ≡ false → nat_lt LONGEST_FILE (length bytes) ≡ false
-      → is_text bytes ≡ text
+  pub inside_is : (text : Bool) → is_passed_over_by asked path bytes ≡ false
+      → nat_lt LONGEST_FILE (length bytes) ≡ false → is_text bytes ≡ text
       → inside_by asked path bytes ≡ cond (not text) (edited_to None) (own_text_by asked path bytes)
   inside_is text read short is =
       ap (λ b. cond b (edited_to None) by_length) read

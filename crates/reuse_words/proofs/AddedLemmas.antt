@@ -23,7 +23,8 @@ use Rattle.reuse_header.specs.Comment.{closes_comment}
 use Rattle.reuse_words.specs.declared.refusal.TextHeaderRefusal.{TextHeaderRefusal}
 use Rattle.reuse_words.specs.declared.refusal.TextHeaderRefusal.TheVariants.{BadText, Header}
 use Rattle.reuse_words.specs.Information.{gap_of, text_in, info_with}
-use Rattle.reuse_words.specs.Added.{header_edit, text_annotation_of, neighbour_text_annotation_of, text_answer, IsExpectedTextEdit}
+use Rattle.reuse_words.specs.Added.{header_edit, text_annotation_of, neighbour_text_annotation_of, text_answer}
+use Rattle.reuse_words.specs.Added.{IsExpectedTextEdit}
 
 -- an answer of a write, as one of adding texts
 abbrev lifted : Result (Option Splice) HeaderRefusal → Result (Option Splice) TextHeaderRefusal
@@ -80,8 +81,8 @@ pub added_bad : (style : Style) (how : How) (additions : Additions) (texts : Lis
     → true ≡ list_any (closes_comment (marks_of style form)) (map (text_in gap) texts)
     → text_answer file (text_annotation_of style how additions texts file) ≡ Err BadText
 added_bad style how additions texts file found form gap e1 e3 e4 e6 =
-    ap (text_answer file) (sym (added_by style how additions texts file found (replaced_block how.replace found) form gap
-    (punctuation_of style) true
+    ap (text_answer file) (sym (added_by style how additions texts file found (replaced_block how.replace found) form
+    gap (punctuation_of style) true
     (info_with (punctuation_of style) (map (text_in gap) texts)
     (new_info (punctuation_of style) (old_contents (replaced_block how.replace found)) how.merge additions))
     e1 refl e3 e4 refl e6 refl))

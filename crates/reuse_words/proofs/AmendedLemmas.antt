@@ -45,7 +45,8 @@ block_same style texts file span info gap punct says behind signs none =
     (info_of (punctuation_of style) span.contents) free) (marks_of style span.form)) _
     (ap (λ (i : Info). free_to_write i.free (without_texts (punctuation_of style)
     (map (text_in (gap_of (marks_of style span.form))) texts) i.free)) (sym says)
-    ∙ ap (λ (g : List ℕ). free_to_write info.free (without_texts (punctuation_of style) (map (text_in g) texts) info.free))
+    ∙ ap (λ (g : List ℕ). free_to_write info.free
+    (without_texts (punctuation_of style) (map (text_in g) texts) info.free))
     (sym behind)
     ∙ ap (λ (p : List ℕ). free_to_write info.free (without_texts p (map (text_in gap) texts) info.free)) (sym signs)
     ∙ none)
@@ -66,7 +67,8 @@ block_other style texts file span info gap punct new says behind signs some give
     (info_of (punctuation_of style) span.contents) free) (marks_of style span.form)) _ new
     (ap (λ (i : Info). free_to_write i.free (without_texts (punctuation_of style)
     (map (text_in (gap_of (marks_of style span.form))) texts) i.free)) (sym says)
-    ∙ ap (λ (g : List ℕ). free_to_write info.free (without_texts (punctuation_of style) (map (text_in g) texts) info.free))
+    ∙ ap (λ (g : List ℕ). free_to_write info.free
+    (without_texts (punctuation_of style) (map (text_in g) texts) info.free))
     (sym behind)
     ∙ ap (λ (p : List ℕ). free_to_write info.free (without_texts p (map (text_in gap) texts) info.free)) (sym signs)
     ∙ some) given

@@ -105,7 +105,8 @@ pub change_ok : (file : List ℕ) (made : Result (Option Edit) HeaderRefusal) (s
 unfolding change_of
 change_ok file made splice is =
     subst (λ (expected : Result NeighbourChange HeaderRefusal). IsExpectedChange expected
-    (Ok (neighbour_change_of file splice))) (changed file made) (change_expected file (edit_answer file made) (Ok splice) is)
+    (Ok (neighbour_change_of file splice))) (changed file made)
+    (change_expected file (edit_answer file made) (Ok splice) is)
 
 pub change_err : (file : List ℕ) (made : Result (Option Edit) HeaderRefusal) (refusal : HeaderRefusal)
     → IsExpected (edit_answer file made) (Err refusal)

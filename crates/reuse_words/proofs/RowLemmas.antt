@@ -100,7 +100,8 @@ least_or : (o other : Option Run) (n : ℕ) → IfSome o (StartsBy n) → MatchO
 least_or None other n h k = k
 least_or (Some run) other n h k = h
 
-least_later : (o : Option Run) (n : ℕ) → MatchOption o ⊥ (StartsBy n) → MatchOption (option_map later o) ⊥ (StartsBy (suc n))
+least_later : (o : Option Run) (n : ℕ) → MatchOption o ⊥ (StartsBy n)
+    → MatchOption (option_map later o) ⊥ (StartsBy (suc n))
 least_later None n h = h
 least_later (Some run) n h = omega arith
 
@@ -144,7 +145,8 @@ module _ {X : Type 0} (f : X → List ℕ) where
   ends_step x xs w words [] m n split is e ih =
       subst (λ (k : ℕ). Ends (take k (x ∷ xs)))
       (ap (λ (k : ℕ). suc k) (counts_nothing (map f xs) m is) ∙ sym e)
-      ([], x, refl, λ nil. let bad : (w ∷ words) ≡ [] = split ∙ ap (λ (r : List ℕ). r ++ []) nil in let none : ⊥ = cc in none)
+      ([], x, refl, λ nil.
+          let bad : (w ∷ words) ≡ [] = split ∙ ap (λ (r : List ℕ). r ++ []) nil in let none : ⊥ = cc in none)
   ends_step x xs w words (l ∷ ls) m n split is e ih =
       let rest = ih l ls m is in
       subst (λ (k : ℕ). Ends (take k (x ∷ xs))) (sym e)
@@ -232,7 +234,8 @@ module _ {X : Type 0} (f : X → List ℕ) where
   }
 
   sound_here : (w : ℕ) (words : List ℕ) (x : X) (xs : List X) (t : Bool) → is_empty (f x) ≡ t
-      → IfSome (cond t None (option_map (λ c. record { start = 0; count = c }) (run_count (w ∷ words) (map f (x ∷ xs)))))
+      → IfSome
+      (cond t None (option_map (λ c. record { start = 0; count = c }) (run_count (w ∷ words) (map f (x ∷ xs)))))
       (RunAt (w ∷ words) (x ∷ xs))
   sound_here w words x xs true e = tt
   sound_here w words x xs false e =

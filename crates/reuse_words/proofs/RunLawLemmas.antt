@@ -103,7 +103,8 @@ behind_found punct text contents (w ∷ words) is =
     (length (contents ++ core.0))
     (first_least (words_in punct) (contents ++ core.0) core.1 core.2 (w ∷ words) (core.4 ∙ is) core.5 core.6))
 
-pub text_behind_held : (punct : List ℕ) (text contents : List (List ℕ)) → holds_text punct text (contents ++ text) ≡ true
+pub text_behind_held : (punct : List ℕ) (text contents : List (List ℕ))
+    → holds_text punct text (contents ++ text) ≡ true
 text_behind_held punct text contents =
     ap (λ (o : Option Run). is_empty (words_of punct text) || is_some o) (run_is punct text (contents ++ text))
     ∙ behind_found punct text contents (words_of punct text) refl

@@ -41,7 +41,8 @@ pub count_ends : (count w : ℕ) (words : List ℕ)
 unfolding run_count
 count_ends count w words = refl
 
-pub count_whole : (count : ℕ) (rows : List (List ℕ)) → option_map (λ more. count + more) (run_count [] rows) ≡ Some count
+pub count_whole : (count : ℕ) (rows : List (List ℕ))
+    → option_map (λ more. count + more) (run_count [] rows) ≡ Some count
 unfolding run_count
 count_whole count rows = ap Some (omega arith)
 
@@ -91,7 +92,8 @@ uncounted_here words (b ∷ row) rows e = ap (option_map (λ c. record { start =
 
 -- ---- runs are within their rows
 
-suc_within : (o : Option ℕ) (n : ℕ) → IfSome o (λ count. count ≤ n) → IfSome (option_map (λ c. suc c) o) (λ count. count ≤ suc n)
+suc_within : (o : Option ℕ) (n : ℕ) → IfSome o (λ count. count ≤ n)
+    → IfSome (option_map (λ c. suc c) o) (λ count. count ≤ suc n)
 suc_within None n h = tt
 suc_within (Some count) n h = omega arith
 
@@ -101,7 +103,8 @@ left_within : (o : Option (List ℕ)) (rows : List (List ℕ))
 left_within None rows h = tt
 left_within (Some left) rows h = h left
 
-pub count_within : (words : List ℕ) (rows : List (List ℕ)) → IfSome (run_count words rows) (λ count. count ≤ length rows)
+pub count_within : (words : List ℕ) (rows : List (List ℕ))
+    → IfSome (run_count words rows) (λ count. count ≤ length rows)
 unfolding run_count
 count_within [] rows = omega arith
 count_within (w ∷ words) [] = tt
@@ -118,7 +121,8 @@ begun_within : (o : Option ℕ) (n : ℕ) → IfSome o (λ count. count ≤ n)
 begun_within None n h = tt
 begun_within (Some count) n h = omega arith
 
-here_within : (words row : List ℕ) (rows : List (List ℕ)) → IfSome (run_here words row rows) (Within (suc (length rows)))
+here_within : (words row : List ℕ) (rows : List (List ℕ))
+    → IfSome (run_here words row rows) (Within (suc (length rows)))
 here_within words [] rows = tt
 here_within words (b ∷ row) rows =
     begun_within (run_count words ((b ∷ row) ∷ rows)) (suc (length rows)) (count_within words ((b ∷ row) ∷ rows))
@@ -127,7 +131,8 @@ later_within : (o : Option Run) (n : ℕ) → IfSome o (Within n) → IfSome (op
 later_within None n h = tt
 later_within (Some run) n h = omega arith
 
-or_within : (o other : Option Run) (n : ℕ) → IfSome o (Within n) → IfSome other (Within n) → IfSome (option_or o other) (Within n)
+or_within : (o other : Option Run) (n : ℕ) → IfSome o (Within n) → IfSome other (Within n)
+    → IfSome (option_or o other) (Within n)
 or_within None other n h k = k
 or_within (Some run) other n h k = h
 

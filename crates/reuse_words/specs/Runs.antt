@@ -26,7 +26,8 @@ run_count (w ∷ words) (row ∷ rows) =
 -- the run that begins with the first row, if that has words
 abbrev pub run_here : List ℕ → List ℕ → List (List ℕ) → Option Run
 run_here words row rows =
-    if is_empty row then None else option_map (λ count. record { start = 0; count = count }) (run_count words (row ∷ rows))
+    if is_empty row then None
+    else option_map (λ count. record { start = 0; count = count }) (run_count words (row ∷ rows))
 
 -- a run behind one row more
 abbrev pub later : Run → Run
