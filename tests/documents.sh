@@ -3,7 +3,7 @@
 # manual page are as they are made of the reference; what the page on the headline names is there,
 # and so are the files that documents name; each crate has its row; each link leads to a file, and
 # to a heading of it; README has 120 lines at most, and the tutorial 80. No line outside of tables
-# and code has over 100 columns, no cell over 25 words, and next to no sentence.
+# and code has over 100 columns, and no cell and no sentence over 25 words.
 # usage: tests/documents.sh PROGRAM      (which isn't run)
 set -euo pipefail
 . "$(dirname "$0")/common.sh"
@@ -112,8 +112,7 @@ for document in "${documents[@]}"; do
 done > "$room/long"
 [[ ! -s $room/long ]] || fail "$(cat "$room/long")"
 docs/long_sentences.py "${documents[@]}" > "$room/sentences"
-sentences=$(wc -l < "$room/sentences")
-((sentences <= 10)) || fail "$(cat "$room/sentences")"
+[[ ! -s $room/sentences ]] || fail "$(cat "$room/sentences")"
 recipes=$(wc -l < "$room/recipes")
 echo "$links links lead somewhere, $recipes files of recipes are there, three lists are made, and" \
-  "${#documents[@]} documents are short: $sentences sentences have over 25 words"
+  "${#documents[@]} documents are short"
