@@ -68,12 +68,18 @@ def dated_before(text, year):
     ]
 
 
+def has_holder(notice, holder):
+    """Whether a notice is of a holder, behind which years may stand."""
+    years = r"(?:\s*,[\s\d,&–-]*(?:present|now|today)?)?"
+    return re.fullmatch(FRONT + " " + re.escape(holder) + years, notice)
+
+
 def may_become(task, old, new, before, after):
     """Whether a value may become another one: none stands for one that goes."""
     if task == "years":
         return after is not None and any(p.fullmatch(before) for p in dated_before(after, new))
     if task == "removed":
-        return after is None and before.endswith(old)
+        return after is None and has_holder(before, old)
     if task == "holder":
         return after == before.replace(old, new)
     return before == old and after == new
@@ -116,7 +122,7 @@ def compare(before, tree, lines, task, old, new, refused):
             if not any(may_become(task, old, new, value, other) for other in others):
                 fail(f"{path} has lost {value!r}")
         if task == "licence" and old in now[part] or part and old and any(
-            re.fullmatch(FRONT + " " + re.escape(old), value) and stands_behind_marks(tree, path, value)
+            has_holder(value, old) and stands_behind_marks(tree, path, value)
             for value in now[part]
         ):
             still += 1
