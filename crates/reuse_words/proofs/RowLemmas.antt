@@ -144,9 +144,13 @@ module _ {X : Type 0} (f : X → List ℕ) where
       → Ends (take n (x ∷ xs))
   ends_step x xs w words [] m n split is e ih =
       subst (λ (k : ℕ). Ends (take k (x ∷ xs)))
-      (ap (λ (k : ℕ). suc k) (counts_nothing (map f xs) m is) ∙ sym e)
-      ([], x, refl, λ nil.
-          let bad : (w ∷ words) ≡ [] = split ∙ ap (λ (r : List ℕ). r ++ []) nil in let none : ⊥ = cc in none)
+      (ap (λ (k : ℕ). suc k) (counts_nothing (map f xs) m is) ∙ sym e) (
+        [],
+        x,
+        refl,
+        λ nil.
+            let bad : (w ∷ words) ≡ [] = split ∙ ap (λ (r : List ℕ). r ++ []) nil in let none : ⊥ = cc in none,
+      )
   ends_step x xs w words (l ∷ ls) m n split is e ih =
       let rest = ih l ls m is in
       subst (λ (k : ℕ). Ends (take k (x ∷ xs))) (sym e)
