@@ -1,6 +1,6 @@
 -- Where amend isn't refused at a path, its file and the neighbour become what the rules say of them.
-use Rattle.std.proofs.Common.{◌≡◌, ◌⊎◌, inl, inr, ℕ, Bool, true, false, cond, not, nat_lt, List, ◌++◌, length, take}
-use Rattle.std.proofs.Common.{◌&&◌, is_none, drop, Option, Some, None, Ok, Err, refl, sym, ap, ap₂, subst, ◌∙◌, Result}
+use Rattle.std.proofs.Common.{◌≡◌, ◌⊎◌, inl, inr, ℕ, ◌≤◌, Bool, true, false, cond, not, nat_lt, List, ◌++◌, length}
+use Rattle.std.proofs.Common.{◌&&◌, is_none, take, drop, Option, Some, None, Ok, Err, refl, sym, ap, ap₂, subst, ◌∙◌, Result}
 use Rattle.std.specs.Option.{option_map, option_map_or}
 use Rattle.reuse_command.specs.Reading.{get, Files}
 use Rattle.std.proofs.lemmas.Bool.{not-false, false≢true, and_parts, ltb-true, ltb-false}

@@ -1,5 +1,6 @@
 -- What amend makes of a tree, said in other words, is one tree.
 use Rattle.std.proofs.Common.{◌≡◌, ◌≢◌, ◌⊎◌, inl, inr, ℕ, List, Some, None, sym, ap, subst, ◌∙◌, true, Contains}
+use Rattle.std.proofs.Common.{arith}
 use Rattle.reuse_command.specs.Reading.{get, Files}
 use Rattle.std.proofs.lemmas.Bool.{false≢true}
 use Rattle.std.proofs.lemmas.Option.{same_Some, none-some}

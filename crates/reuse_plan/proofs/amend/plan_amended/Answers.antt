@@ -1,4 +1,4 @@
-use Rattle.std.proofs.Common.{◌≡◌, ◌∙◌, List, ℕ, true, Some, None, IsSome, sym, ap, ap₂, subst, Err}
+use Rattle.std.proofs.Common.{◌≡◌, ◌∙◌, List, ℕ, true, Some, IsSome, sym, ap, ap₂, subst, Err}
 use Rattle.std.specs.Option.{option_or}
 use Rattle.reuse_command.specs.Reading.{get, tree_of}
 use Rattle.reuse_change.specs.Listing.{is_among}
