@@ -5,3 +5,5 @@ pub mod RunLawLemmas
 pub mod RemovalLemmas
 pub mod AmendedLemmas
 pub mod AddedLemmas
+pub mod FreeLemmas
+pub mod FileLawLemmas

@@ -1,13 +1,15 @@
 -- The first run of contents as a relation, and what contents with a text and without it hold.
 use Rattle.std.proofs.Common.{◌≡◌, ◌≢◌, ℕ, ◌+◌, ◌≤◌, Bool, true, false, List, [], ◌∷◌, ◌++◌, length, length-take, take}
 use Rattle.std.proofs.Common.{drop, Option, None, Some, refl, sym, ap, subst, ◌∙◌, arith, map, cond, append_assoc}
-use Rattle.std.specs.Prelude.{◌||◌, is_some, IfSome, MatchOption}
+use Rattle.std.specs.Prelude.{◌||◌, ◌&&◌, is_some, IfSome, MatchOption}
+use Rattle.std.specs.List.{list_all}
 use Rattle.std.specs.Option.{option_map_or}
 use Rattle.reuse_text.specs.Text.{is_empty}
 use Rattle.reuse_words.specs.declared.runs.Run.{Run}
 use Rattle.reuse_words.specs.Words.{words_in, words_of}
 use Rattle.reuse_words.specs.Runs.{first_run, run_of, holds_text, without_run, without_text, separated, with_text}
 use Rattle.reuse_words.specs.Runs.{IsCut, IsFirstRun}
+use Rattle.reuse_words.specs.Information.{with_texts}
 use Rattle.reuse_words.proofs.RowLemmas.{StartsBy, RunAt, first_least, first_sound, core_of, cut_joined}
 
 -- ---- the first run of contents, by the words that are sought
@@ -131,3 +133,75 @@ found_without punct text contents run e = ap (λ (o : Option Run). option_map_or
 pub unfound_stays : (punct : List ℕ) (text contents : List (List ℕ)) → run_of punct text contents ≡ None
     → without_text punct text contents ≡ contents
 unfound_stays punct text contents e = ap (λ (o : Option Run). option_map_or (without_run contents) o contents) e
+
+-- ---- texts stay held
+
+held_more : (punct words : List ℕ) (contents more : List (List ℕ))
+    → (is_empty words || is_some (cond (is_empty words) None (first_run words (map (words_in punct) contents)))) ≡ true
+    → (is_empty words || is_some (cond (is_empty words) None
+    (first_run words (map (words_in punct) (contents ++ more))))) ≡ true
+held_more punct [] contents more e = refl
+held_more punct (w ∷ words) contents more e =
+    by_run (first_run (w ∷ words) (map (words_in punct) contents)) refl e
+  where
+    by_run : (o : Option Run) → first_run (w ∷ words) (map (words_in punct) contents) ≡ o → is_some o ≡ true
+        → is_some (first_run (w ∷ words) (map (words_in punct) (contents ++ more))) ≡ true
+    by_run None is e = absurd (let none : ⊥ = cc in none)
+    by_run (Some run) is e =
+        let at = subst (λ (o : Option Run). IfSome o (RunAt (words_in punct) (w ∷ words) contents)) is
+        (first_sound (words_in punct) w words contents) in
+        let front = take run.start contents in
+        let here = take run.count (drop run.start contents) in
+        let back = drop (run.start + run.count) contents in
+        let joined : contents ++ more ≡ front ++ (here ++ (back ++ more)) =
+        ap (λ (c : List (List ℕ)). c ++ more) (cut_joined contents run.start run.count)
+        ∙ append_assoc front (here ++ back) more
+        ∙ ap (λ (c : List (List ℕ)). front ++ c) (append_assoc here back more) in
+        subst (λ (c : List (List ℕ)). is_some (first_run (w ∷ words) (map (words_in punct) c)) ≡ true) (sym joined)
+        (some_least (first_run (w ∷ words) (map (words_in punct) (front ++ (here ++ (back ++ more))))) (length front)
+        (first_least (words_in punct) front here (back ++ more) (w ∷ words) at.says at.begins at.ends))
+
+held_append : (punct : List ℕ) (text contents more : List (List ℕ)) → holds_text punct text contents ≡ true
+    → holds_text punct text (contents ++ more) ≡ true
+held_append punct text contents more e =
+    ap (λ (o : Option Run). is_empty (words_of punct text) || is_some o) (run_is punct text (contents ++ more))
+    ∙ held_more punct (words_of punct text) contents more
+    (sym (ap (λ (o : Option Run). is_empty (words_of punct text) || is_some o) (run_is punct text contents)) ∙ e)
+
+held_separated : (punct : List ℕ) (text contents more : List (List ℕ)) → holds_text punct text contents ≡ true
+    → holds_text punct text (separated contents ++ more) ≡ true
+held_separated punct text [] more e = held_append punct text [] more e
+held_separated punct text (c ∷ contents) more e =
+    held_append punct text ((c ∷ contents) ++ [] ∷ []) more (held_append punct text (c ∷ contents) ([] ∷ []) e)
+
+held_with : (punct : List ℕ) (text other contents : List (List ℕ)) (t : Bool) → holds_text punct text contents ≡ true
+    → holds_text punct text (cond t contents (separated contents ++ other)) ≡ true
+held_with punct text other contents true e = e
+held_with punct text other contents false e = held_separated punct text contents other e
+
+held_with_texts : (punct : List ℕ) (text : List (List ℕ)) (texts : List (List (List ℕ))) (contents : List (List ℕ))
+    → holds_text punct text contents ≡ true → holds_text punct text (with_texts punct texts contents) ≡ true
+held_with_texts punct text [] contents e = e
+held_with_texts punct text (other ∷ texts) contents e =
+    held_with_texts punct text texts (with_text punct other contents)
+    (held_with punct text other contents (holds_text punct other contents) e)
+
+pub all_held : (punct : List ℕ) (texts : List (List (List ℕ))) (contents : List (List ℕ))
+    → list_all (λ text. holds_text punct text (with_texts punct texts contents)) texts ≡ true
+all_held punct [] contents = refl
+all_held punct (text ∷ texts) contents =
+    ap (λ (t : Bool). t && list_all (λ other. holds_text punct other
+    (with_texts punct texts (with_text punct text contents))) texts)
+    (held_with_texts punct text texts (with_text punct text contents) (text_held punct text contents))
+    ∙ all_held punct texts (with_text punct text contents)
+
+both_held : (a b : Bool) → (a && b) ≡ true → (a ≡ true) × (b ≡ true)
+both_held true b e = (refl, e)
+both_held false b e = absurd (let none : ⊥ = cc in none)
+
+pub all_stay : (punct : List ℕ) (texts : List (List (List ℕ))) (contents : List (List ℕ))
+    → list_all (λ text. holds_text punct text contents) texts ≡ true → with_texts punct texts contents ≡ contents
+all_stay punct [] contents e = refl
+all_stay punct (text ∷ texts) contents e =
+    let parts = both_held (holds_text punct text contents) (list_all (λ other. holds_text punct other contents) texts) e in
+    ap (with_texts punct texts) (held_stays punct text contents parts.0) ∙ all_stay punct texts contents parts.1

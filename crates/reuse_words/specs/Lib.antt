@@ -5,3 +5,4 @@ pub mod Information
 pub mod Removal
 pub mod Amended
 pub mod Added
+pub mod FileLaws

@@ -1,7 +1,9 @@
 //! Laws of runs: where a text stands among contents, and what contents with it and without it are.
 ghost use Rattle.std.specs.Prelude.{◌≡◌, ◌≢◌, ◌+◌, ◌++◌, ℕ, List, [], None, Some, true, take, drop};
+ghost use Rattle.std.specs.List.{list_all};
 ghost use Rattle.reuse_words.specs.declared.runs.Run.{Run};
 ghost use Rattle.reuse_words.specs.Words.{words_of};
+ghost use Rattle.reuse_words.specs.Information.{with_texts};
 ghost use Rattle.reuse_words.specs.Runs.{run_of, holds_text, with_text, without_text, IsCut, IsFirstRun};
 
 /// The run of contents that is found is the first one that is the same text. Where none is found, no
@@ -24,6 +26,15 @@ pub fn texts_are_added_once()
         → with_text punct text contents ≡ contents }
     ensures again { (punct : List ℕ) (text contents : List (List ℕ))
         → with_text punct text (with_text punct text contents) ≡ with_text punct text contents }
+{}
+
+/// Contents with several texts hold each of them, and with the same texts once more they are the
+/// same.
+pub fn all_texts_are_added_once()
+    ensures held { (punct : List ℕ) (texts : List (List (List ℕ))) (contents : List (List ℕ))
+        → list_all (λ text. holds_text punct text (with_texts punct texts contents)) texts ≡ true }
+    ensures again { (punct : List ℕ) (texts : List (List (List ℕ))) (contents : List (List ℕ))
+        → with_texts punct texts (with_texts punct texts contents) ≡ with_texts punct texts contents }
 {}
 
 /// Contents without a text lack exactly the first run that is it: those in front of it and behind it

@@ -3,6 +3,7 @@
 
 mod adding;
 mod amending;
+mod file_laws;
 mod information;
 mod laws;
 mod lists;
@@ -14,7 +15,13 @@ mod words;
 
 pub use adding::{annotate_file_with, annotate_neighbour_with};
 pub use amending::{amend_file_without, amend_neighbour_without};
-pub use laws::{first_runs_are_taken_out, runs_are_first, texts_are_added_once};
+pub use file_laws::{
+    no_texts_add_nothing, removals_fit, removals_keep_other_bytes, texts_alone_are_taken_out,
+    texts_keep_tags,
+};
+pub use laws::{
+    all_texts_are_added_once, first_runs_are_taken_out, runs_are_first, texts_are_added_once,
+};
 pub use refusal::TextHeaderRefusal;
 pub use removal::{NeighbourChange, remove_header, remove_neighbour_header};
 pub use runs::{Run, holds_text, run_of, with_text, without_text};
