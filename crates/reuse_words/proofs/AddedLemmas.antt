@@ -82,7 +82,8 @@ pub added_bad : (style : Style) (how : How) (additions : Additions) (texts : Lis
     → text_answer file (text_annotation_of style how additions texts file) ≡ Err BadText
 added_bad style how additions texts file found form gap e1 e3 e4 e6 =
     ap (text_answer file) (sym (added_by style how additions texts file found (replaced_block how.replace found) form
-    gap (punctuation_of style) true
+    gap
+    (punctuation_of style) true
     (info_with (punctuation_of style) (map (text_in gap) texts)
     (new_info (punctuation_of style) (old_contents (replaced_block how.replace found)) how.merge additions))
     e1 refl e3 e4 refl e6 refl))

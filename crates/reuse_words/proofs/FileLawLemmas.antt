@@ -1,6 +1,7 @@
 -- The edits of a removal, and of texts that are taken out and added: which bytes stay, and what is written.
 use Rattle.std.proofs.Common.{◌≡◌, ℕ, ◌+◌, ◌≤◌, Bool, true, false, List, [], ◌∷◌, ◌++◌, length, take, drop, Option}
-use Rattle.std.proofs.Common.{None, Some, refl, sym, ap, subst, ◌∙◌, cond, nat_eq, append_assoc, arith, length-append, length-take, length-drop}
+use Rattle.std.proofs.Common.{None, Some, refl, sym, ap, subst, ◌∙◌, cond, nat_eq, append_assoc, arith}
+use Rattle.std.proofs.Common.{length-append, length-take, length-drop}
 use Rattle.std.specs.Prelude.{Result, Ok, Err, nat_lt}
 use Rattle.std.specs.List.{list_any, starts_with}
 use Rattle.std.specs.Option.{option_map, option_map_or}
@@ -88,7 +89,8 @@ comment_by : (file : List ℕ) (span : HeaderSpan) (contents : List (List ℕ)) 
     → IsComment file span contents marks edit
 comment_by file span contents marks edit true e = absurd (refused HoldsCloser edit e)
 comment_by file span contents marks edit false e =
-    let fits = fitting_ok file (replacement span.start span.end (comment_text marks (kind_of_file file) contents)) edit e in
+    let fits = fitting_ok file
+    (replacement span.start span.end (comment_text marks (kind_of_file file) contents)) edit e in
     record { same = fits.0; short = fits.1 }
 
 comment_ok : (file : List ℕ) (span : HeaderSpan) (contents : List (List ℕ)) (marks : Option LineMarks) (edit : Edit)
@@ -96,7 +98,8 @@ comment_ok : (file : List ℕ) (span : HeaderSpan) (contents : List (List ℕ)) 
     → (m : LineMarks) × (marks ≡ Some m) × IsComment file span contents m edit
 unfolding comment_written
 comment_ok file span contents None edit e = absurd (refused NoSuchForm edit e)
-comment_ok file span contents (Some m) edit e = (m, refl, comment_by file span contents m edit (closes_form m contents) e)
+comment_ok file span contents (Some m) edit e =
+    (m, refl, comment_by file span contents m edit (closes_form m contents) e)
 
 -- ---- the tags of a block are taken out
 
@@ -231,7 +234,8 @@ module _ (style : Style) (file : List ℕ) (span : HeaderSpan) (edit : Edit)
 -- ---- the tags of a neighbour are taken out
 
 neighbour_by : (file : List ℕ) (free : List (List ℕ)) (edit : Edit) (text nothing : Bool)
-    → cond text (cond nothing (Ok None) (some_edit (neighbour_comment_written file free))) (Err NotText) ≡ Ok (Some edit)
+    → cond text (cond nothing (Ok None) (some_edit (neighbour_comment_written file free))) (Err NotText)
+    ≡ Ok (Some edit)
     → neighbour_comment_written file free ≡ Ok edit
 neighbour_by file free edit false nothing e = absurd (no_edit NotText (Some edit) e)
 neighbour_by file free edit true true e = absurd (none_edit (Ok None) edit refl e)

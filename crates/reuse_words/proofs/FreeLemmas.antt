@@ -1,5 +1,6 @@
 -- Free contents: none of them is a tag, and what is read of them is they again.
-use Rattle.std.proofs.Common.{◌≡◌, ℕ, Bool, true, false, List, [], ◌∷◌, refl, sym, ap, ◌∙◌, inl, inr, cond, Option, None, Some}
+use Rattle.std.proofs.Common.{◌≡◌, ℕ, Bool, true, false, List, [], ◌∷◌, Option, None, Some}
+use Rattle.std.proofs.Common.{refl, sym, ap, ◌∙◌, inl, inr, cond}
 use Rattle.std.specs.Prelude.{◌||◌, filter, is_some}
 use Rattle.std.specs.Option.{is_none}
 use Rattle.std.specs.List.{list_all, list_any}
@@ -40,10 +41,11 @@ module _ {X : Type 0} (keeps : X → Bool) where
     | inr f ↦ absurd (let bad : false ≡ true = rw f at e in let none : ⊥ = cc in none)
   ]
 
-  kept_all : (xs : List X) → list_all keeps xs ≡ true → filter keeps xs ≡ xs
+  pub kept_all : (xs : List X) → list_all keeps xs ≡ true → filter keeps xs ≡ xs
   kept_all [] e = refl
   kept_all (x ∷ xs) e = let parts = both x xs e in
-      ap (λ (t : Bool). cond t (x ∷ filter keeps xs) (filter keeps xs)) parts.0 ∙ ap (λ (ys : List X). x ∷ ys) (kept_all xs parts.1)
+      ap (λ (t : Bool). cond t (x ∷ filter keeps xs) (filter keeps xs)) parts.0
+      ∙ ap (λ (ys : List X). x ∷ ys) (kept_all xs parts.1)
 
   all_front : (test : X → Bool) (xs : List X) → list_all keeps xs ≡ true → list_all keeps (drop_front test xs) ≡ true
   unfolding drop_front
@@ -63,14 +65,16 @@ module _ {X : Type 0} (keeps : X → Bool) where
 
 -- ---- free contents
 
-all_free : (punct : List ℕ) (contents : List (List ℕ)) → list_all (λ c. is_none (tag_of punct c)) (free_of punct contents) ≡ true
+all_free : (punct : List ℕ) (contents : List (List ℕ))
+    → list_all (λ c. is_none (tag_of punct c)) (free_of punct contents) ≡ true
 all_free punct contents =
     all_end (λ c. is_none (tag_of punct c)) (is_blank_content punct)
     (drop_front (is_blank_content punct) (untagged punct contents))
     (all_front (λ c. is_none (tag_of punct c)) (is_blank_content punct) (untagged punct contents)
     (all_kept (λ c. is_none (tag_of punct c)) contents))
 
-pub free_twice : (punct : List ℕ) (contents : List (List ℕ)) → free_of punct (free_of punct contents) ≡ free_of punct contents
+pub free_twice : (punct : List ℕ) (contents : List (List ℕ))
+    → free_of punct (free_of punct contents) ≡ free_of punct contents
 free_twice punct contents =
     ap (trimmed (is_blank_content punct))
     (kept_all (λ c. is_none (tag_of punct c)) (free_of punct contents) (all_free punct contents))
@@ -93,7 +97,8 @@ none_tagged punct (c ∷ contents) e =
     ap (λ (t : Bool). t || list_any (has_tag punct) contents) (untagged_content punct c parts.0)
     ∙ none_tagged punct contents parts.1
 
-pub free_untagged : (punct : List ℕ) (contents : List (List ℕ)) → list_any (has_tag punct) (free_of punct contents) ≡ false
+pub free_untagged : (punct : List ℕ) (contents : List (List ℕ))
+    → list_any (has_tag punct) (free_of punct contents) ≡ false
 free_untagged punct contents = none_tagged punct (free_of punct contents) (all_free punct contents)
 
 -- ---- information with the same free contents

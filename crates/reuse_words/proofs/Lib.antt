@@ -7,3 +7,5 @@ pub mod AmendedLemmas
 pub mod AddedLemmas
 pub mod FreeLemmas
 pub mod FileLawLemmas
+pub mod AddedLawLemmas
+pub mod HeldLemmas

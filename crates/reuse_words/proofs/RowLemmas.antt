@@ -148,8 +148,7 @@ module _ {X : Type 0} (f : X → List ℕ) where
         [],
         x,
         refl,
-        λ nil.
-            let bad : (w ∷ words) ≡ [] = split ∙ ap (λ (r : List ℕ). r ++ []) nil in let none : ⊥ = cc in none,
+        λ nil. let bad : (w ∷ words) ≡ [] = split ∙ ap (λ (r : List ℕ). r ++ []) nil in let none : ⊥ = cc in none,
       )
   ends_step x xs w words (l ∷ ls) m n split is e ih =
       let rest = ih l ls m is in
@@ -238,8 +237,8 @@ module _ {X : Type 0} (f : X → List ℕ) where
   }
 
   sound_here : (w : ℕ) (words : List ℕ) (x : X) (xs : List X) (t : Bool) → is_empty (f x) ≡ t
-      → IfSome
-      (cond t None (option_map (λ c. record { start = 0; count = c }) (run_count (w ∷ words) (map f (x ∷ xs)))))
+      → IfSome (cond t None
+      (option_map (λ c. record { start = 0; count = c }) (run_count (w ∷ words) (map f (x ∷ xs)))))
       (RunAt (w ∷ words) (x ∷ xs))
   sound_here w words x xs true e = tt
   sound_here w words x xs false e =

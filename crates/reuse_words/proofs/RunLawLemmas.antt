@@ -14,7 +14,7 @@ use Rattle.reuse_words.proofs.RowLemmas.{StartsBy, RunAt, first_least, first_sou
 
 -- ---- the first run of contents, by the words that are sought
 
-run_is : (punct : List ℕ) (text contents : List (List ℕ))
+pub run_is : (punct : List ℕ) (text contents : List (List ℕ))
     → run_of punct text contents
     ≡ cond (is_empty (words_of punct text)) None (first_run (words_of punct text) (map (words_in punct) contents))
 unfolding run_of
@@ -86,7 +86,7 @@ none_found punct text contents some e =
 
 -- ---- contents with a text hold it
 
-some_least : (o : Option Run) (n : ℕ) → MatchOption o ⊥ (StartsBy n) → is_some o ≡ true
+pub some_least : (o : Option Run) (n : ℕ) → MatchOption o ⊥ (StartsBy n) → is_some o ≡ true
 some_least None n h = absurd h
 some_least (Some run) n h = refl
 
@@ -203,5 +203,6 @@ pub all_stay : (punct : List ℕ) (texts : List (List (List ℕ))) (contents : L
     → list_all (λ text. holds_text punct text contents) texts ≡ true → with_texts punct texts contents ≡ contents
 all_stay punct [] contents e = refl
 all_stay punct (text ∷ texts) contents e =
-    let parts = both_held (holds_text punct text contents) (list_all (λ other. holds_text punct other contents) texts) e in
+    let parts = both_held (holds_text punct text contents)
+    (list_all (λ other. holds_text punct other contents) texts) e in
     ap (with_texts punct texts) (held_stays punct text contents parts.0) ∙ all_stay punct texts contents parts.1

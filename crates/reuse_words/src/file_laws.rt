@@ -23,7 +23,7 @@ ghost use Rattle.reuse_words.specs.Information.{info_with, info_without};
 ghost use Rattle.reuse_words.specs.Removal.{gap_behind, untagged_of, neighbour_untagged_of};
 ghost use Rattle.reuse_words.specs.Amended.{texts_in, without_texts_of};
 ghost use Rattle.reuse_words.specs.Added.{header_edit, text_annotation_of, neighbour_text_annotation_of};
-ghost use Rattle.reuse_words.specs.FileLaws.{Fits, IsUntaggedComment, HasTagsOf};
+ghost use Rattle.reuse_words.specs.FileLaws.{Fits, IsUntaggedComment, HasTagsOf, AddsTexts};
 
 use reuse_text::lines_are_one;
 
@@ -75,6 +75,22 @@ pub fn texts_alone_are_taken_out()
         → (marks : LineMarks) × IsBlockText style (kind_of_file file) (info_without (punctuation_of style)
         (texts_in (marks_of style span.form) texts) (info_of (punctuation_of style) span.contents))
         span.form marks edit.text }
+{
+    lines_are_one();
+}
+
+/// Adding information and texts writes both, joined with what the old block said, and the edit lies
+/// within its file, which stays within 16 MiB. Where an old block is replaced, every byte outside of
+/// it stays.
+pub fn added_texts_are_written()
+    ensures written { (style : Style) (how : How) (additions : Additions) (texts : List (List (List ℕ)))
+        (file : List ℕ) (edit : Edit) → text_annotation_of style how additions texts file ≡ Ok edit
+        → AddsTexts style how additions texts file edit }
+    ensures replaced { (style : Style) (how : How) (additions : Additions) (texts : List (List (List ℕ)))
+        (file : List ℕ) (edit : Edit) (span : HeaderSpan)
+        → text_annotation_of style how additions texts file ≡ Ok edit → how.replace ≡ true
+        → option_map (span_in file) (header_of style file) ≡ Some span
+        → edited file edit ≡ take span.start file ++ edit.text ++ drop span.end file }
 {
     lines_are_one();
 }

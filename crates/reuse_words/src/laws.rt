@@ -1,9 +1,11 @@
 //! Laws of runs: where a text stands among contents, and what contents with it and without it are.
-ghost use Rattle.std.specs.Prelude.{◌≡◌, ◌≢◌, ◌+◌, ◌++◌, ℕ, List, [], None, Some, true, take, drop};
-ghost use Rattle.std.specs.List.{list_all};
+ghost use Rattle.std.specs.Prelude.{◌≡◌, ◌≢◌, ◌+◌, ◌++◌, ℕ, List, [], None, Some, true, false, take, drop};
+ghost use Rattle.std.specs.List.{list_all, list_any};
 ghost use Rattle.reuse_words.specs.declared.runs.Run.{Run};
 ghost use Rattle.reuse_words.specs.Words.{words_of};
-ghost use Rattle.reuse_words.specs.Information.{with_texts};
+ghost use Rattle.reuse_words.specs.Information.{with_texts, info_with};
+ghost use Rattle.reuse_notice.specs.declared.infos.Info.{Info};
+ghost use Rattle.reuse_header.specs.Tagged.{has_tag};
 ghost use Rattle.reuse_words.specs.Runs.{run_of, holds_text, with_text, without_text, IsCut, IsFirstRun};
 
 /// The run of contents that is found is the first one that is the same text. Where none is found, no
@@ -29,12 +31,15 @@ pub fn texts_are_added_once()
 {}
 
 /// Contents with several texts hold each of them, and with the same texts once more they are the
-/// same.
+/// same. So does information with them, if none of its free contents would be a tag.
 pub fn all_texts_are_added_once()
     ensures held { (punct : List ℕ) (texts : List (List (List ℕ))) (contents : List (List ℕ))
         → list_all (λ text. holds_text punct text (with_texts punct texts contents)) texts ≡ true }
     ensures again { (punct : List ℕ) (texts : List (List (List ℕ))) (contents : List (List ℕ))
         → with_texts punct texts (with_texts punct texts contents) ≡ with_texts punct texts contents }
+    ensures information { (punct : List ℕ) (texts : List (List (List ℕ))) (info : Info)
+        → list_any (has_tag punct) (with_texts punct texts info.free) ≡ false
+        → list_all (λ text. holds_text punct text (info_with punct texts info).free) texts ≡ true }
 {}
 
 /// Contents without a text lack exactly the first run that is it: those in front of it and behind it

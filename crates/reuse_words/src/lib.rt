@@ -16,8 +16,8 @@ mod words;
 pub use adding::{annotate_file_with, annotate_neighbour_with};
 pub use amending::{amend_file_without, amend_neighbour_without};
 pub use file_laws::{
-    no_texts_add_nothing, removals_fit, removals_keep_other_bytes, texts_alone_are_taken_out,
-    texts_keep_tags,
+    added_texts_are_written, no_texts_add_nothing, removals_fit, removals_keep_other_bytes,
+    texts_alone_are_taken_out, texts_keep_tags,
 };
 pub use laws::{
     all_texts_are_added_once, first_runs_are_taken_out, runs_are_first, texts_are_added_once,
