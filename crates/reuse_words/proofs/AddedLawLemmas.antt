@@ -58,7 +58,8 @@ place_within style file text (Some span) false law is = omega (arith, body_withi
 place_within style file text (Some span) true law is =
     let h = block_within style file span (span_cuts style file span law is) in omega (arith, h.0, h.1)
 
-module _ (style : Style) (how : How) (additions : Additions) (texts : List (List (List ℕ))) (file : List ℕ) (edit : Edit)
+module _ (style : Style) (how : How) (additions : Additions) (texts : List (List (List ℕ))) (file : List ℕ)
+    (edit : Edit)
     (law : text_of (lines_of (after_mark file)) ≡ after_mark file)
     (e : text_annotation_of style how additions texts file ≡ Ok edit) where
   found : Option HeaderSpan
@@ -71,7 +72,8 @@ module _ (style : Style) (how : How) (additions : Additions) (texts : List (List
   info = info_with (punctuation_of style)
       (texts_in (marks_of style (chosen_form style how.form (option_map (span_in file) (header_of style file)))) texts)
       (new_info (punctuation_of style)
-      (old_contents (replaced_block how.replace (option_map (span_in file) (header_of style file)))) how.merge additions)
+      (old_contents (replaced_block how.replace (option_map (span_in file) (header_of style file)))) how.merge
+      additions)
 
   written : (m : LineMarks) × (marks_of style form ≡ Some m)
       × IsWritten style file (replaced_block how.replace found) info m edit

@@ -7,6 +7,7 @@ returns c = record {
   written = λ style how additions texts file edit e.
       texts_added style how additions texts file edit (c.lines_are_one.ensures.joined (after_mark file)) e;
   replaced = λ style how additions texts file edit span e replaced found.
-      texts_replace style how additions texts file edit (c.lines_are_one.ensures.joined (after_mark file)) e span replaced
+      texts_replace style how additions texts file edit (c.lines_are_one.ensures.joined (after_mark file)) e span
+      replaced
       found;
 }
