@@ -72,8 +72,8 @@ module _ (style : Style) (how : How) (additions : Additions) (texts : List (List
   info = info_with (punctuation_of style)
       (texts_in (marks_of style (chosen_form style how.form (option_map (span_in file) (header_of style file)))) texts)
       (new_info (punctuation_of style)
-      (old_contents (replaced_block how.replace (option_map (span_in file) (header_of style file)))) how.merge
-      additions)
+      (old_contents (replaced_block how.replace (option_map (span_in file) (header_of style file))))
+      how.merge additions)
 
   written : (m : LineMarks) × (marks_of style form ≡ Some m)
       × IsWritten style file (replaced_block how.replace found) info m edit

@@ -9,3 +9,4 @@ pub mod FreeLemmas
 pub mod FileLawLemmas
 pub mod AddedLawLemmas
 pub mod HeldLemmas
+pub mod TagLemmas

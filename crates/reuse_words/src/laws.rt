@@ -5,8 +5,20 @@ ghost use Rattle.reuse_words.specs.declared.runs.Run.{Run};
 ghost use Rattle.reuse_words.specs.Words.{words_of};
 ghost use Rattle.reuse_words.specs.Information.{with_texts, info_with};
 ghost use Rattle.reuse_notice.specs.declared.infos.Info.{Info};
+ghost use Rattle.reuse_style.specs.declared.style.Style.{Style};
+ghost use Rattle.reuse_style.specs.Styles.{punctuation_of};
 ghost use Rattle.reuse_header.specs.Tagged.{has_tag};
+ghost use Rattle.reuse_words.specs.Texts.{every_mark};
 ghost use Rattle.reuse_words.specs.Runs.{run_of, holds_text, with_text, without_text, IsCut, IsFirstRun};
+
+/// A line that is a tag in some style, behind the punctuation of that, is refused in a text: no line
+/// of a text is one, whatever the style.
+pub fn texts_have_no_tags()
+    ensures content { (style : Style) (content : List ℕ) → has_tag (punctuation_of style) content ≡ true
+        → has_tag every_mark content ≡ true }
+    ensures lines { (style : Style) (lines : List (List ℕ)) → list_any (has_tag every_mark) lines ≡ false
+        → list_any (has_tag (punctuation_of style)) lines ≡ false }
+{}
 
 /// The run of contents that is found is the first one that is the same text. Where none is found, no
 /// run is, if the text has words.

@@ -21,6 +21,7 @@ pub use file_laws::{
 };
 pub use laws::{
     all_texts_are_added_once, first_runs_are_taken_out, runs_are_first, texts_are_added_once,
+    texts_have_no_tags,
 };
 pub use refusal::TextHeaderRefusal;
 pub use removal::{NeighbourChange, remove_header, remove_neighbour_header};

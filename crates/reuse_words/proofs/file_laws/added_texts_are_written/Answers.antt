@@ -8,6 +8,5 @@ returns c = record {
       texts_added style how additions texts file edit (c.lines_are_one.ensures.joined (after_mark file)) e;
   replaced = λ style how additions texts file edit span e replaced found.
       texts_replace style how additions texts file edit (c.lines_are_one.ensures.joined (after_mark file)) e span
-      replaced
-      found;
+      replaced found;
 }
