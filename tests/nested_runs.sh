@@ -26,7 +26,7 @@ make_tree() {
 }
 
 # How many files below the root have a header of this holder
-marked() { grep -rlF -- "$1." "$2" --include=*.py | wc -l || true; }
+marked() { grep -rlF --include='*.py' -- "$1." "$2" | wc -l || true; }
 
 declare -A seen=([done]=0 [idle]=0 [busy]=0 [moved]=0)
 make_tree
