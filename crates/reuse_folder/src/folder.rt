@@ -71,6 +71,7 @@ impl<S: DiskSystem + Drop> RootFolder<S> {
     pub fn new(system: S, root: String, syncs: Syncs, ownership: OwnershipPolicy) -> RootFolder<S>
         ensures syncs { result.unsynced.syncs ≡ syncs }
         ensures noted { IsNoted result.unsynced journal_folder }
+        ensures ownership { result.ownership ≡ ownership }
     {
         let alloc = system.rt().alloc();
         let open_folders = OpenFolders::new(alloc, root, ownership.process());

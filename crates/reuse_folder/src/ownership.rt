@@ -51,7 +51,9 @@ pub struct OwnershipPolicy {
 
 impl OwnershipPolicy {
     /// For files of this process.
-    pub fn new(process: Process, owner_change: OwnerChange) -> OwnershipPolicy {
+    pub fn new(process: Process, owner_change: OwnerChange) -> OwnershipPolicy
+        ensures { result.owner_change ≡ owner_change }
+    {
         OwnershipPolicy {
             process,
             owner_change,
