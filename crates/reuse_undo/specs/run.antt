@@ -4,7 +4,9 @@ pub mod Called
 pub mod RunResult
 pub mod Drawn
 pub mod FoundNames
+pub mod LineRuns
 pub mod LinesInTurn
+pub mod OneCall
 pub mod Recoveries
 pub mod RefusalTexts
 pub mod RunLine

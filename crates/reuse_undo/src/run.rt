@@ -15,5 +15,6 @@ mod line;
 pub(crate) mod locked;
 mod names;
 mod on_folder;
+mod reads;
 pub(crate) mod run_result;
 mod texts;

@@ -6,6 +6,7 @@ pub mod DiffLemmas
 pub mod DrawnLemmas
 pub mod DrawnLines
 pub mod FoundInside
+pub mod OneCallLemmas
 pub mod PreviewedLemmas
 pub mod ModelLemmas
 pub mod RecoveryLemmas

@@ -2,11 +2,13 @@
 //! whose name no file can have. That shows only once the call has planned what it changes. So it is
 //! held before its first put if it has asked for such a file, and then what it would change is
 //! looked at, path by path, as in a dry run.
-ghost use Rattle.std.specs.Prelude.{◌≡◌, ◌≤◌};
+ghost use Rattle.std.specs.Prelude.{◌≡◌};
 ghost use Rattle.reuse_command.specs.Answer.{DidNotFail};
 ghost use Rattle.reuse_journal.specs.Journal.{State};
 ghost use Rattle.reuse_session.specs.session.Session.{store_of, SimulatesState};
 ghost use Rattle.reuse_session.specs.session.Requests.{Previews, ReadsOnlyWithCause};
+ghost use Rattle.reuse_undo.specs.run.OneCall.{Answers, AnswersOnce, EndsOnce, LooksAt, LooksThenStays};
+ghost use Rattle.reuse_undo.specs.run.OneCall.{is_failure, MakesOnce};
 
 use crate::run::access_refusal::AccessRefusal;
 use crate::run::line::is_refused;
@@ -15,19 +17,22 @@ use reuse_arguments::line::PrintOptions;
 use reuse_change::PathText;
 use reuse_folder::HostStore;
 use reuse_print::fault::Fault;
-use reuse_print::output::Output;
+use reuse_print::output::{Output, Sink};
 use reuse_session::{Call, Counts, PathOutcome, PathOutcomes, Refusal, Request, Session};
 use reuse_shown::progress::{ClearedOutput, Progress};
 use reuse_store::Store;
 use reuse_system::place::ends_in_long_name;
 use std::alloc::Global;
 use std::fs::File;
-use std::io;
+use std::io::{self, Printer};
 use std::rt::{Clock, Env, Files};
 use std::time::{Duration, SystemTime, UNIX_EPOCH};
 
 /// How a call ends: its outcome, or why it isn't begun.
 pub type CallEnding = Result<Result<usize, Fault>, AccessRefusal>;
+
+/// The standard output, which clears the line of the progress before it takes bytes.
+pub type Printed<'a, R> = Output<ClearedOutput<'a, R, Printer<'a, R>>>;
 
 /// What a call is made with.
 #[derive(Clone, Copy)]
@@ -47,7 +52,12 @@ pub fn answer<R: Files<File = File> + AllocGlobal + Clock + Env + Print + Eprint
     folder: HostStore<R>,
     alloc: Global,
     asking: &Asking<'_, R>,
-) -> (HostStore<R>, CallEnding, Counts) {
+) -> (HostStore<R>, CallEnding, Counts)
+    ensures { EndsOnce ⟦<HostStore<R> as Store>⟧ (AnswersOnce ⟦<HostStore<R> as Store>⟧
+        ⟦<Printed<'static, R> as Sink>⟧ (λ store. store.folder.unsynced) asking.now.lists_names
+        asking.now.request.now asking.now.options)
+        (λ store. store.folder.unsynced) asking.now.request.now folder result.0 result.1 }
+{
     match asking.request {
         Request::Make(call, _) => make(folder, alloc, asking, call),
         Request::Preview(_)
@@ -61,18 +71,24 @@ pub fn answer<R: Files<File = File> + AllocGlobal + Clock + Env + Print + Eprint
     }
 }
 
-/// Makes the call that is asked for. If it was held before its first put, it is made once more if
-/// it changes no file that can't be written.
+/// Makes the call that is asked for. If it was held before its first put, and so failed, it is made
+/// once more if it changes no file that can't be written.
 fn make<R: Files<File = File> + AllocGlobal + Clock + Env + Print + Eprint + Clone + Drop>(
-    mut folder: HostStore<R>,
+    folder: HostStore<R>,
     alloc: Global,
     asking: &Asking<'_, R>,
     call: &Call,
-) -> (HostStore<R>, CallEnding, Counts) {
+) -> (HostStore<R>, CallEnding, Counts)
+    ensures { MakesOnce ⟦<HostStore<R> as Store>⟧ (AnswersOnce ⟦<HostStore<R> as Store>⟧
+        ⟦<Printed<'static, R> as Sink>⟧ (λ store. store.folder.unsynced) asking.now.lists_names
+        asking.now.request.now asking.now.options)
+        (λ store. store.folder.unsynced) folder result.0 result.1 }
+{
+    let mut folder = folder;
     folder.watch_writes();
     folder.remember_files(time_now(asking.rt));
     let (mut folder, outcome, counts) = answer_at_once(folder, alloc, asking);
-    if !folder.release_writes() {
+    if !folder.release_writes() || !is_failure(&outcome) {
         return (folder, Ok(outcome), counts);
     }
     drop(outcome);
@@ -86,6 +102,13 @@ fn make<R: Files<File = File> + AllocGlobal + Clock + Env + Print + Eprint + Clo
     }
 }
 
+/// Whether the store or memory failed.
+fn is_failure(outcome: &Result<usize, Fault>) -> bool
+    ensures { result ≡ is_failure outcome.now }
+{
+    matches!(outcome, Err(Fault::Refused(Refusal::Failed(_))))
+}
+
 /// The time since 1970, if the system's clock shows a later one.
 fn time_now(rt: &impl Clock) -> Option<Duration> {
     SystemTime::now(rt).ok()?.duration_since(UNIX_EPOCH).ok()
@@ -97,20 +120,36 @@ fn answer_at_once<
     folder: HostStore<R>,
     alloc: Global,
     asking: &Asking<'_, R>,
-) -> (HostStore<R>, Result<usize, Fault>, Counts) {
+) -> (HostStore<R>, Result<usize, Fault>, Counts)
+    ensures { AnswersOnce ⟦<HostStore<R> as Store>⟧ ⟦<Printed<'static, R> as Sink>⟧ (λ store. store.folder.unsynced)
+        asking.now.lists_names asking.now.request.now asking.now.options folder result.0 result.1 }
+{
     let mut folder = folder;
     folder.go_to_handles(asking.rt, alloc);
     let progress = asking.progress;
     let mut out = Output::new(ClearedOutput::new(progress, io::writer(asking.rt)));
-    let (request, options) = (asking.request, asking.options);
-    let (mut folder, outcome, counts) = if asking.lists_names {
-        list_on_folder(folder, progress, alloc, request, options, &mut out)
-    } else {
-        run_on_folder(folder, progress, alloc, request, options, &mut out)
-    };
+    let (mut folder, outcome, counts) = answer_on_folder(folder, alloc, asking, &mut out);
     folder.come_back(asking.rt, alloc);
     progress.clear();
     (folder, outcome, counts)
+}
+
+/// Carries the request out and writes the answer, or the list of the names that it finds.
+fn answer_on_folder<R: Files<File = File> + AllocGlobal + Clock + Eprint + Clone + Drop, O: Sink>(
+    folder: HostStore<R>,
+    alloc: Global,
+    asking: &Asking<'_, R>,
+    out: &mut O,
+) -> (HostStore<R>, Result<usize, Fault>, Counts)
+    ensures { Answers ⟦<HostStore<R> as Store>⟧ O.Sink asking.now.lists_names asking.now.request.now
+        asking.now.options folder result.0 out.old out.new result.1 }
+{
+    let (progress, request, options) = (asking.progress, asking.request, asking.options);
+    if asking.lists_names {
+        list_on_folder(folder, progress, alloc, request, options, out)
+    } else {
+        run_on_folder(folder, progress, alloc, request, options, out)
+    }
 }
 
 /// Why the first path can't be written that the call would change and that can't be, if there is
@@ -119,7 +158,9 @@ fn first_access_refusal<R: Files<File = File> + AllocGlobal + Clone + Drop>(
     folder: HostStore<R>,
     alloc: Global,
     call: &Call,
-) -> (HostStore<R>, Option<AccessRefusal>) {
+) -> (HostStore<R>, Option<AccessRefusal>)
+    ensures { LooksThenStays ⟦<HostStore<R> as Store>⟧ (λ store. store.folder.unsynced) folder result.0 }
+{
     let (mut folder, path_outcomes) = preview(alloc, folder, call);
     let access_refusal = match path_outcomes {
         Ok(path_outcomes) => access_refusal_among(alloc, &mut folder, path_outcomes.as_slice()),
@@ -132,7 +173,9 @@ fn access_refusal_among<R: Files<File = File> + AllocGlobal + Clone + Drop>(
     alloc: Global,
     folder: &mut HostStore<R>,
     path_outcomes: &[PathOutcome],
-) -> Option<AccessRefusal> {
+) -> Option<AccessRefusal>
+    ensures { folder.new.folder.unsynced ≡ folder.old.folder.unsynced }
+{
     if is_refused(path_outcomes) {
         return None;
     }
@@ -151,7 +194,9 @@ fn access_refusal_of<R: Files<File = File> + AllocGlobal + Clone + Drop>(
     alloc: Global,
     folder: &mut HostStore<R>,
     path: &PathText,
-) -> Option<AccessRefusal> {
+) -> Option<AccessRefusal>
+    ensures { folder.new.folder.unsynced ≡ folder.old.folder.unsynced }
+{
     if ends_in_long_name(path.text()) {
         return Some(AccessRefusal::NameTooLong(file_of(alloc, path)?));
     }
@@ -168,11 +213,13 @@ fn file_of(alloc: Global, path: &PathText) -> Option<PathText> {
 
 /// What a call would do, path by path. Nothing is changed, unless a step is pending, which is
 /// rolled back.
-fn preview<S: Store + Drop>(
+pub fn preview<S: Store + Drop>(
     alloc: Global,
     store: S,
     call: &Call,
-) -> (S, Result<PathOutcomes, Refusal>) {
+) -> (S, Result<PathOutcomes, Refusal>)
+    ensures { LooksAt S.Store store result.0 }
+{
     match Session::open(alloc, store) {
         Ok(opened) => {
             let mut session = opened;

@@ -1,17 +1,20 @@
 //! What is wrong with the files of a journal, for notes. It only reads, and no call depends on it.
 //! `diagnostics` calls it, and `print` has the words. Tested by `tests/notes.sh`.
+ghost use Rattle.std.specs.Prelude.{◌≡◌};
 ghost use Rattle.reuse_store.specs.Asked.{OnlyReads};
 
 use reuse_change::PathText;
 use reuse_change::layout::{
     ABOVE_JOURNAL, BEHIND_NUMBER, FIRST_NAME, HEAD_NAME, JOURNAL, LARGEST_ENTRY, LATEST_FORMAT,
 };
+use reuse_folder::HostStore;
 use reuse_store::{Reading, Store};
 use reuse_text::LONGEST_FILE;
 use serde_json::Value;
 use std::alloc::{AllocError, Global};
+use std::fs::{self, File};
+use std::io;
 use std::rt::Files;
-use std::{fs, io};
 
 /// What is wrong with a file of the journal.
 #[derive(Clone, Copy, PartialEq, Eq)]
@@ -62,8 +65,13 @@ impl JournalDamage {
 
 /// What is wrong with the file that a journal was refused for. An allocation failure or a fault
 /// leaves it out.
-pub fn damage_of<S: Store>(alloc: Global, store: &mut S, path: &PathText) -> Option<JournalDamage>
-    ensures { OnlyReads S.Store store.old store.new }
+pub fn damage_of<R: Files<File = File> + AllocGlobal + Clone + Drop>(
+    alloc: Global,
+    store: &mut HostStore<R>,
+    path: &PathText,
+) -> Option<JournalDamage>
+    ensures reads { OnlyReads ⟦<HostStore<R> as Store>⟧ store.old store.new }
+    ensures noted { store.new.folder.unsynced ≡ store.old.folder.unsynced }
 {
     let text = path.text();
     if text == ABOVE_JOURNAL || text == JOURNAL {

@@ -1,31 +1,25 @@
 //! What is found out about a call beside its outcome, for notes.
-ghost use Rattle.reuse_store.specs.Asked.{OnlyReads};
+ghost use Rattle.std.specs.Prelude.{◌≡◌, ◌⊎◌};
+ghost use Rattle.reuse_undo.specs.run.OneCall.{LooksAt, StaysThenLooks};
 
 use crate::run::above::journal_above;
+use crate::run::answering::preview;
 use crate::run::damage::{JournalDamage, MissingHead, damage_of, is_gone, steps_without_head};
+use crate::run::reads::is_table_empty;
 use reuse_arguments::line::Line;
 use reuse_change::PathText;
-use reuse_change::layout::HEAD;
 use reuse_command::command::FileAmendment;
 use reuse_folder::{Failure, HostStore, OwnerReport};
 use reuse_print::fault::Fault;
 use reuse_ready::tally;
-use reuse_session::{
-    Call, Command, Counts, Head, PathOutcome, Refusal, Request, Scope, Session, Unknown, Unused,
-    decode_head,
-};
-use reuse_store::{Reading, Store};
-use reuse_text::{Bytes, LONGEST_FILE};
+use reuse_session::{Call, Command, Counts, PathOutcome, Refusal, Request, Scope, Unknown, Unused};
+use reuse_store::Store;
+use reuse_text::Bytes;
 use reuse_toml::{Glob, glob_matches};
 use std::alloc::{AllocError, Global};
 use std::fs::{self, File};
 use std::io::{self, ErrorKind};
 use std::rt::Files;
-
-const TABLE: &str = "REUSE.toml";
-
-/// What each paragraph of the table begins with.
-const TABLE_PARAGRAPH: &str = "[[annotations]]";
 
 /// What is asked for, as far as notes depend on it.
 #[derive(Clone, Copy, PartialEq, Eq)]
@@ -158,26 +152,28 @@ impl Diagnostics {
         }
     }
 
-    /// Adds what is found after the call of a line.
+    /// Adds what is found after the call of a line. The folder is given back.
     pub fn look_after<R: Files<File = File> + AllocGlobal + Clone + Drop>(
         &mut self,
         rt: &R,
         alloc: Global,
-        mut folder: HostStore<R>,
+        folder: HostStore<R>,
         request: &Request,
         outcome: &Result<usize, Fault>,
-    ) {
+    ) -> HostStore<R>
+        ensures { StaysThenLooks ⟦<HostStore<R> as Store>⟧ (λ store. store.folder.unsynced) folder result }
+    {
+        let mut folder = folder;
         self.look_at_folder(rt, alloc, &mut folder, outcome);
-        if self.kind == RequestKind::Conversion {
-            self.is_table_empty = is_table_empty(alloc, &mut folder);
-        }
         if let Some(scope) = scope_of(request) {
             let passed = folder.passed_over();
             if let Ok(idle) = idle_globs(alloc, scope, &self.counts.unused, passed) {
                 self.idle_globs = idle;
             }
         }
-        self.unrecognised = self.unrecognised_by(alloc, folder, request, outcome);
+        let (folder, unrecognised) = self.unrecognised_by(alloc, folder, request, outcome);
+        self.unrecognised = unrecognised;
+        folder
     }
 
     /// The files whose names aren't recognised, where the call was refused for one or passed them
@@ -190,13 +186,31 @@ impl Diagnostics {
         folder: S,
         request: &Request,
         outcome: &Result<usize, Fault>,
-    ) -> Unrecognised {
-        let found = match (request, outcome) {
+    ) -> (S, Unrecognised)
+        ensures { (result.0 ≡ folder) ⊎ LooksAt S.Store folder result.0 }
+    {
+        if let (
+            Request::Make(call @ Call::Run(_), _),
+            Err(Fault::Refused(Refusal::Unrecognised(_))),
+        ) = (request, outcome)
+        {
+            return unrecognised_names(alloc, folder, call);
+        }
+        let counted = self.unrecognised_in(alloc, request, outcome);
+        (folder, counted.unwrap_or_default())
+    }
+
+    /// Those of them that were counted, or that the path outcomes show.
+    fn unrecognised_in(
+        &self,
+        alloc: Global,
+        request: &Request,
+        outcome: &Result<usize, Fault>,
+    ) -> Option<Unrecognised> {
+        match (request, outcome) {
             (_, Err(Fault::WouldRefuse(path_outcomes))) => {
                 unrecognised_among(alloc, path_outcomes.as_slice())
             }
-            (Request::Make(Call::Run(command), _), Err(Fault::Refused(Refusal::Unrecognised(_)))) =>
-                unrecognised_names(alloc, folder, command),
             (Request::Make(Call::Run(Command::Annotate { scope, .. }), _), Ok(_))
                 if passes_over(scope) => {
                 Some(Unrecognised {
@@ -205,8 +219,7 @@ impl Diagnostics {
                 })
             }
             _ => None,
-        };
-        found.unwrap_or_default()
+        }
     }
 
     /// Adds what is found after any request.
@@ -216,7 +229,9 @@ impl Diagnostics {
         alloc: Global,
         folder: &mut HostStore<R>,
         outcome: &Result<usize, Fault>,
-    ) {
+    )
+        ensures { folder.new.folder.unsynced ≡ folder.old.folder.unsynced }
+    {
         self.failure = folder.take_failure();
         self.is_by_path = folder.is_by_path();
         self.lock_error = folder.lock_error();
@@ -230,6 +245,9 @@ impl Diagnostics {
         }
         if let (Some(path), Some(root)) = (moved_path(outcome), &self.root) {
             self.is_gone = is_gone(rt, alloc, root.as_str(), path).unwrap_or(false);
+        }
+        if self.kind == RequestKind::Conversion {
+            self.is_table_empty = is_table_empty(alloc, folder);
         }
     }
 }
@@ -334,15 +352,16 @@ fn passes_over(scope: &Scope) -> bool {
     scope.unknown == Unknown::Skip && !scope.skip_existing
 }
 
-/// The files that the command goes through and whose names aren't recognised.
-fn unrecognised_names<S: Store + Drop>(
-    alloc: Global,
-    folder: S,
-    command: &Command,
-) -> Option<Unrecognised> {
-    let mut session = Session::open(alloc, folder).ok()?;
-    let path_outcomes = session.preview(alloc, command).ok()?;
-    unrecognised_among(alloc, path_outcomes.as_slice())
+/// The files that the call goes through and whose names aren't recognised.
+fn unrecognised_names<S: Store + Drop>(alloc: Global, folder: S, call: &Call) -> (S, Unrecognised)
+    ensures { LooksAt S.Store folder result.0 }
+{
+    let (folder, path_outcomes) = preview(alloc, folder, call);
+    let found = match path_outcomes {
+        Ok(path_outcomes) => unrecognised_among(alloc, path_outcomes.as_slice()),
+        Err(_) => None,
+    };
+    (folder, found.unwrap_or_default())
 }
 
 /// The files that are refused among the path outcomes, since their names aren't recognised.
@@ -358,42 +377,4 @@ fn unrecognised_among(alloc: Global, path_outcomes: &[PathOutcome]) -> Option<Un
         files: paths.len(),
         names,
     })
-}
-
-fn read<S: Store>(alloc: Global, store: &mut S, path: &str) -> Option<Bytes>
-    ensures { OnlyReads S.Store store.old store.new }
-{
-    let path = PathText::new(alloc, path).ok()?;
-    match store.read(alloc, &path, LONGEST_FILE) {
-        Ok(Reading::Found(bytes)) => Some(bytes),
-        _ => None,
-    }
-}
-
-fn head_of<S: Store>(alloc: Global, store: &mut S) -> Option<Head>
-    ensures { OnlyReads S.Store store.old store.new }
-{
-    let text = read(alloc, store, HEAD)?;
-    decode_head(alloc, text.as_slice()).ok()
-}
-
-/// The step that is pending.
-pub fn pending_step<S: Store>(alloc: Global, store: &mut S) -> Option<u32>
-    ensures { OnlyReads S.Store store.old store.new }
-{
-    let pending = head_of(alloc, store)?.pending?;
-    Some(pending.entry)
-}
-
-/// Whether there is a table, and it has no paragraph.
-fn is_table_empty<S: Store>(alloc: Global, store: &mut S) -> bool
-    ensures { OnlyReads S.Store store.old store.new }
-{
-    match read(alloc, store, TABLE) {
-        Some(bytes) => match str::from_utf8(bytes.as_slice()) {
-            Ok(text) => !text.contains(TABLE_PARAGRAPH),
-            Err(_) => false,
-        },
-        None => false,
-    }
 }

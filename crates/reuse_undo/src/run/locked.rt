@@ -1,9 +1,19 @@
 //! Carries out what was asked for, on the folder that it names and while no other run works there.
 //! It prints the answer on standard output, and finds out what notes report.
+ghost use Rattle.std.specs.Prelude.{◌≡◌, ◌⊎◌, IfOk, IfErr, string_bytes, false, true};
+ghost use Rattle.reuse_change.specs.Layout.{journal_folder};
+ghost use Rattle.reuse_arguments.specs.Requests.{with_texts};
+ghost use Rattle.reuse_disk.specs.Noted.{IsNoted};
+ghost use Rattle.reuse_print.specs.declared.fault.Fault.TheVariants as faults;
+ghost use Rattle.reuse_undo.specs.run.LineRuns.{AnswersLine, OpensFolder, RunsLine, WorksUnlessDenied};
+ghost use Rattle.reuse_undo.specs.run.LineRuns.{is_listing, options_of};
+ghost use Rattle.reuse_undo.specs.run.OneCall.{StaysNoted, StaysThenLooks};
+
 use crate::run::access_refusal::AccessRefusal;
 use crate::run::adding::with_styles;
-use crate::run::answering::{Asking, CallEnding, answer};
-use crate::run::diagnostics::{Diagnostics, RequestKind, pending_step};
+use crate::run::answering::{Asking, CallEnding, Printed, answer};
+use crate::run::diagnostics::{Diagnostics, RequestKind};
+use crate::run::reads::pending_step;
 use crate::run::run_result::{RunResult, rolled_back_step};
 use crate::run::texts::find_texts;
 use reuse_arguments::line::{Line, NamesUse, PrintOptions};
@@ -12,9 +22,11 @@ use reuse_arguments::settings::Settings;
 use reuse_folder::HostStore;
 use reuse_lock::{RootLock, lock_root};
 use reuse_print::fault::Fault;
+use reuse_print::output::Sink;
 use reuse_session::{Counts, LicenceTexts, Refusal, Request};
 use reuse_shown::progress::Progress;
 use reuse_shown::shown_name::NameDisplay;
+use reuse_store::Store;
 use std::alloc::{AllocError, Global};
 use std::fs::File;
 use std::rt::{Clock, Env, Files};
@@ -35,9 +47,16 @@ pub fn run_line<R: Files<File = File> + AllocGlobal + Clock + Env + Print + Epri
     alloc: Global,
     line: Line,
     run_options: RunOptions,
-) -> RunResult {
+) -> RunResult
+    ensures { RunsLine ⟦<HostStore<R> as Store>⟧ ⟦<Printed<'static, R> as Sink>⟧ (λ store. store.folder.unsynced)
+        line run_options result }
+{
     match tools_for(rt, alloc, &line, run_options) {
-        Ok(tools) => work_with(rt, alloc, tools, line, run_options),
+        Ok(tools) => {
+            let (folder, run_result) = work_with(rt, alloc, tools, line, run_options);
+            drop(folder);
+            run_result
+        }
         Err(fault) => {
             drop(line);
             RunResult::fault(fault)
@@ -59,7 +78,11 @@ fn tools_for<R: Files<File = File> + AllocGlobal + Clock + Eprint + Clone + Drop
     alloc: Global,
     line: &Line,
     run_options: RunOptions,
-) -> Result<(HostStore<R>, LicenceTexts, Progress<R>), Fault> {
+) -> Result<(HostStore<R>, LicenceTexts, Progress<R>), Fault>
+    ensures opens { IfOk result
+        (λ tools. OpensFolder (string_bytes line.now.root) run_options.settings tools.0.folder.unsynced) }
+    ensures fault { IfErr result (λ fault. (fault ≡ faults.InUse) ⊎ (fault ≡ faults.Memory)) }
+{
     let lock = lock_root(rt, alloc, line.root.as_str())?;
     let texts = texts_for(rt, alloc, line)?;
     let progress = Progress::new(rt.clone()?, run_options.progress);
@@ -72,7 +95,10 @@ fn folder_at<R: Files<File = File> + AllocGlobal + Clone + Drop>(
     rt: &R,
     lock: RootLock,
     settings: Settings,
-) -> Result<HostStore<R>, AllocError> {
+) -> Result<HostStore<R>, AllocError>
+    ensures syncs { IfOk result (λ folder. folder.folder.unsynced.syncs ≡ settings.syncs) }
+    ensures noted { IfOk result (λ folder. IsNoted folder.folder.unsynced journal_folder) }
+{
     Ok(HostStore::at(rt.clone()?, lock, settings.syncs, settings.owner_change))
 }
 
@@ -81,7 +107,10 @@ fn is_denied<R: Files<File = File> + AllocGlobal + Clone + Drop>(
     alloc: Global,
     folder: &mut HostStore<R>,
     run_options: RunOptions,
-) -> bool {
+) -> bool
+    ensures untrusted { result ≡ true → run_options.settings.trusts_journal ≡ false }
+    ensures noted { folder.new.folder.unsynced ≡ folder.old.folder.unsynced }
+{
     !run_options.settings.trusts_journal && folder.is_journal_of_other(alloc)
 }
 
@@ -92,7 +121,9 @@ fn step_to_note<R: Files<File = File> + AllocGlobal + Clone + Drop>(
     folder: &mut HostStore<R>,
     request: &Request,
     run_options: RunOptions,
-) -> Option<u32> {
+) -> Option<u32>
+    ensures { folder.new.folder.unsynced ≡ folder.old.folder.unsynced }
+{
     let pending = pending_step(alloc, folder)?;
     if let Request::Recover { .. } = request {
         folder.expect_rollback();
@@ -103,18 +134,22 @@ fn step_to_note<R: Files<File = File> + AllocGlobal + Clone + Drop>(
     Some(pending)
 }
 
+/// Carries out the line on the folder, which is given back.
 fn work_with<R: Files<File = File> + AllocGlobal + Clock + Env + Print + Eprint + Clone + Drop>(
     rt: &R,
     alloc: Global,
     tools: (HostStore<R>, LicenceTexts, Progress<R>),
     line: Line,
     run_options: RunOptions,
-) -> RunResult {
+) -> (HostStore<R>, RunResult)
+    ensures { WorksUnlessDenied ⟦<HostStore<R> as Store>⟧ ⟦<Printed<'static, R> as Sink>⟧
+        (λ store. store.folder.unsynced) line run_options tools.1 tools.0 result.0 result.1 }
+{
     let (mut folder, texts, progress) = tools;
     if is_denied(alloc, &mut folder, run_options) {
         drop(line);
         drop(texts);
-        return RunResult::denied(AccessRefusal::JournalOfAnother);
+        return (folder, RunResult::denied(AccessRefusal::JournalOfAnother));
     }
     let pending = step_to_note(alloc, &mut folder, &line.request, run_options);
     let mut diagnostics = found_before(rt, alloc, &line, pending, run_options.notes);
@@ -126,13 +161,14 @@ fn work_with<R: Files<File = File> + AllocGlobal + Clock + Env + Print + Eprint 
         diagnostics.counts = counts;
     }
     let rolled_back = rolled_back_step(pending, folder.rolled_back());
-    let diagnostics = found_after(rt, alloc, diagnostics, folder, &request, &ending);
+    let (folder, diagnostics) = found_after(rt, alloc, diagnostics, folder, &request, &ending);
     drop(request);
-    RunResult {
+    let run_result = RunResult {
         ending,
         rolled_back,
         diagnostics,
-    }
+    };
+    (folder, run_result)
 }
 
 /// In which way a request is answered.
@@ -145,7 +181,10 @@ struct AnswerWay {
 
 impl AnswerWay {
     /// That of a line.
-    fn of(line: &Line, run_options: RunOptions) -> AnswerWay {
+    fn of(line: &Line, run_options: RunOptions) -> AnswerWay
+        ensures names { result.names ≡ line.now.names }
+        ensures options { result.options ≡ options_of line.now run_options }
+    {
         AnswerWay {
             names: line.names,
             options: PrintOptions {
@@ -165,7 +204,10 @@ fn answer_in<R: Files<File = File> + AllocGlobal + Clock + Env + Print + Eprint 
     alloc: Global,
     request: Request,
     way: AnswerWay,
-) -> (HostStore<R>, Request, CallEnding, Counts) {
+) -> (HostStore<R>, Request, CallEnding, Counts)
+    ensures { AnswersLine ⟦<HostStore<R> as Store>⟧ ⟦<Printed<'static, R> as Sink>⟧
+        (λ store. store.folder.unsynced) way.names way.options request folder result.0 result.1 result.2 }
+{
     let (folder, request, refusal) = with_styles(rt, progress, folder, alloc, request, way.names);
     if let Some(refusal) = refusal {
         let ending = Ok(Err(Fault::Refused(refusal)));
@@ -175,15 +217,24 @@ fn answer_in<R: Files<File = File> + AllocGlobal + Clock + Env + Print + Eprint 
         rt,
         progress,
         request: &request,
-        lists_names: matches!(way.names, NamesUse::Listed),
+        lists_names: is_listing(way.names),
         options: way.options,
     };
     let (folder, ending, counts) = answer(folder, alloc, &asking);
     (folder, request, ending, counts)
 }
 
+/// Whether the names are listed.
+fn is_listing(names: NamesUse) -> bool
+    ensures { result ≡ is_listing names }
+{
+    matches!(names, NamesUse::Listed)
+}
+
 /// The request of a line with the texts that were found for it.
-fn request_of(line: Line, texts: LicenceTexts) -> Request {
+fn request_of(line: Line, texts: LicenceTexts) -> Request
+    ensures { result ≡ with_texts texts line.request }
+{
     let Line {
         root: _,
         request,
@@ -209,6 +260,7 @@ fn found_before<R: Files + AllocGlobal + Clone + Drop>(
     }
 }
 
+/// The folder is given back.
 fn found_after<R: Files<File = File> + AllocGlobal + Clone + Drop>(
     rt: &R,
     alloc: Global,
@@ -216,15 +268,14 @@ fn found_after<R: Files<File = File> + AllocGlobal + Clone + Drop>(
     folder: HostStore<R>,
     request: &Request,
     ending: &CallEnding,
-) -> Option<Diagnostics> {
+) -> (HostStore<R>, Option<Diagnostics>)
+    ensures { StaysThenLooks ⟦<HostStore<R> as Store>⟧ (λ store. store.folder.unsynced) folder result.0 }
+{
     match (diagnostics, ending) {
         (Some(mut diagnostics), Ok(outcome)) => {
-            diagnostics.look_after(rt, alloc, folder, request, outcome);
-            Some(diagnostics)
+            let folder = diagnostics.look_after(rt, alloc, folder, request, outcome);
+            (folder, Some(diagnostics))
         }
-        (diagnostics, _) => {
-            drop(folder);
-            diagnostics
-        }
+        (diagnostics, _) => (folder, diagnostics),
     }
 }

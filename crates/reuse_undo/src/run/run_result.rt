@@ -1,5 +1,7 @@
 //! What comes of what was asked for: how it ended, what was rolled back, and what notes report.
 //! `locked` makes it, and `print` reports it.
+ghost use Rattle.std.specs.Prelude.{◌≡◌, Ok, Err};
+
 use crate::run::access_refusal::AccessRefusal;
 use crate::run::answering::CallEnding;
 use crate::run::diagnostics::Diagnostics;
@@ -17,18 +19,26 @@ pub struct RunResult {
 }
 
 impl RunResult {
+    ghost use Rattle.reuse_undo.specs.run.LineRuns.{result_of};
+
     /// It failed before it was begun.
-    pub fn fault(fault: Fault) -> RunResult {
+    pub fn fault(fault: Fault) -> RunResult
+        ensures { result ≡ result_of (Ok (Err fault)) }
+    {
         RunResult::of(Ok(Err(fault)))
     }
 
     /// It was denied.
-    pub fn denied(access_refusal: AccessRefusal) -> RunResult {
+    pub fn denied(access_refusal: AccessRefusal) -> RunResult
+        ensures { result ≡ result_of (Err access_refusal) }
+    {
         RunResult::of(Err(access_refusal))
     }
 
     /// No more than how it ended.
-    fn of(ending: CallEnding) -> RunResult {
+    fn of(ending: CallEnding) -> RunResult
+        ensures { result ≡ result_of ending }
+    {
         RunResult {
             ending,
             rolled_back: None,
