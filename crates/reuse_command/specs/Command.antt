@@ -11,7 +11,7 @@ use Rattle.reuse_command.specs.declared.command.Command.TheVariants.{AddStyles}
 use Rattle.reuse_change.specs.declared.command_name.CommandName.{CommandName}
 use Rattle.reuse_change.specs.declared.command_name.CommandName.TheVariants as names
 use Rattle.reuse_command.specs.declared.command.FileAmendment.{FileAmendment}
-use Rattle.reuse_command.specs.declared.command.FileAmendment.TheVariants.{InHeader, Everywhere}
+use Rattle.reuse_command.specs.declared.command.FileAmendment.TheVariants.{InHeader, Everywhere, Remove}
 use Rattle.reuse_command.specs.declared.command.Place.{Place}
 use Rattle.reuse_command.specs.declared.command.Place.TheVariants.{Root, Path}
 
@@ -32,6 +32,7 @@ is_amend command = false
 abbrev pub values_of : FileAmendment → Amendments
 values_of (InHeader values) = values
 values_of (Everywhere values) = values
+values_of (Remove values removal) = values
 
 -- the changes that a revert takes back are those of an entry
 abbrev pub HoldsEntry : Command → Type 0

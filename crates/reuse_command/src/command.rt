@@ -9,6 +9,7 @@ use reuse_header::{How, NamedStyle};
 use reuse_json::EntryChanges;
 use reuse_notice::Additions;
 use reuse_ready::StyleAdditions;
+use reuse_words::HeaderText;
 use std::alloc::{AllocError, Global};
 
 /// A place of a tree that a command is given.
@@ -77,6 +78,18 @@ pub struct Scope {
     pub excluded: Globs,
 }
 
+/// Texts of a header, in the order in which they are taken out.
+pub type HeaderTexts = FixedList<HeaderText>;
+
+/// What is taken out of a header.
+#[derive(Debug, Drop)]
+pub enum HeaderRemoval {
+    /// Of each text the first run of contents that is the same one. The tags stay.
+    Texts(HeaderTexts),
+    /// All tags, and the block where nothing else is left of it.
+    Header,
+}
+
 /// What amend does with a file.
 #[derive(Debug, Drop)]
 pub enum FileAmendment {
@@ -84,6 +97,9 @@ pub enum FileAmendment {
     InHeader(Amendments),
     /// It amends the values of each tag of its text, or of its neighbour's, where they stand.
     Everywhere(Amendments),
+    /// It amends the values in the file's header block, or in its neighbour, and then takes something
+    /// out of what that makes. A neighbour that is left empty goes.
+    Remove(Amendments, HeaderRemoval),
 }
 
 impl FileAmendment {
@@ -96,6 +112,7 @@ impl FileAmendment {
         match self {
             FileAmendment::InHeader(values) => values,
             FileAmendment::Everywhere(values) => values,
+            FileAmendment::Remove(values, _) => values,
         }
     }
 }

@@ -1,6 +1,6 @@
 -- Where amend is accepted on a tree.
 use Rattle.std.proofs.Common.{◌≡◌, ◌↔◌, inl, inr, ℕ, Bool, true, false, cond, not, ◌&&◌, nat_lt, List, length, Option}
-use Rattle.std.proofs.Common.{Some, None, Result, Ok, Err, refl, sym, ap, subst, ◌∙◌, IsOk}
+use Rattle.std.proofs.Common.{Some, None, Result, Ok, Err, refl, sym, ap, subst, ◌∙◌, IsOk, is_ok}
 use Rattle.reuse_command.specs.Reading.{get, Files}
 use Rattle.std.proofs.lemmas.Bool.{false≢true, and_from, and_parts, ltb-true, ltb-false, le-ltb, lt-ltb}
 use Rattle.std.proofs.lemmas.Option.{none-some, same_Some}
@@ -35,7 +35,7 @@ use Rattle.reuse_style.specs.Kinds.{OwnKinds, kind_of_file}
 use Rattle.reuse_plan.specs.Selected.{amended_paths}
 use Rattle.reuse_command.specs.declared.command.Command.TheVariants.{Amend}
 use Rattle.reuse_command.specs.declared.command.FileAmendment.{FileAmendment}
-use Rattle.reuse_command.specs.declared.command.FileAmendment.TheVariants.{InHeader, Everywhere}
+use Rattle.reuse_command.specs.declared.command.FileAmendment.TheVariants.{InHeader, Everywhere, Remove}
 use Rattle.reuse_command.specs.declared.header_fault.HeaderFault.TheVariants as faults
 use Rattle.reuse_command.specs.declared.command.Place.{Place}
 use Rattle.reuse_command.specs.declared.command.Place.TheVariants as place
@@ -51,6 +51,10 @@ use Rattle.reuse_plan.proofs.Outcomes.{edits_of_tree, done, held, tree_comes}
 use Rattle.reuse_plan.proofs.Results.{err_or}
 use Rattle.reuse_plan.proofs.CommandEdits.{edits_at, amendments_by_names, amendment_edits, of_amendment}
 use Rattle.reuse_plan.proofs.TableLemmas.{not_table}
+use Rattle.reuse_plan.proofs.LeftParts.{beside_parts, inside_parts, turn_done}
+use Rattle.reuse_plan.specs.Amend.{remove_block, removal_edit, some_text}
+use Rattle.reuse_plan.specs.Edit.{edit_to}
+use Rattle.reuse_plan.specs.Removed.{removal_of, text_left, neighbour_removal_of, neighbour_left}
 use Rattle.reuse_plan.specs.Amend.{amend_block}
 use Rattle.reuse_plan.proofs.AmendedFiles.{reason_unread, unread_reason}
 
@@ -120,6 +124,10 @@ beside_is_done (InHeader values) path beside can =
     amendment_done path (neighbour_of path) beside (neighbour_amendment_of values beside) can
 beside_is_done (Everywhere values) path beside can =
     done_rest _ _ _ (ap not can.0) (text_done values path (neighbour_of path) beside can.1)
+beside_is_done (Remove values removal) path beside can =
+    let left = turn_done path (amended_file beside (neighbour_amendment_of values beside))
+    (λ text. neighbour_left text (neighbour_removal_of removal text)) can.0 can.1 can.2 in
+    (edit_to (neighbour_of path) beside left.0, ap (removal_edit (neighbour_of path) beside) left.1)
 
 beside_accepted : (amendment : FileAmendment) (path beside : List ℕ) (given : Option Edit)
     → amend_beside amendment path beside ≡ Ok given → IsNeighbourAccepted amendment beside
@@ -128,6 +136,9 @@ beside_accepted (InHeader values) path beside given h =
 beside_accepted (Everywhere values) path beside given h =
     let text = err_or (not (is_text beside)) (refusals.Header path faults.NotText) _ given h in
     (not_false (is_text beside) text.0, text_accepted values path (neighbour_of path) beside given text.1)
+beside_accepted (Remove values removal) path beside given h =
+    let m = beside_parts values removal path (neighbour_of path) beside given h in
+    (m.amended, m.by_values, ap is_ok m.by_removal)
 
 -- a file that is text
 module _ (scope : Scope) (own : OwnKinds) (path bytes : List ℕ) where
@@ -141,6 +152,17 @@ module _ (scope : Scope) (own : OwnKinds) (path bytes : List ℕ) where
       by_style None of_style = (None, refl)
       by_style (Some style) of_style = amendment_done path path bytes (amendment_of style values bytes) (can style
           (style_reason scope own path bytes scope.style (kind_of_file own path bytes) style refl refl of_style))
+  own_text_done (Remove values removal) can = by_style (style_for scope own path bytes) refl
+    where
+      by_style : (found : Option Style) → style_for scope own path bytes ≡ found
+          → IsDone (remove_block values removal path bytes found)
+      by_style None of_style = (None, refl)
+      by_style (Some style) of_style =
+          let it = can style
+          (style_reason scope own path bytes scope.style (kind_of_file own path bytes) style refl refl of_style) in
+          let left = turn_done path (amended_file bytes (amendment_of style values bytes))
+          (λ text. text_left text (removal_of removal style text)) it.0 it.1 it.2 in
+          (edit_between path bytes left.0, ap (λ x. removal_edit path bytes (some_text x)) left.1)
 
   own_text_accepted : (amendment : FileAmendment) (given : Option Edit)
       → amend_own_text amendment scope own path bytes ≡ Ok given → IsTextAccepted amendment scope own path bytes
@@ -148,10 +170,15 @@ module _ (scope : Scope) (own : OwnKinds) (path bytes : List ℕ) where
   own_text_accepted (InHeader values) given h = λ style styled.
       amendment_accepted path path bytes (amendment_of style values bytes) given
       (sym (ap (amend_block values path bytes) (style_is scope own path bytes style styled)) ∙ h)
+  own_text_accepted (Remove values removal) given h = λ style styled.
+      let m = inside_parts values removal style path bytes given
+      (sym (ap (remove_block values removal path bytes) (style_is scope own path bytes style styled)) ∙ h) in
+      (m.amended, m.by_values, ap is_ok m.by_removal)
 
   test_passed : (amendment : FileAmendment) → IsPassedOver amendment scope own path bytes
       → is_passed_over amendment scope own path bytes ≡ true
   test_passed (InHeader values) is = reason_unread scope own path is
+  test_passed (Remove values removal) is = reason_unread scope own path is
   test_passed (Everywhere values) is =
       and_from (nat_lt LONGEST_FILE (length bytes)) (has_no_style_unread scope own path)
       (lt-ltb LONGEST_FILE (length bytes) is.0) (reason_unread scope own path is.1)
@@ -159,6 +186,7 @@ module _ (scope : Scope) (own : OwnKinds) (path bytes : List ℕ) where
   passed_test : (amendment : FileAmendment) → is_passed_over amendment scope own path bytes ≡ true
       → IsPassedOver amendment scope own path bytes
   passed_test (InHeader values) is = unread_reason scope own path is
+  passed_test (Remove values removal) is = unread_reason scope own path is
   passed_test (Everywhere values) is =
       let parts = and_parts (nat_lt LONGEST_FILE (length bytes)) (has_no_style_unread scope own path) is in
       (ltb-true LONGEST_FILE (length bytes) parts.0, unread_reason scope own path parts.1)

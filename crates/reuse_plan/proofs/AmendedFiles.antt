@@ -31,6 +31,10 @@ use Rattle.reuse_plan.specs.Amend.{amend_covered, table_edit, table_amendment, a
 use Rattle.reuse_plan.specs.Amend.{amended_where, amended_at}
 use Rattle.reuse_plan.specs.Amended.{KeepsOutsideBlock, IsNeighbourAmended, IsFileAmended, HasNoPlace, IsTableAmended}
 use Rattle.reuse_plan.specs.Amended.{IsAmended, BecomesNeighbour, BecomesFile, HasNoText}
+use Rattle.reuse_plan.specs.Amend.{remove_block, removal_edit, some_text}
+use Rattle.reuse_plan.specs.Removed.{left_beside, left_inside}
+use Rattle.reuse_plan.proofs.RemovedFiles.{left_here, left_other, neighbour_keeps, text_keeps, between_edit}
+use Rattle.reuse_plan.proofs.LeftParts.{BesideParts, InsideParts, beside_parts, inside_parts}
 use Rattle.reuse_plan.specs.AmendmentPlan.{Expected}
 use Rattle.reuse_plan.specs.Annotate.{neighbour_of}
 use Rattle.reuse_plan.specs.Annotated.{IsSameAround, IsStyleOf, HasKind, pair_at}
@@ -40,12 +44,13 @@ use Rattle.reuse_plan.specs.Edit.{Edit}
 use Rattle.reuse_style.specs.Kinds.{OwnKinds, kind_of_file, kind_unread}
 use Rattle.reuse_style.proofs.RuleLemmas.{kind_if_unread}
 use Rattle.reuse_command.specs.declared.command.FileAmendment.{FileAmendment}
-use Rattle.reuse_command.specs.declared.command.FileAmendment.TheVariants.{InHeader, Everywhere}
+use Rattle.reuse_command.specs.declared.command.FileAmendment.TheVariants.{InHeader, Everywhere, Remove}
+use Rattle.reuse_command.specs.declared.command.HeaderRemoval.{HeaderRemoval}
 use Rattle.reuse_command.specs.declared.header_fault.HeaderFault.TheVariants as faults
 use Rattle.reuse_command.specs.declared.command.Place.TheVariants as place
 use Rattle.reuse_command.specs.declared.command.Scope.{Scope}
 use Rattle.reuse_command.specs.declared.reply.Refusal.TheVariants as refusals
-use Rattle.reuse_plan.proofs.AnnotatedFiles.{pair_then, pair, IsEditTo, makes_by, then_here, then_other, apart}
+use Rattle.reuse_plan.proofs.AnnotatedFiles.{file_then, pair_then, pair, IsEditTo, makes_by, then_here, then_other, apart}
 use Rattle.reuse_plan.proofs.Annotating.{both_err}
 use Rattle.reuse_plan.proofs.Outcomes.{done}
 use Rattle.reuse_plan.proofs.Results.{err_or, same_Ok}
@@ -240,6 +245,31 @@ module _ (keeps_block : KeepsBlock) (keeps_neighbour : KeepsNeighbour) where
         (by.0.text, keeps_neighbour a bytes by.0 by.1))
   ]
 
+  -- a text whose values are amended is the old one, or an edit makes it
+  block_values_kept : (style : Style) (a : Amendments) (bytes made : List ℕ)
+      → amended_file bytes (amendment_of style a bytes) ≡ Ok made
+      → (made ≡ bytes) ⊎ KeepsOutsideBlock style bytes made
+  block_values_kept style a bytes made h = by_edit (amendment_of style a bytes) refl h
+    where
+      by_edit : (expected : Expected) → amendment_of style a bytes ≡ expected → amended_file bytes expected ≡ Ok made
+          → (made ≡ bytes) ⊎ KeepsOutsideBlock style bytes made
+      by_edit (Ok None) is e = inl (sym (same_Ok bytes made e))
+      by_edit (Err refusal) is e = absurd (cc)
+      by_edit (Ok (Some edit)) is e = inr (subst (KeepsOutsideBlock style bytes)
+          (same_Ok (header.edited bytes edit) made e) (block_kept style a bytes edit is))
+
+  values_kept : (a : Amendments) (bytes made : List ℕ) → amended_file bytes (neighbour_amendment_of a bytes) ≡ Ok made
+      → (made ≡ bytes) ⊎ IsSameAround (mark_len_of bytes) (neighbour_end bytes) bytes made
+  values_kept a bytes made h = by_edit (neighbour_amendment_of a bytes) refl h
+    where
+      by_edit : (expected : Expected) → neighbour_amendment_of a bytes ≡ expected
+          → amended_file bytes expected ≡ Ok made
+          → (made ≡ bytes) ⊎ IsSameAround (mark_len_of bytes) (neighbour_end bytes) bytes made
+      by_edit (Ok None) is e = inl (sym (same_Ok bytes made e))
+      by_edit (Err refusal) is e = absurd (cc)
+      by_edit (Ok (Some edit)) is e = inr (subst (IsSameAround (mark_len_of bytes) (neighbour_end bytes) bytes)
+          (same_Ok (header.edited bytes edit) made e) (edit.text, keeps_neighbour a bytes edit is))
+
   module _ (amendment : FileAmendment) (scope : Scope) (own : OwnKinds) (tree : Files) (path : List ℕ)
       (given : Option Edit) where
     abbrev Becomes : List ℕ → Type 0
@@ -253,18 +283,26 @@ module _ (keeps_block : KeepsBlock) (keeps_neighbour : KeepsNeighbour) where
         → HasNoPlace amendment scope own path bytes (pair_at tree path) → Becomes bytes
     unchanged bytes h none = inl (none, ap (λ g. pair_then tree g path) (sym (same_Ok None given h)))
 
-    -- the neighbour becomes these bytes
-    beside_to : (there made : List ℕ) → get tree (neighbour_of path) ≡ Some there
-        → IsEditTo (neighbour_of path) there made given → BecomesNeighbour amendment there made
+    -- this is left of the neighbour
+    beside_left : (there : List ℕ) (left : Option (List ℕ)) → get tree (neighbour_of path) ≡ Some there
+        → file_then tree given path ≡ get tree path → file_then tree given (neighbour_of path) ≡ left
+        → BecomesNeighbour amendment there left
         → IsNeighbourAmended amendment (pair_at tree path) (pair_then tree given path)
-    beside_to there made is makes becomes = record {
+    beside_left there left is other here becomes = record {
       beside = there;
       there = is;
-      made = made;
+      left = left;
       becomes = becomes;
-      holds = ap₂ pair (then_other tree (neighbour_of path) there made given path makes (apart path))
-          (then_here tree (neighbour_of path) there made given makes is);
+      holds = ap₂ pair other here;
     }
+
+    -- the neighbour becomes these bytes
+    beside_to : (there made : List ℕ) → get tree (neighbour_of path) ≡ Some there
+        → IsEditTo (neighbour_of path) there made given → BecomesNeighbour amendment there (Some made)
+        → IsNeighbourAmended amendment (pair_at tree path) (pair_then tree given path)
+    beside_to there made is makes becomes =
+        beside_left there (Some made) is (then_other tree (neighbour_of path) there made given path makes (apart path))
+        (then_here tree (neighbour_of path) there made given makes is) becomes
 
     -- the file does
     file_to : (bytes made : List ℕ) → get tree path ≡ Some bytes → get tree (neighbour_of path) ≡ None
@@ -293,6 +331,16 @@ module _ (keeps_block : KeepsBlock) (keeps_neighbour : KeepsNeighbour) where
           by_rules = m.by_rules;
           keeps = keeps_values values there m.made m.by_rules;
         })
+    beside_by (Remove values removal) there is h =
+        let m = beside_parts values removal path (neighbour_of path) there given h in
+        beside_left (Remove values removal) scope own tree path given there m.left is
+        (left_other tree (neighbour_of path) there m.left given path m.gives (apart path))
+        (left_here tree (neighbour_of path) there m.left given m.gives is) (record {
+          amended = m.amended;
+          by_values = record { by_rules = m.by_values; keeps = values_kept values there m.amended m.by_values };
+          by_rules = m.by_removal;
+          keeps = neighbour_keeps removal m.amended m.left m.by_removal;
+        })
 
     -- a file without a style stays
     block_by : (values : Amendments) (bytes : List ℕ) (style : Option Style) → get tree path ≡ Some bytes
@@ -312,11 +360,37 @@ module _ (keeps_block : KeepsBlock) (keeps_neighbour : KeepsNeighbour) where
           keeps = file_kept style values bytes given path m;
         })
 
+    removed_by : (values : Amendments) (removal : HeaderRemoval) (bytes : List ℕ) (style : Option Style)
+        → get tree path ≡ Some bytes → get tree (neighbour_of path) ≡ None → style_for scope own path bytes ≡ style
+        → is_text bytes ≡ true → remove_block values removal path bytes style ≡ Ok given
+        → Becomes (Remove values removal) scope own tree path given bytes
+    removed_by values removal bytes None here alone of_style text h =
+        unchanged (Remove values removal) scope own tree path given bytes h
+        (alone, inr (none_reason scope own path bytes scope.style (kind_of_file own path bytes) refl refl of_style))
+    removed_by values removal bytes (Some style) here alone of_style text h =
+        let m = inside_parts values removal style path bytes given h in
+        file_to (Remove values removal) scope own tree path given bytes m.made here alone
+        (between_edit path bytes m.made given m.gives) (record {
+          amended = m.amended;
+          by_values = record {
+            text = text;
+            style = style;
+            of_style =
+                style_reason scope own path bytes scope.style (kind_of_file own path bytes) style refl refl of_style;
+            by_rules = m.by_values;
+            keeps = block_values_kept style values bytes m.amended m.by_values;
+          };
+          by_rules = m.by_removal;
+          keeps = text_keeps removal style m.amended m.made m.by_removal;
+        })
+
     own_text_by : (amendment : FileAmendment) (bytes : List ℕ) → get tree path ≡ Some bytes
         → get tree (neighbour_of path) ≡ None → length bytes ≤ LONGEST_FILE → is_text bytes ≡ true
         → amend_own_text amendment scope own path bytes ≡ Ok given → Becomes amendment scope own tree path given bytes
     own_text_by (InHeader values) bytes here alone short text h =
         block_by values bytes (style_for scope own path bytes) here alone refl text h
+    own_text_by (Remove values removal) bytes here alone short text h =
+        removed_by values removal bytes (style_for scope own path bytes) here alone refl text h
     own_text_by (Everywhere values) bytes here alone short text h =
         let m = text_makes values path path bytes given h in
         file_to (Everywhere values) scope own tree path given bytes m.made here alone m.makes (
@@ -331,6 +405,7 @@ module _ (keeps_block : KeepsBlock) (keeps_neighbour : KeepsNeighbour) where
     passed_by : (amendment : FileAmendment) (bytes : List ℕ) → is_passed_over amendment scope own path bytes ≡ true
         → HasNoText amendment scope own path bytes
     passed_by (InHeader values) bytes passed = inr (unread_none scope own path bytes passed)
+    passed_by (Remove values removal) bytes passed = inr (unread_none scope own path bytes passed)
     passed_by (Everywhere values) bytes passed =
         let parts = and_parts (nat_lt LONGEST_FILE (length bytes)) (has_no_style_unread scope own path) passed in
         inr (ltb-true LONGEST_FILE (length bytes) parts.0, unread_none scope own path bytes parts.1)
@@ -338,6 +413,7 @@ module _ (keeps_block : KeepsBlock) (keeps_neighbour : KeepsNeighbour) where
     not_text : (amendment : FileAmendment) (bytes : List ℕ) → is_text bytes ≡ false
         → HasNoText amendment scope own path bytes
     not_text (InHeader values) bytes e = inl e
+    not_text (Remove values removal) bytes e = inl e
     not_text (Everywhere values) bytes e = inl e
 
   module _ (amendment : FileAmendment) (scope : Scope) (own : OwnKinds) (tree : Files) (path : List ℕ)

@@ -16,16 +16,19 @@ use Rattle.reuse_command.specs.Command.{values_of}
 use Rattle.reuse_plan.specs.Amend.{style_for, is_passed_over, amendment_edit, amend_neighbour, amend_block}
 use Rattle.reuse_plan.specs.Amend.{amend_beside, amend_own_text, amend_inside, amend_covered, text_edit}
 use Rattle.reuse_plan.specs.Amend.{table_amendment, amend_table, amended_where, amended_at}
+use Rattle.reuse_plan.specs.Amend.{remove_block, removal_edit, some_text}
 use Rattle.reuse_plan.specs.Annotate.{neighbour_of, edit_by}
 use Rattle.reuse_plan.specs.Tables.{is_table}
 use Rattle.reuse_command.specs.Covered.{is_covered}
-use Rattle.reuse_plan.specs.Edit.{Edit}
+use Rattle.reuse_plan.specs.Edit.{Edit, dropped, edit_to}
+use Rattle.reuse_plan.specs.Removed.{left_beside, left_inside}
 use Rattle.reuse_style.specs.Kinds.{OwnKinds}
 use Rattle.reuse_command.specs.declared.command.FileAmendment.{FileAmendment}
-use Rattle.reuse_command.specs.declared.command.FileAmendment.TheVariants.{InHeader, Everywhere}
+use Rattle.reuse_command.specs.declared.command.FileAmendment.TheVariants.{InHeader, Everywhere, Remove}
 use Rattle.reuse_command.specs.declared.header_fault.HeaderFault.TheVariants as faults
 use Rattle.reuse_command.specs.declared.command.Place.TheVariants as place
 use Rattle.reuse_command.specs.declared.command.Scope.{Scope}
+use Rattle.reuse_command.specs.declared.reply.Refusal.{Refusal}
 use Rattle.reuse_command.specs.declared.reply.Refusal.TheVariants as refusals
 use Rattle.reuse_plan.proofs.Annotating.{both_err}
 use Rattle.reuse_plan.proofs.BetweenLemmas.{between, between_by}
@@ -42,25 +45,28 @@ pub record IsBeside (path at : List ℕ) : Type 0 where
   pub same : at ≡ neighbour_of path
   pub few : length (neighbour_of path) ≤ 4096
 
+-- an edit of these bytes, at a place: one of some of them, or it takes the file away
+abbrev pub IsEditOf : List ℕ → List ℕ → List ℕ → Edit → Type 0
+IsEditOf path at bytes edit =
+    ((one : header.Edit) × (edit_by path at bytes (Ok one) ≡ some_edit edit)) ⊎ (dropped at bytes ≡ edit)
+
 pub record AmendsThere (tree : Files) (path : List ℕ) (edit : Edit) : Type 0 where
   pub is_file : IsSome (get tree path)
   pub workable : IsWorkable path
   pub at : List ℕ
   pub bytes : List ℕ
-  pub one : header.Edit
   pub here : get tree at ≡ Some bytes
-  pub by : edit_by path at bytes (Ok one) ≡ some_edit edit
+  pub by : IsEditOf path at bytes edit
   pub placed : (at ≡ path) ⊎ IsBeside path at
 
 module _ (path : List ℕ) (edit : Edit) where
-  -- an edit of these bytes, at a place
   abbrev EditOf : List ℕ → List ℕ → Type 0
-  EditOf at bytes = (one : header.Edit) × (edit_by path at bytes (Ok one) ≡ some_edit edit)
+  EditOf at bytes = IsEditOf path at bytes edit
 
   of_expected : (at bytes : List ℕ) (expected : Result (Option header.Edit) AmendHeaderRefusal)
       → amendment_edit path at bytes expected ≡ some_edit edit → EditOf at bytes
   of_expected at bytes (Ok None) e = absurd (cc)
-  of_expected at bytes (Ok (Some one)) e = (one, e)
+  of_expected at bytes (Ok (Some one)) e = inl (one, e)
   of_expected at bytes (Err refusal) e = absurd (cc)
 
   of_text : (at bytes : List ℕ) (made : Option (List ℕ)) → text_edit path at bytes made ≡ some_edit edit
@@ -68,7 +74,13 @@ module _ (path : List ℕ) (edit : Edit) where
   of_text at bytes None e = absurd (cc)
   of_text at bytes (Some new) e =
       let fits = err_or (nat_lt LONGEST_FILE (length new)) (refusals.Header path faults.TooLong) _ (Some edit) e in
-      (between bytes new, sym (between_by bytes new path at) ∙ fits.1)
+      inl (between bytes new, sym (between_by bytes new path at) ∙ fits.1)
+
+  of_left : (at bytes : List ℕ) (left : Result (Option (List ℕ)) Refusal)
+      → removal_edit at bytes left ≡ some_edit edit → EditOf at bytes
+  of_left at bytes (Err refusal) e = absurd (cc)
+  of_left at bytes (Ok None) e = let same : dropped at bytes ≡ edit = cc in inr same
+  of_left at bytes (Ok (Some new)) e = inl (between bytes new, sym (between_by bytes new path at) ∙ e)
 
   of_beside : (amendment : FileAmendment) (bytes : List ℕ) → amend_beside amendment path bytes ≡ some_edit edit
       → EditOf (neighbour_of path) bytes
@@ -76,6 +88,8 @@ module _ (path : List ℕ) (edit : Edit) where
   of_beside (Everywhere values) bytes e =
       let text = err_or (not (is_text bytes)) (refusals.Header path faults.NotText) _ (Some edit) e in
       of_text (neighbour_of path) bytes (amended_everywhere values bytes) text.1
+  of_beside (Remove values removal) bytes e =
+      of_left (neighbour_of path) bytes (left_beside values removal path bytes) e
 
   of_own_text : (amendment : FileAmendment) (scope : Scope) (own : OwnKinds) (bytes : List ℕ)
       → amend_own_text amendment scope own path bytes ≡ some_edit edit → EditOf path bytes
@@ -85,6 +99,12 @@ module _ (path : List ℕ) (edit : Edit) where
       of_style : (style : Option Style) → amend_block values path bytes style ≡ some_edit edit → EditOf path bytes
       of_style None h = absurd (cc)
       of_style (Some style) h = of_expected path bytes (amendment_of style values bytes) h
+  of_own_text (Remove values removal) scope own bytes e = of_style (style_for scope own path bytes) e
+    where
+      of_style : (style : Option Style) → remove_block values removal path bytes style ≡ some_edit edit
+          → EditOf path bytes
+      of_style None h = absurd (cc)
+      of_style (Some style) h = of_left path bytes (some_text (left_inside values removal style path bytes)) h
 
 module _ (amendment : FileAmendment) (scope : Scope) (own : OwnKinds) (tree : Files) (path : List ℕ)
     (edit : Edit) where
@@ -102,9 +122,8 @@ module _ (amendment : FileAmendment) (scope : Scope) (own : OwnKinds) (tree : Fi
         workable = inl covered;
         at = neighbour_of path;
         bytes = bytes;
-        one = one.0;
         here = here;
-        by = one.1;
+        by = one;
         placed = inr (record { same = refl; few = ltb-false 4096 (length (neighbour_of path)) few.0 });
       }
 
@@ -120,9 +139,8 @@ module _ (amendment : FileAmendment) (scope : Scope) (own : OwnKinds) (tree : Fi
         workable = inl covered;
         at = path;
         bytes = bytes;
-        one = one.0;
         here = here;
-        by = one.1;
+        by = one;
         placed = inl refl;
       }
 
@@ -143,9 +161,11 @@ module _ (amendment : FileAmendment) (scope : Scope) (own : OwnKinds) (tree : Fi
         workable = inr table;
         at = path;
         bytes = bytes;
-        one = as_edit change.0;
         here = here;
-        by = as_edit_by (values_of amendment) bytes change.0 change.1 path ∙ ap some_edit change.2;
+        by = inl (
+          as_edit change.0,
+          as_edit_by (values_of amendment) bytes change.0 change.1 path ∙ ap some_edit change.2,
+        );
         placed = inl refl;
       }
 

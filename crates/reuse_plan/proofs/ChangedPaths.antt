@@ -194,7 +194,10 @@ module _
         of_amended : (own : OwnKinds) (path : List ℕ) (edit : Edit)
             → amended_at amendment scope own tree path ≡ some_edit edit → P edit
         of_amended own path edit e = let h = amends_there amendment scope own tree path edit e in
-            there path h.at h.bytes (Ok h.one) edit h.here h.by
+            elim h.by [
+              | inl one ↦ there path h.at h.bytes (Ok one.0) edit h.here one.1
+              | inr dropped_there ↦ subst P dropped_there (gone h.at h.bytes h.here)
+            ]
 
         by_styles : (styles : Result OwnKinds Refusal)
             → amendments_by_names places amendment scope tree styles ≡ Ok edits → AllByRecursion P edits

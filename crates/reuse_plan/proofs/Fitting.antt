@@ -46,7 +46,7 @@ use Rattle.reuse_plan.specs.declared.target.Target.TheVariants.{Inside, InNeighb
 use Rattle.reuse_command.specs.declared.reply.Refusal.{Refusal}
 use Rattle.reuse_command.specs.declared.reply.Refusal.TheVariants as refusals
 use Rattle.reuse_plan.proofs.AmendedPlaces.{amended_ascend}
-use Rattle.reuse_plan.proofs.Amending.{IsBeside, AmendsThere, amends_there}
+use Rattle.reuse_plan.proofs.Amending.{IsBeside, IsEditOf, AmendsThere, amends_there}
 use Rattle.reuse_plan.proofs.Annotating.{starts_reuse, and_all, inside_of_tree, first_is, no_edits, all_edits}
 use Rattle.reuse_plan.proofs.Annotating.{both_err, if_not}
 use Rattle.reuse_plan.proofs.Choosing.{selected_ascend}
@@ -240,9 +240,13 @@ pub amendment_placed : (amendment : FileAmendment) (scope : Scope) (own : OwnKin
     (edit : Edit) → amended_at amendment scope own tree path ≡ some_edit edit → IsPlaced tree path edit
 amendment_placed amendment scope own tree path edit e =
     let h = amends_there amendment scope own tree path edit e in
-    let same = edit_at path h.at h.bytes (Ok h.one) edit h.by in
+    let same = path_is h h.by in
     record { there = h.is_file; workable = h.workable; placed = of_place h same h.placed }
   where
+    path_is : (h : AmendsThere tree path edit) → IsEditOf path h.at h.bytes edit → edit.path ≡ h.at
+    path_is h (inl one) = edit_at path h.at h.bytes (Ok one.0) edit one.1
+    path_is h (inr gone) = ap (λ (x : Edit). x.path) (sym gone)
+
     there : (h : AmendsThere tree path edit) → edit.path ≡ h.at → get tree edit.path ≡ None
         → is_clash tree edit.path ≡ false
     there h same none = let no : Some h.bytes ≡ None = sym h.here ∙ ap (get tree) (sym same) ∙ none in absurd (cc)

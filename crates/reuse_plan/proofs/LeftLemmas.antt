@@ -33,13 +33,13 @@ same_splice : (one other : Splice) → answered (Some one) ≡ answered (Some ot
 same_splice one other e = cc
 
 -- what an edit takes away is as long as it says
-removed_len : (bytes : List ℕ) (start old_len : ℕ) → start + old_len ≤ length bytes
+pub removed_len : (bytes : List ℕ) (start old_len : ℕ) → start + old_len ≤ length bytes
     → length (take old_len (drop start bytes)) ≡ old_len
 removed_len bytes start old_len within =
     length-take-le old_len (drop start bytes) (omega (arith, within, length-drop start bytes))
 
 -- a text is as long as what stays of it and what comes
-spliced_len : (bytes new : List ℕ) (start old_len : ℕ) → start + old_len ≤ length bytes
+pub spliced_len : (bytes new : List ℕ) (start old_len : ℕ) → start + old_len ≤ length bytes
     → length (spliced bytes start old_len new) ≡ length bytes - old_len + length new
 spliced_len bytes new start old_len within =
     let front = take start bytes in

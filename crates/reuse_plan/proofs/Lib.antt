@@ -22,6 +22,7 @@ pub mod EditOrder
 pub mod Fitting
 pub mod FoldersAbove
 pub mod LeftLemmas
+pub mod LeftParts
 pub mod LicenceLemmas
 pub mod Members
 pub mod OneAmendment
@@ -31,6 +32,8 @@ pub mod PathPlanning
 pub mod PlaceLemmas
 pub mod PlacedEdits
 pub mod Planning
+pub mod RemovedFiles
+pub mod Removing
 pub mod Results
 pub mod RevertLaws
 pub mod RevertPlanning

@@ -1,6 +1,6 @@
 -- What amend makes of a tree, said in other words, is one tree.
-use Rattle.std.proofs.Common.{◌≡◌, ◌≢◌, ◌⊎◌, inl, inr, ℕ, List, Some, None, sym, ap, subst, ◌∙◌, true, Contains}
-use Rattle.std.proofs.Common.{arith}
+use Rattle.std.proofs.Common.{◌≡◌, ◌≢◌, ◌⊎◌, inl, inr, ℕ, List, Option, Some, None, sym, ap, ap₂, subst, ◌∙◌, true}
+use Rattle.std.proofs.Common.{Contains, arith}
 use Rattle.reuse_command.specs.Reading.{get, Files}
 use Rattle.std.proofs.lemmas.Bool.{false≢true}
 use Rattle.std.proofs.lemmas.Option.{same_Some, none-some}
@@ -13,7 +13,8 @@ use Rattle.reuse_style.specs.declared.style.Style.{Style}
 use Rattle.reuse_header.specs.Amendment.{amended_file, amendment_of}
 use Rattle.reuse_change.proofs.FileMaps.{same_files}
 use Rattle.reuse_plan.specs.Amended.{IsNeighbourAmended, IsFileAmended, HasNoPlace, IsTableAmended, IsCoveredAmended}
-use Rattle.reuse_plan.specs.Amended.{IsAmended, Amends, HasNoText, BecomesFile, BecomesNeighbour}
+use Rattle.reuse_plan.specs.Amended.{IsAmended, Amends, HasNoText, BecomesFile, BecomesNeighbour, IsBlockAmended}
+use Rattle.reuse_plan.specs.Removed.{removal_of, text_left, neighbour_removal_of, neighbour_left}
 use Rattle.reuse_plan.specs.Amend.{amended_table}
 use Rattle.reuse_plan.specs.Annotate.{neighbour_of}
 use Rattle.reuse_plan.specs.Annotated.{IsStyleOf, HasKind, Pair}
@@ -24,7 +25,7 @@ use Rattle.reuse_command.specs.Covered.{is_covered}
 use Rattle.reuse_style.specs.Kinds.{OwnKinds}
 use Rattle.reuse_plan.specs.Selected.{amended_paths}
 use Rattle.reuse_command.specs.declared.command.FileAmendment.{FileAmendment}
-use Rattle.reuse_command.specs.declared.command.FileAmendment.TheVariants.{InHeader, Everywhere}
+use Rattle.reuse_command.specs.declared.command.FileAmendment.TheVariants.{InHeader, Everywhere, Remove}
 use Rattle.reuse_command.specs.declared.command.Place.{Place}
 use Rattle.reuse_command.specs.declared.command.Scope.{Scope}
 use Rattle.reuse_plan.proofs.OneAnnotation.{one_style, Found, Lacking, searched}
@@ -54,22 +55,49 @@ module _ (scope : Scope) (own : OwnKinds) (path bytes : List ℕ) where
       (uncommentable scope own path bytes file.style) file.of_style is
   becomes_text (InHeader values) made (inr (inr is)) file =
       styled scope own path bytes file.style kind.Unknown (unknown scope own path bytes file.style) file.of_style is
+  becomes_text (Remove values removal) made (inl binary) file = false≢true (sym binary ∙ file.by_values.text)
+  becomes_text (Remove values removal) made (inr (inl is)) file =
+      styled scope own path bytes file.by_values.style kind.Uncommentable
+      (uncommentable scope own path bytes file.by_values.style) file.by_values.of_style is
+  becomes_text (Remove values removal) made (inr (inr is)) file =
+      styled scope own path bytes file.by_values.style kind.Unknown
+      (unknown scope own path bytes file.by_values.style) file.by_values.of_style is
   becomes_text (Everywhere values) made (inl binary) file = false≢true (sym binary ∙ file.1.text)
   becomes_text (Everywhere values) made (inr long) file = omega (arith, long.0, file.0)
+
+  block_one : (values : Amendments) (made other : List ℕ) (one : IsBlockAmended values scope own path bytes made)
+      (two : IsBlockAmended values scope own path bytes other) → (one.style ≡ two.style) × (made ≡ other)
+  block_one values made other one two =
+      let style = one_style scope own path bytes one.style two.style one.of_style two.of_style in (
+        style,
+        same_Ok made other (sym one.by_rules ∙ ap (λ s. amended_file bytes (amendment_of s values bytes)) style
+            ∙ two.by_rules),
+      )
 
   becomes_file : (amendment : FileAmendment) (made other : List ℕ) → BecomesFile amendment scope own path bytes made
       → BecomesFile amendment scope own path bytes other → made ≡ other
   becomes_file (InHeader values) made other one two =
-      let style = one_style scope own path bytes one.style two.style one.of_style two.of_style in
-      same_Ok made other (sym one.by_rules ∙ ap (λ s. amended_file bytes (amendment_of s values bytes)) style
-      ∙ two.by_rules)
+      (block_one values made other one two).1
+  becomes_file (Remove values removal) made other one two =
+      let same = block_one values one.amended two.amended one.by_values two.by_values in
+      same_Ok made other (sym one.by_rules
+      ∙ ap₂ (λ (s : Style) (m : List ℕ). text_left m (removal_of removal s m)) same.0 same.1 ∙ two.by_rules)
   becomes_file (Everywhere values) made other one two = same_Some made other (sym one.1.by_rules ∙ two.1.by_rules)
 
-becomes_neighbour : (amendment : FileAmendment) (beside made other : List ℕ) → BecomesNeighbour amendment beside made
-    → BecomesNeighbour amendment beside other → made ≡ other
-becomes_neighbour (InHeader values) beside made other one two = same_Ok made other (sym one.by_rules ∙ two.by_rules)
-becomes_neighbour (Everywhere values) beside made other one two =
-    same_Some made other (sym one.by_rules ∙ two.by_rules)
+becomes_neighbour : (amendment : FileAmendment) (beside : List ℕ) (left other : Option (List ℕ))
+    → BecomesNeighbour amendment beside left → BecomesNeighbour amendment beside other → left ≡ other
+becomes_neighbour (InHeader values) beside None other one two = absurd one
+becomes_neighbour (InHeader values) beside (Some made) None one two = absurd two
+becomes_neighbour (InHeader values) beside (Some made) (Some other) one two =
+    ap (λ (m : List ℕ). Some m) (same_Ok made other (sym one.by_rules ∙ two.by_rules))
+becomes_neighbour (Everywhere values) beside None other one two = absurd one
+becomes_neighbour (Everywhere values) beside (Some made) None one two = absurd two
+becomes_neighbour (Everywhere values) beside (Some made) (Some other) one two =
+    ap (λ (m : List ℕ). Some m) (same_Some made other (sym one.by_rules ∙ two.by_rules))
+becomes_neighbour (Remove values removal) beside left other one two =
+    let same = same_Ok one.amended two.amended (sym one.by_values.by_rules ∙ two.by_values.by_rules) in
+    same_Ok left other (sym one.by_rules
+    ∙ ap (λ (m : List ℕ). neighbour_left m (neighbour_removal_of removal m)) same ∙ two.by_rules)
 
 module _ (amendment : FileAmendment) (scope : Scope) (own : OwnKinds) (path bytes : List ℕ) (old : Pair) where
   has_place : (new : Pair) → HasNoPlace amendment scope own path bytes old
@@ -86,9 +114,9 @@ module _ (amendment : FileAmendment) (scope : Scope) (own : OwnKinds) (path byte
       → IsNeighbourAmended amendment old other → new ≡ other
   both_neighbours new other one two =
       let beside = same_Some one.beside two.beside (sym one.there ∙ two.there) in
-      let made = becomes_neighbour amendment two.beside one.made two.made
-      (subst (λ (b : List ℕ). BecomesNeighbour amendment b one.made) beside one.becomes) two.becomes in
-      one.holds ∙ ap (λ (m : List ℕ). record { file = old.file; neighbour = Some m }) made ∙ sym two.holds
+      let left = becomes_neighbour amendment two.beside one.left two.left
+      (subst (λ (b : List ℕ). BecomesNeighbour amendment b one.left) beside one.becomes) two.becomes in
+      one.holds ∙ ap (λ (m : Option (List ℕ)). record { file = old.file; neighbour = m }) left ∙ sym two.holds
 
   no_neighbour_there : (new : Pair) → old.neighbour ≡ None → IsNeighbourAmended amendment old new → ⊥
   no_neighbour_there new alone beside = none-some beside.beside (sym alone ∙ beside.there)

@@ -19,6 +19,7 @@ use Rattle.reuse_dep5.specs.Conversion.{converted}
 use Rattle.reuse_toml.specs.TomlAmending.{toml_amendment_of}
 use Rattle.reuse_change.specs.Files.{Files, Clashes}
 use Rattle.reuse_plan.specs.Amend.{amended_table}
+use Rattle.reuse_plan.specs.Removed.{removal_of, text_left, neighbour_removal_of, neighbour_left}
 use Rattle.reuse_plan.specs.Annotate.{neighbour_of}
 use Rattle.reuse_plan.specs.Annotated.{Pair, pair_at, IsSkipped, IsStyleOf, TakesComment, TakesNeighbour}
 use Rattle.reuse_command.specs.Command.{has_root, values_of}
@@ -33,7 +34,8 @@ use Rattle.reuse_plan.specs.Selected.{amended_paths, selected_paths}
 use Rattle.reuse_command.specs.declared.command.Command.{Command}
 use Rattle.reuse_command.specs.declared.command.Command.TheVariants.{Amend, Annotate, ConvertDep5, Download}
 use Rattle.reuse_command.specs.declared.command.FileAmendment.{FileAmendment}
-use Rattle.reuse_command.specs.declared.command.FileAmendment.TheVariants.{InHeader, Everywhere}
+use Rattle.reuse_command.specs.declared.command.FileAmendment.TheVariants.{InHeader, Everywhere, Remove}
+use Rattle.reuse_command.specs.declared.command.HeaderRemoval.{HeaderRemoval}
 use Rattle.reuse_command.specs.declared.command.Place.{Place}
 use Rattle.reuse_command.specs.declared.command.Scope.{Scope}
 use Rattle.reuse_command.specs.declared.licence.LicenceText.{LicenceText}
@@ -126,9 +128,21 @@ abbrev pub CanTextBeAmended : Amendments → List ℕ → Type 0
 CanTextBeAmended values bytes =
     (made : List ℕ) × (amended_everywhere values bytes ≡ Some made) × (length made ≤ LONGEST_FILE)
 
+-- the rules accept the values, and then what is taken out of the text that they make
+abbrev pub CanBlockBeLeft : Amendments → HeaderRemoval → Style → List ℕ → Type 0
+CanBlockBeLeft values removal style bytes =
+    (amended : List ℕ) × (amended_file bytes (amendment_of style values bytes) ≡ Ok amended)
+    × IsOk (text_left amended (removal_of removal style amended))
+
+abbrev pub CanNeighbourBeLeft : Amendments → HeaderRemoval → List ℕ → Type 0
+CanNeighbourBeLeft values removal beside =
+    (amended : List ℕ) × (amended_file beside (neighbour_amendment_of values beside) ≡ Ok amended)
+    × IsOk (neighbour_left amended (neighbour_removal_of removal amended))
+
 -- the rules accept what a neighbour says; or it is text, and they accept each tag of it
 abbrev pub IsNeighbourAccepted : FileAmendment → List ℕ → Type 0
 IsNeighbourAccepted (InHeader values) beside = IsOk (amended_file beside (neighbour_amendment_of values beside))
+IsNeighbourAccepted (Remove values removal) beside = CanNeighbourBeLeft values removal beside
 IsNeighbourAccepted (Everywhere values) beside = (is_text beside ≡ true) × CanTextBeAmended values beside
 
 -- the path of the neighbour isn't too long, nor is the neighbour, and the rules accept its bytes
@@ -145,6 +159,7 @@ HasNoStyleUnread scope own path =
 -- so it is where a header block is looked for, and where the file is too long
 abbrev pub IsPassedOver : FileAmendment → Scope → OwnKinds → List ℕ → List ℕ → Type 0
 IsPassedOver (InHeader values) scope own path bytes = HasNoStyleUnread scope own path
+IsPassedOver (Remove values removal) scope own path bytes = HasNoStyleUnread scope own path
 IsPassedOver (Everywhere values) scope own path bytes =
     (LONGEST_FILE < length bytes) × HasNoStyleUnread scope own path
 
@@ -152,6 +167,8 @@ IsPassedOver (Everywhere values) scope own path bytes =
 abbrev pub IsTextAccepted : FileAmendment → Scope → OwnKinds → List ℕ → List ℕ → Type 0
 IsTextAccepted (InHeader values) scope own path bytes =
     (style : Style) → IsStyleOf scope own path bytes style → IsOk (amended_file bytes (amendment_of style values bytes))
+IsTextAccepted (Remove values removal) scope own path bytes =
+    (style : Style) → IsStyleOf scope own path bytes style → CanBlockBeLeft values removal style bytes
 IsTextAccepted (Everywhere values) scope own path bytes = CanTextBeAmended values bytes
 
 -- the file isn't too long, and the rules accept its bytes where they are text

@@ -17,7 +17,6 @@ use Rattle.reuse_style.specs.declared.style.Style.{Style}
 use Rattle.reuse_style.specs.declared.style.Kind.{Kind}
 use Rattle.reuse_style.specs.declared.style.Kind.TheVariants as kind
 use Rattle.reuse_header.specs.declared.amendment.AmendHeaderRefusal.{AmendHeaderRefusal}
-use Rattle.reuse_header.specs.declared.amendment.AmendHeaderRefusal.TheVariants as header_refusals
 use Rattle.reuse_style.specs.Kinds.{OwnKinds, kind_of_file, kind_unread}
 use Rattle.reuse_text.specs.declared.TheConstants.{LONGEST_FILE}
 use Rattle.reuse_header.specs.Amendment.{amendment_of, neighbour_amendment_of}
@@ -29,13 +28,15 @@ use Rattle.reuse_change.specs.Listing.{is_folder}
 use Rattle.reuse_plan.specs.Annotate.{neighbour_of, edit_by}
 use Rattle.reuse_command.specs.Covered.{is_covered}
 use Rattle.reuse_command.specs.Command.{values_of}
-use Rattle.reuse_plan.specs.Edit.{Edit, edit_between}
-use Rattle.reuse_plan.specs.HeaderFaults.{refused_by}
+use Rattle.reuse_plan.specs.Edit.{Edit, edit_between, edit_to}
+pub use Rattle.reuse_plan.specs.HeaderFaults.{amend_refused_by}
+use Rattle.reuse_plan.specs.Removed.{left_beside, left_inside}
 use Rattle.reuse_plan.specs.Tables.{is_table}
-use Rattle.reuse_command.specs.declared.amend_fault.AmendFault.TheVariants.{BadExpression, NothingLeft, CannotBeAmended}
+use Rattle.reuse_command.specs.declared.amend_fault.AmendFault.TheVariants.{BadExpression, CannotBeAmended}
 use Rattle.reuse_command.specs.declared.header_fault.HeaderFault.TheVariants as faults
 use Rattle.reuse_command.specs.declared.command.FileAmendment.{FileAmendment}
-use Rattle.reuse_command.specs.declared.command.FileAmendment.TheVariants.{InHeader, Everywhere}
+use Rattle.reuse_command.specs.declared.command.FileAmendment.TheVariants.{InHeader, Everywhere, Remove}
+use Rattle.reuse_command.specs.declared.command.HeaderRemoval.{HeaderRemoval}
 use Rattle.reuse_command.specs.declared.command.Place.TheVariants as place
 use Rattle.reuse_command.specs.declared.command.Scope.{Scope}
 use Rattle.reuse_command.specs.declared.reply.Refusal.{Refusal}
@@ -70,12 +71,6 @@ has_no_style_unread scope own path = is_none scope.style && has_no_style (kind_u
 
 -- ---- what is done at a place
 
--- why a file can't be amended, as a refusal that names it
-abbrev pub amend_refused_by : List ℕ → AmendHeaderRefusal → Refusal
-amend_refused_by path header_refusals.BadExpression = Amend path BadExpression
-amend_refused_by path header_refusals.NothingLeft = Amend path NothingLeft
-amend_refused_by path (header_refusals.Header refusal) = refused_by path refusal
-
 -- what amending makes of the bytes at a place; a refusal names the file
 abbrev pub amendment_edit : List ℕ → List ℕ → List ℕ → Result (Option header.Edit) AmendHeaderRefusal
     → Result (Option Edit) Refusal
@@ -101,6 +96,18 @@ text_edit path at bytes (Some made) =
 abbrev pub amend_text : Amendments → List ℕ → List ℕ → List ℕ → Result (Option Edit) Refusal
 amend_text values path at bytes = text_edit path at bytes (amended_everywhere values bytes)
 
+-- ---- what is taken out of a header
+
+-- the bytes at a place give way to the text that is left of them, unless that is refused
+abbrev pub removal_edit : List ℕ → List ℕ → Result (Option (List ℕ)) Refusal → Result (Option Edit) Refusal
+removal_edit at bytes (Ok left) = Ok (edit_to at bytes left)
+removal_edit at bytes (Err refusal) = Err refusal
+
+-- a file's own text, which is never emptied
+abbrev pub some_text : Result (List ℕ) Refusal → Result (Option (List ℕ)) Refusal
+some_text (Ok made) = Ok (Some made)
+some_text (Err refusal) = Err refusal
+
 -- ---- a neighbour
 
 -- what amending makes of its bytes: of all that it says, or of each tag of it
@@ -110,6 +117,8 @@ amend_beside (InHeader values) path beside =
 amend_beside (Everywhere values) path beside =
     if not (is_text beside) then Err (Header path faults.NotText)
     else amend_text values path (neighbour_of path) beside
+amend_beside (Remove values removal) path beside =
+    removal_edit (neighbour_of path) beside (left_beside values removal path beside)
 
 -- the neighbour that is there, of these bytes
 abbrev pub amend_neighbour : FileAmendment → List ℕ → List ℕ → Result (Option Edit) Refusal
@@ -126,10 +135,17 @@ amend_block values path bytes None = Ok None
 amend_block values path bytes (Some style) =
     amendment_edit path path bytes (amendment_of style values bytes)
 
+-- so it is where something is taken out of it
+abbrev pub remove_block : Amendments → HeaderRemoval → List ℕ → List ℕ → Option Style → Result (Option Edit) Refusal
+remove_block values removal path bytes None = Ok None
+remove_block values removal path bytes (Some style) =
+    removal_edit path bytes (some_text (left_inside values removal style path bytes))
+
 -- the file is passed over, since it has no style whatever it holds: no header block is looked for, and no tag where it
 -- is too long
 abbrev pub is_passed_over : FileAmendment → Scope → OwnKinds → List ℕ → List ℕ → Bool
 is_passed_over (InHeader values) scope own path bytes = has_no_style_unread scope own path
+is_passed_over (Remove values removal) scope own path bytes = has_no_style_unread scope own path
 is_passed_over (Everywhere values) scope own path bytes =
     nat_lt LONGEST_FILE (length bytes) && has_no_style_unread scope own path
 
@@ -137,6 +153,8 @@ is_passed_over (Everywhere values) scope own path bytes =
 abbrev pub amend_own_text : FileAmendment → Scope → OwnKinds → List ℕ → List ℕ → Result (Option Edit) Refusal
 amend_own_text (InHeader values) scope own path bytes = amend_block values path bytes (style_for scope own path bytes)
 amend_own_text (Everywhere values) scope own path bytes = amend_text values path path bytes
+amend_own_text (Remove values removal) scope own path bytes =
+    remove_block values removal path bytes (style_for scope own path bytes)
 
 -- the file, if it is text
 abbrev pub amend_inside : FileAmendment → Scope → OwnKinds → List ℕ → List ℕ → Result (Option Edit) Refusal

@@ -1,6 +1,6 @@
 -- What amend makes of a tree, in other words: each file that is gone through, or its neighbour where that is there,
 -- becomes what the rules say of these bytes alone, a table what they say of its values, and all else stays.
-use Rattle.std.specs.Prelude.{◌≡◌, ◌≢◌, ◌⊎◌, ℕ, ◌<◌, ◌≤◌, true, false, List, [], ◌∷◌, ◌++◌, length, take}
+use Rattle.std.specs.Prelude.{◌≡◌, ◌≢◌, ◌⊎◌, ℕ, ◌<◌, ◌≤◌, true, false, List, [], ◌∷◌, ◌++◌, ◌+◌, length, take, drop}
 use Rattle.std.specs.Prelude.{Option, Some, None, is_some, Ok}
 use Rattle.std.specs.List.{Contains}
 use Rattle.std.specs.Option.{option_map}
@@ -19,7 +19,9 @@ use Rattle.reuse_header.specs.Neighbour.{is_text, neighbour_end}
 use Rattle.reuse_tags.specs.Everywhere.{amended_everywhere, kept_bytes}
 use Rattle.reuse_tags.specs.Placed.{IsChangedInValues}
 use Rattle.reuse_change.specs.Files.{Files}
+use Rattle.reuse_words.specs.Removal.{gap_behind}
 use Rattle.reuse_plan.specs.Amend.{amended_table}
+use Rattle.reuse_plan.specs.Removed.{removal_of, text_left, neighbour_removal_of, neighbour_left}
 use Rattle.reuse_plan.specs.Annotate.{neighbour_of}
 use Rattle.reuse_plan.specs.Annotated.{IsSameAround, IsStyleOf, HasKind, Pair, pair_at}
 use Rattle.reuse_command.specs.Command.{values_of}
@@ -28,7 +30,9 @@ use Rattle.reuse_plan.specs.Tables.{is_table}
 use Rattle.reuse_plan.specs.TreeStyles.{styles_in}
 use Rattle.reuse_plan.specs.Selected.{amended_paths}
 use Rattle.reuse_command.specs.declared.command.FileAmendment.{FileAmendment}
-use Rattle.reuse_command.specs.declared.command.FileAmendment.TheVariants.{InHeader, Everywhere}
+use Rattle.reuse_command.specs.declared.command.FileAmendment.TheVariants.{InHeader, Everywhere, Remove}
+use Rattle.reuse_command.specs.declared.command.HeaderRemoval.{HeaderRemoval}
+use Rattle.reuse_command.specs.declared.command.HeaderRemoval.TheVariants.{Texts, Header}
 use Rattle.reuse_command.specs.declared.command.Place.{Place}
 use Rattle.reuse_command.specs.declared.command.Scope.{Scope}
 
@@ -70,18 +74,37 @@ pub record IsNeighbourWritten (values : Amendments) (beside made : List ℕ) : T
   pub by_rules : amended_file beside (neighbour_amendment_of values beside) ≡ Ok made
   pub keeps : (made ≡ beside) ⊎ IsSameAround (mark_len_of beside) (neighbour_end beside) beside made
 
--- the rules make this of a neighbour
-abbrev pub BecomesNeighbour : FileAmendment → List ℕ → List ℕ → Type 0
-BecomesNeighbour (InHeader values) beside made = IsNeighbourWritten values beside made
-BecomesNeighbour (Everywhere values) beside made = IsTextAmended values beside made
+-- what is left of a neighbour is as it was, or each byte outside its block stays; nothing but its byte order mark would
+-- stay where it is removed
+abbrev pub KeepsOfNeighbour : List ℕ → Option (List ℕ) → Type 0
+KeepsOfNeighbour beside None =
+    IsSameAround (mark_len_of beside) (neighbour_end beside) beside (take (mark_len_of beside) beside)
+KeepsOfNeighbour beside (Some made) =
+    (made ≡ beside) ⊎ IsSameAround (mark_len_of beside) (neighbour_end beside) beside made
 
--- the neighbour is there, and holds what the rules make of its own bytes, and the file stays
+-- the rules make one text of what a neighbour says by the values, and leave this of that text
+pub record IsLeftOfNeighbour (values : Amendments) (removal : HeaderRemoval) (beside : List ℕ)
+    (left : Option (List ℕ)) : Type 0 where
+  pub amended : List ℕ
+  pub by_values : IsNeighbourWritten values beside amended
+  pub by_rules : neighbour_left amended (neighbour_removal_of removal amended) ≡ Ok left
+  pub keeps : KeepsOfNeighbour amended left
+
+-- the rules leave this of a neighbour, which is removed only where something is taken out
+abbrev pub BecomesNeighbour : FileAmendment → List ℕ → Option (List ℕ) → Type 0
+BecomesNeighbour (InHeader values) beside (Some made) = IsNeighbourWritten values beside made
+BecomesNeighbour (InHeader values) beside None = ⊥
+BecomesNeighbour (Everywhere values) beside (Some made) = IsTextAmended values beside made
+BecomesNeighbour (Everywhere values) beside None = ⊥
+BecomesNeighbour (Remove values removal) beside left = IsLeftOfNeighbour values removal beside left
+
+-- the neighbour is there, and holds what the rules leave of its own bytes, and the file stays
 pub record IsNeighbourAmended (amendment : FileAmendment) (old new : Pair) : Type 0 where
   pub beside : List ℕ
   pub there : old.neighbour ≡ Some beside
-  pub made : List ℕ
-  pub becomes : BecomesNeighbour amendment beside made
-  pub holds : new ≡ record { file = old.file; neighbour = Some made }
+  pub left : Option (List ℕ)
+  pub becomes : BecomesNeighbour amendment beside left
+  pub holds : new ≡ record { file = old.file; neighbour = left }
 
 -- The file is text and has a style, and the rules make this of its bytes. It is as it was, or has a header block and
 -- each byte outside it stays.
@@ -93,9 +116,28 @@ pub record IsBlockAmended (values : Amendments) (scope : Scope) (own : OwnKinds)
   pub by_rules : amended_file bytes (amendment_of style values bytes) ≡ Ok made
   pub keeps : (made ≡ bytes) ⊎ KeepsOutsideBlock style bytes made
 
+-- what taking something out of a header keeps: each byte outside its block; where the block goes, an empty line behind it
+-- may go, too
+abbrev pub KeepsOutsideRemoved : HeaderRemoval → Style → List ℕ → List ℕ → Type 0
+KeepsOutsideRemoved (Texts texts) style old new = KeepsOutsideBlock style old new
+KeepsOutsideRemoved Header style old new =
+    KeepsOutsideBlock style old new
+    ⊎ ((block : HeaderSpan) × (option_map (span_in old) (header_of style old) ≡ Some block)
+    × (new ≡ take block.start old ++ drop (block.end + gap_behind (drop block.end old)) old))
+
+-- the rules make one text of a file's bytes by the values, and leave this of that text
+pub record IsLeftOfBlock (values : Amendments) (removal : HeaderRemoval) (scope : Scope) (own : OwnKinds)
+    (path bytes made : List ℕ) : Type 0 where
+  pub amended : List ℕ
+  pub by_values : IsBlockAmended values scope own path bytes amended
+  pub by_rules : text_left amended (removal_of removal by_values.style amended) ≡ Ok made
+  pub keeps : (made ≡ amended) ⊎ KeepsOutsideRemoved removal by_values.style amended made
+
 -- the rules make this of a file itself; one each of whose tags is amended isn't too long
 abbrev pub BecomesFile : FileAmendment → Scope → OwnKinds → List ℕ → List ℕ → List ℕ → Type 0
 BecomesFile (InHeader values) scope own path bytes made = IsBlockAmended values scope own path bytes made
+BecomesFile (Remove values removal) scope own path bytes made =
+    IsLeftOfBlock values removal scope own path bytes made
 BecomesFile (Everywhere values) scope own path bytes made =
     (length bytes ≤ LONGEST_FILE) × IsTextAmended values bytes made
 
@@ -115,6 +157,7 @@ HasNoStyle scope own path bytes =
 -- the file isn't text; or it has no style, and a header block is looked for, or it is too long
 abbrev pub HasNoText : FileAmendment → Scope → OwnKinds → List ℕ → List ℕ → Type 0
 HasNoText (InHeader values) scope own path bytes = (is_text bytes ≡ false) ⊎ HasNoStyle scope own path bytes
+HasNoText (Remove values removal) scope own path bytes = (is_text bytes ≡ false) ⊎ HasNoStyle scope own path bytes
 HasNoText (Everywhere values) scope own path bytes =
     (is_text bytes ≡ false) ⊎ ((LONGEST_FILE < length bytes) × HasNoStyle scope own path bytes)
 
@@ -171,3 +214,11 @@ pub record Amends (places : List Place) (amendment : FileAmendment) (scope : Sco
 -- no file is made, and none is removed
 abbrev pub HaveSamePaths : Files → Files → Type 0
 HaveSamePaths before after = (path : List ℕ) → is_some (get after path) ≡ is_some (get before path)
+
+-- so it is where nothing is taken out of a header; else no file is made, and none is removed but a neighbour of one that
+-- is gone through
+abbrev pub KeepsPaths : FileAmendment → List (List ℕ) → Files → Files → Type 0
+KeepsPaths (Remove values removal) paths before after = (path : List ℕ)
+    → (is_some (get after path) ≡ is_some (get before path))
+    ⊎ ((is_some (get after path) ≡ false) × ((gone : List ℕ) × Contains paths gone × (path ≡ neighbour_of gone)))
+KeepsPaths amendment paths before after = HaveSamePaths before after

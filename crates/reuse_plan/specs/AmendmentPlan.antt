@@ -7,6 +7,10 @@ use Rattle.reuse_style.specs.Kinds.{OwnKinds, kinds_by}
 use Rattle.reuse_amend.specs.declared.amendments.Amendments.{Amendments}
 use Rattle.reuse_header.specs.declared.amendment.AmendHeaderRefusal.{AmendHeaderRefusal}
 use Rattle.reuse_header.specs.declared.annotation.Splice.{Splice}
+use Rattle.reuse_header.specs.declared.annotation.HeaderRefusal.{HeaderRefusal}
+use Rattle.reuse_words.specs.declared.removal.NeighbourChange.{NeighbourChange}
+use Rattle.reuse_words.specs.declared.removal.NeighbourChange.TheVariants.{Unchanged, Changed, Emptied}
+use Rattle.reuse_text.specs.Text.{spliced}
 use Rattle.reuse_style.specs.declared.style.Style.{Style}
 use Rattle.reuse_text.specs.declared.TheConstants.{LONGEST_FILE}
 use Rattle.reuse_change.specs.Files.{Files}
@@ -19,6 +23,8 @@ use Rattle.reuse_plan.specs.Plan.{IsRefusalOf, MakesEdit}
 use Rattle.reuse_plan.specs.declared.annotation.Amendment.{Amendment}
 use Rattle.reuse_plan.specs.declared.left.Amended.{Amended}
 use Rattle.reuse_command.specs.declared.reply.Refusal.{Refusal}
+use Rattle.reuse_command.specs.declared.reply.Refusal.TheVariants.{Failed}
+use Rattle.reuse_command.specs.declared.failure.Failure.TheVariants.{Memory}
 
 -- what amending makes of a file, which may be nothing
 abbrev pub Expected : Type 0
@@ -97,3 +103,43 @@ AnswersText asked tree bytes given result =
 
 abbrev pub left_by : Amendment → Files → List ℕ → Bool
 left_by asked tree path = is_left (values_of asked.amendment.now) tree path (amended_by asked tree path)
+
+-- ---- what is taken out of a header
+
+-- an edit that takes something out, which may be none
+abbrev pub ExpectedRemoval : Type 0
+ExpectedRemoval = Result (Option header.Edit) HeaderRefusal
+
+-- it is within its file, and makes none that is too long
+abbrev pub FitsRemoval : List ℕ → ExpectedRemoval → Type 0
+FitsRemoval bytes (Ok (Some edit)) =
+    (edit.start + edit.old_len ≤ length bytes) × (length (header.edited bytes edit) ≤ LONGEST_FILE)
+FitsRemoval bytes (Ok None) = Unit {0}
+FitsRemoval bytes (Err refusal) = Unit {0}
+
+abbrev pub IsShort : List ℕ → Type 0
+IsShort bytes = length bytes ≤ LONGEST_FILE
+
+-- a change of a text stands within it, and makes none that is too long
+abbrev pub IsSpliceWithin : List ℕ → Splice → Type 0
+IsSpliceWithin bytes splice = (splice.at + length splice.old ≤ length bytes)
+    × (length bytes - length splice.old + length splice.new ≤ LONGEST_FILE)
+
+abbrev pub IsRemovalWithin : List ℕ → Result (Option Splice) HeaderRefusal → Type 0
+IsRemovalWithin bytes (Ok (Some splice)) = IsSpliceWithin bytes splice
+IsRemovalWithin bytes (Ok None) = Unit {0}
+IsRemovalWithin bytes (Err refusal) = Unit {0}
+
+abbrev pub IsChangeWithin : List ℕ → Result NeighbourChange HeaderRefusal → Type 0
+IsChangeWithin bytes (Ok (Changed splice)) = IsSpliceWithin bytes splice
+IsChangeWithin bytes (Ok Unchanged) = Unit {0}
+IsChangeWithin bytes (Ok Emptied) = Unit {0}
+IsChangeWithin bytes (Err refusal) = Unit {0}
+
+-- the text behind it
+abbrev pub spliced_by : List ℕ → Splice → List ℕ
+spliced_by bytes splice = spliced bytes splice.at (length splice.old) splice.new
+
+-- memory was refused
+abbrev pub IsOutOfMemory : Refusal → Type 0
+IsOutOfMemory refusal = refusal ≡ Failed Memory

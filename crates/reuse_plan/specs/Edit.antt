@@ -36,3 +36,8 @@ exchanged path old new differing = record {
 abbrev pub edit_between : List ℕ → List ℕ → List ℕ → Option Edit
 edit_between path old new =
     if bytes_eq new old then None else Some (exchanged path old new (difference_of old new))
+
+-- a file of these bytes gives way to a text, or goes where none is left
+abbrev pub edit_to : List ℕ → List ℕ → Option (List ℕ) → Option Edit
+edit_to path bytes None = Some (dropped path bytes)
+edit_to path bytes (Some made) = edit_between path bytes made

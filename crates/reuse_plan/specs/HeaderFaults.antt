@@ -1,11 +1,14 @@
--- Why a header can't be written, as a refusal that names the file (docs/RULES.md, "Refusals").
+-- Why a header can't be written or amended, as a refusal that names the file (docs/RULES.md, "Refusals").
 use Rattle.std.specs.Prelude.{ℕ, List}
 use Rattle.reuse_header.specs.declared.annotation.HeaderRefusal.{HeaderRefusal}
 use Rattle.reuse_header.specs.declared.annotation.HeaderRefusal.TheVariants as header
+use Rattle.reuse_header.specs.declared.amendment.AmendHeaderRefusal.{AmendHeaderRefusal}
+use Rattle.reuse_header.specs.declared.amendment.AmendHeaderRefusal.TheVariants as amendment
+use Rattle.reuse_command.specs.declared.amend_fault.AmendFault.TheVariants.{BadExpression, NothingLeft}
 use Rattle.reuse_command.specs.declared.header_fault.HeaderFault.TheVariants as faults
 use Rattle.reuse_command.specs.declared.reply.Refusal.{Refusal}
 use Rattle.reuse_command.specs.declared.failure.Failure.TheVariants.{Memory}
-use Rattle.reuse_command.specs.declared.reply.Refusal.TheVariants.{Header, Failed}
+use Rattle.reuse_command.specs.declared.reply.Refusal.TheVariants.{Amend, Header, Failed}
 
 abbrev pub refused_by : List ℕ → HeaderRefusal → Refusal
 refused_by path header.NotText = Header path faults.NotText
@@ -14,3 +17,9 @@ refused_by path header.HoldsCloser = Header path faults.HoldsCloser
 refused_by path header.TooLong = Header path faults.TooLong
 refused_by path header.Unsettled = Header path faults.Unsettled
 refused_by path (header.Memory e) = Failed Memory
+
+-- why a file can't be amended
+abbrev pub amend_refused_by : List ℕ → AmendHeaderRefusal → Refusal
+amend_refused_by path amendment.BadExpression = Amend path BadExpression
+amend_refused_by path amendment.NothingLeft = Amend path NothingLeft
+amend_refused_by path (amendment.Header refusal) = refused_by path refusal

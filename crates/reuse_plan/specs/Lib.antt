@@ -24,6 +24,7 @@ pub mod PathEdits
 pub mod PathOutcomes
 pub mod PathPlans
 pub mod Plan
+pub mod Removed
 pub mod Reverting
 pub mod Selected
 pub mod Shown

@@ -20,6 +20,7 @@ use crate::covered::{is_covered, is_table};
 use crate::edit::{amended_as, table_change_by};
 use crate::left::{Amended, still_names, still_names_read};
 use crate::place::{absent_refusal, neighbour_path, short_bytes};
+use crate::remove::{plan_left_beside, plan_left_inside};
 use crate::target_choice::neighbour_of;
 use reuse_amend::Amendments;
 use reuse_change::{Change, PathText, is_among};
@@ -105,7 +106,7 @@ fn is_passed_over(path: &PathText, asked: &Amendment<'_, '_>, reading: &Reading)
         → result ≡ is_passed_over_by asked.now path.now bytes }
 {
     match asked.amendment {
-        FileAmendment::InHeader(_) => has_no_style_unread(path, asked),
+        FileAmendment::InHeader(_) | FileAmendment::Remove(..) => has_no_style_unread(path, asked),
         FileAmendment::Everywhere(_) => is_too_long(reading) && has_no_style_unread(path, asked),
     }
 }
@@ -217,6 +218,9 @@ fn plan_beside(
             }
             plan_text(alloc, path, neighbour, bytes, values)
         }
+        FileAmendment::Remove(values, removal) => {
+            plan_left_beside(alloc, path, neighbour, bytes, values, removal)
+        }
     }
 }
 
@@ -299,6 +303,10 @@ fn plan_own_text(
             plan_header(alloc, path, bytes, style_of(path, bytes, asked), values)
         }
         FileAmendment::Everywhere(values) => plan_text(alloc, path, path, bytes, values),
+        FileAmendment::Remove(values, removal) => {
+            let style = style_of(path, bytes, asked);
+            plan_left_inside(alloc, path, bytes, style, values, removal)
+        }
     }
 }
 

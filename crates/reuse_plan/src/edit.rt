@@ -206,8 +206,8 @@ fn table_refused_by(
     Ok(Refusal::Amend(path.try_clone(alloc)?, fault))
 }
 
-// The refusal of an amendment, with the path of its file.
-fn amend_refused_by(
+/// The refusal of an amendment, with the path of its file.
+pub(crate) fn amend_refused_by(
     alloc: Global,
     path: &PathText,
     refusal: AmendHeaderRefusal,
@@ -222,8 +222,12 @@ fn amend_refused_by(
     Ok(Refusal::Amend(path.try_clone(alloc)?, fault))
 }
 
-// A header's refusal, with the path of its file.
-fn refused_by(alloc: Global, path: &PathText, refusal: HeaderRefusal) -> Result<Refusal, AllocError>
+/// A header's refusal, with the path of its file.
+pub(crate) fn refused_by(
+    alloc: Global,
+    path: &PathText,
+    refusal: HeaderRefusal,
+) -> Result<Refusal, AllocError>
     ensures { IfOk result (λ refused. refused ≡ refused_by path.now refusal) }
 {
     let fault = match refusal {

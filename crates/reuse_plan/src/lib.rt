@@ -22,6 +22,7 @@ pub mod licence_id;
 mod path_plan;
 mod place;
 mod planned;
+mod remove;
 mod revert;
 pub mod run;
 mod select;

@@ -44,7 +44,7 @@ use Rattle.reuse_words.proofs.FreeLemmas.{free_untagged, new_same}
 
 -- ---- edits that are made
 
-no_edit : (refusal : HeaderRefusal) (edit : Option Edit) → Err refusal ≡ Ok edit → ⊥
+pub no_edit : (refusal : HeaderRefusal) (edit : Option Edit) → Err refusal ≡ Ok edit → ⊥
 no_edit refusal edit e = cc
 
 none_edit : (made : Result (Option Edit) HeaderRefusal) (edit : Edit) → made ≡ Ok None → made ≡ Ok (Some edit) → ⊥
@@ -57,7 +57,7 @@ some_ok (Err refusal) edit e = absurd (no_edit refusal (Some edit) e)
 refused : (refusal : HeaderRefusal) (edit : Edit) → Err refusal ≡ Ok edit → ⊥
 refused refusal edit e = cc
 
-not_over : (m n : ℕ) → nat_lt m n ≡ false → n ≤ m
+pub not_over : (m n : ℕ) → nat_lt m n ≡ false → n ≤ m
 not_over m n h = grind (arith, nat_tests)
 
 fitting_by : (file : List ℕ) (first edit : Edit) (long : Bool) → nat_lt LONGEST_FILE (length (edited file first)) ≡ long
@@ -292,7 +292,7 @@ free_is old new free e = by_test (same_texts new old) e
     by_test true e = absurd (let none : ⊥ = cc in none)
     by_test false e = let same : new ≡ free = cc in sym same
 
-written_some : (write : List (List ℕ) → Result Edit HeaderRefusal) (o : Option (List (List ℕ))) (edit : Edit)
+pub written_some : (write : List (List ℕ) → Result Edit HeaderRefusal) (o : Option (List (List ℕ))) (edit : Edit)
     → written_if_some write o ≡ Ok (Some edit) → (free : List (List ℕ)) × (o ≡ Some free) × (write free ≡ Ok edit)
 written_some write None edit e = absurd (none_edit (Ok None) edit refl e)
 written_some write (Some free) edit e = (free, refl, some_ok (write free) edit e)

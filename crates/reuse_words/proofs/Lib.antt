@@ -7,6 +7,7 @@ pub mod AmendedLemmas
 pub mod AddedLemmas
 pub mod FreeLemmas
 pub mod FileLawLemmas
+pub mod NeighbourLawLemmas
 pub mod AddedLawLemmas
 pub mod HeldLemmas
 pub mod TagLemmas

@@ -21,7 +21,7 @@ ghost use Rattle.reuse_header.specs.Comment.{comment_text};
 ghost use Rattle.reuse_header.specs.Laws.{IsBlockText};
 ghost use Rattle.reuse_words.specs.Information.{info_with, info_without};
 ghost use Rattle.reuse_words.specs.Removal.{gap_behind, untagged_of, neighbour_untagged_of};
-ghost use Rattle.reuse_words.specs.Amended.{texts_in, without_texts_of};
+ghost use Rattle.reuse_words.specs.Amended.{texts_in, without_texts_of, neighbour_without_texts_of};
 ghost use Rattle.reuse_words.specs.Added.{header_edit, text_annotation_of, neighbour_text_annotation_of};
 ghost use Rattle.reuse_words.specs.FileLaws.{Fits, IsUntaggedComment, HasTagsOf, AddsTexts};
 
@@ -60,7 +60,8 @@ pub fn removals_fit()
 }
 
 /// Taking texts out of a header keeps every byte outside of its block, and the edit lies within its
-/// file, which stays within 16 MiB. The new block has the form and the tags of the old one.
+/// file, which stays within 16 MiB. The new block has the form and the tags of the old one. So it is
+/// with a neighbour, of which each byte outside of its comment stays.
 pub fn texts_alone_are_taken_out()
     ensures bytes { (style : Style) (texts : List (List (List ℕ))) (file : List ℕ) (span : HeaderSpan) (edit : Edit)
         → option_map (span_in file) (header_of style file) ≡ Some span
@@ -75,6 +76,11 @@ pub fn texts_alone_are_taken_out()
         → (marks : LineMarks) × IsBlockText style (kind_of_file file) (info_without (punctuation_of style)
         (texts_in (marks_of style span.form) texts) (info_of (punctuation_of style) span.contents))
         span.form marks edit.text }
+    ensures neighbour_bytes { (texts : List (List (List ℕ))) (file : List ℕ) (edit : Edit)
+        → neighbour_without_texts_of texts file ≡ Ok (Some edit)
+        → edited file edit ≡ take (mark_len_of file) file ++ edit.text ++ drop (neighbour_end file) file }
+    ensures neighbours_fit { (texts : List (List (List ℕ))) (file : List ℕ) (edit : Edit)
+        → neighbour_without_texts_of texts file ≡ Ok (Some edit) → Fits file edit }
 {
     lines_are_one();
 }

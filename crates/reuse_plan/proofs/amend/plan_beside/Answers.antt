@@ -5,7 +5,8 @@ use Rattle.reuse_command.specs.Command.{values_of}
 use Rattle.reuse_command.specs.declared.command.FileAmendment.{FileAmendment}
 use Rattle.reuse_command.specs.declared.header_fault.HeaderFault.TheVariants as faults
 use Rattle.reuse_command.specs.declared.reply.Refusal.TheVariants as refusals
-use Rattle.reuse_plan.specs.Amend.{amend_beside, amend_text, amendment_edit}
+use Rattle.reuse_plan.specs.Amend.{amend_beside, amend_text, amendment_edit, removal_edit}
+use Rattle.reuse_plan.specs.Removed.{left_beside}
 use Rattle.reuse_plan.specs.AmendmentPlan.{AnswersValues}
 use Rattle.reuse_plan.specs.Annotate.{neighbour_of}
 use Rattle.reuse_plan.proofs.EditLemmas.{refused}
@@ -44,3 +45,15 @@ returns-else-not-is_text-clause-edit c tree is here =
     (amend_text values path (neighbour_of path) bytes)) c.plan_text.result) (sym text)
     (subst (λ (n : List ℕ). AnswersValues values tree bytes (amend_text values path n bytes) c.plan_text.result) is
     (c.plan_text.ensures.edit tree here)))
+
+pub returns-in-Remove-clause-edit : goal.returns-in-Remove-clause-edit
+returns-in-Remove-clause-edit c tree is here =
+    let path = c.args.path.now in
+    let bytes = c.args.bytes.now in
+    let values = c.in-Remove.values in
+    let removal = c.in-Remove.removal in
+    subst (λ (a : FileAmendment). AnswersValues (values_of a) tree bytes (amend_beside a path bytes)
+    c.plan_left_beside.result) (sym c.in-Remove.is)
+    (subst (λ (n : List ℕ). AnswersValues values tree bytes
+    (removal_edit n bytes (left_beside values removal path bytes)) c.plan_left_beside.result) is
+    (c.plan_left_beside.ensures.edit tree here))
