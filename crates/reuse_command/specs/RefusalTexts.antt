@@ -16,6 +16,7 @@ use Rattle.reuse_command.specs.declared.reply.Refusal.TheVariants as refusals
 -- why a header can't be written
 abbrev pub fault_text : HeaderFault → List ℕ
 fault_text faults.NoSuchForm = codes "no such form"
+fault_text faults.BadText = codes "bad text"
 fault_text faults.HoldsCloser = codes "holds the closer"
 fault_text faults.TooLong = codes "too long"
 fault_text faults.Unsettled = codes "block would not be found again"

@@ -78,13 +78,22 @@ pub struct Scope {
     pub excluded: Globs,
 }
 
-/// Texts of a header, in the order in which they are taken out.
+/// Texts of a header, in order.
 pub type HeaderTexts = FixedList<HeaderText>;
+
+/// What annotate adds to a header.
+#[derive(Debug, Drop)]
+pub struct HeaderAdditions {
+    /// The licensing information.
+    pub tags: Additions,
+    /// The texts beside it.
+    pub texts: HeaderTexts,
+}
 
 /// What is taken out of a header.
 #[derive(Debug, Drop)]
 pub enum HeaderRemoval {
-    /// Of each text the first run of contents that is the same one. The tags stay.
+    /// Of each text, in order, the first run of contents that is the same one. The tags stay.
     Texts(HeaderTexts),
     /// All tags, and the block where nothing else is left of it.
     Header,
@@ -125,7 +134,7 @@ pub enum Command {
         /// The files.
         places: Places,
         /// What is added to each.
-        additions: Additions,
+        additions: HeaderAdditions,
         /// How a block is written.
         how: How,
         /// Which files are written, and where.

@@ -10,6 +10,8 @@ use std::fmt;
 pub enum HeaderFault {
     /// The style of the file hasn't the form that was asked for.
     NoSuchForm,
+    /// A line of a text that is added would end the comment.
+    BadText,
     /// A line of the block would close the comment.
     HoldsCloser,
     /// The file would be longer than `LONGEST_FILE` bytes.
@@ -26,6 +28,7 @@ impl fmt::Display for HeaderFault {
     fn fmt<W: fmt::Write>(&self, f: &mut fmt::Formatter<W>) -> fmt::Result {
         f.write_str(match self {
             HeaderFault::NoSuchForm => "no such form",
+            HeaderFault::BadText => "bad text",
             HeaderFault::HoldsCloser => "holds the closer",
             HeaderFault::TooLong => "too long",
             HeaderFault::Unsettled => "block would not be found again",
