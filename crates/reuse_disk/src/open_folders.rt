@@ -53,7 +53,8 @@ impl OpenFolders {
     /// The open folders of this process, from the root at this path on. Nothing is asked of the
     /// system yet.
     pub fn new(alloc: Global, root_path: String, process: ProcessIds) -> OpenFolders
-        ensures { (folders : Folders) → AreOpened folders result }
+        ensures opened { (folders : Folders) → AreOpened folders result }
+        ensures root { result.root_path ≡ root_path }
     {
         OpenFolders {
             root_path,

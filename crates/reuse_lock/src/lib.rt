@@ -43,6 +43,7 @@ pub struct LockedFolders {
 impl RootLock {
     /// The root, as it was named, and what holds the lock.
     pub fn into_parts(self) -> (String, LockedFolders)
+        ensures root { result.0 ≡ self.root }
         ensures locked { ∥ IsLocked (string_bytes result.0) (calls_of result.1) ∥₁ }
         ensures open { AreOpen result.1 }
     {
