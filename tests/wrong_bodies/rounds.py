@@ -81,18 +81,37 @@ class Function:
     """A function of a .rt file in the layout of `rt fmt`, by which lines tell where it ends."""
 
     HEAD = re.compile(r"( *)(?:pub(?:\(.*?\))? )?(?:(?:const|unsafe|final) )*fn (\w+)")
+    TYPE = re.compile(r"(?m)^(?:pub(?:\(.*?\))? )?(?:struct|enum) (\w+)")
     BLOCK = re.compile(r"( *)(?:pub(?:\(.*?\))? )?(?:unsafe )?(impl|trait|mod)\b(.*)")
 
     def __init__(self, path, lines, first):
         indent, self.name = self.HEAD.match(lines[first]).groups()
         self.path, self.first, self.last = path, first, self.end(lines, first, indent)
-        inside = re.sub(r"(^|/)(lib|main|mod)$", "", path[len("src/") : -len(".rt")])
-        self.modules = inside.split("/") if inside else []
+        self.modules = self.modules_of(path)
         self.owner, self.is_of_trait = [], False
         for at in range(first):
             block = self.BLOCK.match(lines[at])
             if block and len(block[1]) < len(indent) and self.end(lines, at, block[1]) > first:
                 self.enter(block[2], " ".join([block[3], *lines[at + 1 : first]]))
+
+    @staticmethod
+    def modules_of(path):
+        inside = re.sub(r"(^|/)(lib|main|mod)$", "", path[len("src/") : -len(".rt")])
+        return inside.split("/") if inside else []
+
+    @classmethod
+    def homes(cls, sources):
+        """Returns the modules of each type that one file alone declares, outside of modules in it."""
+        found = collections.defaultdict(list)
+        for path, text in sources.items():
+            for name in cls.TYPE.findall(text):
+                found[name].append(cls.modules_of(path))
+        return {name: places[0] for name, places in found.items() if len(places) == 1}
+
+    def go_home(self, homes):
+        """Takes a type's own function to the module of that type, by which a check names it."""
+        if self.owner and not self.is_of_trait:
+            self.modules = homes.get(self.owner[0], self.modules)
 
     @staticmethod
     def end(lines, first, indent):
@@ -328,6 +347,9 @@ class Crate:
             lines = text.split("\n")
             heads = [at for at, it in enumerate(lines) if Function.HEAD.match(it)]
             functions += [Function(path, lines, at) for at in heads]
+        homes = Function.homes(self.sources)
+        for function in functions:
+            function.go_home(homes)
         for edit in self.edits:
             if edit.state == OPEN:
                 edit.find(functions, self.name, listed)
