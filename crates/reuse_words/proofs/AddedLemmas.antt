@@ -94,16 +94,18 @@ pub neighbour_added : (how : How) (additions : Additions) (texts : List (List (L
     → is_text file ≡ true
     → info ≡ info_with [] (map (text_in []) texts)
     (new_info [] (replaced_contents how.replace file) how.merge additions)
-    → neighbour_written how.replace file info ≡ neighbour_text_annotation_of how additions texts file
+    → header_edit (neighbour_written how.replace file info) ≡ neighbour_text_annotation_of how additions texts file
 unfolding neighbour_text_annotation_of
 neighbour_added how additions texts file info text says =
-    ap (neighbour_written how.replace file) says
-    ∙ ap (λ (t : Bool). cond t (neighbour_written how.replace file (info_with [] (map (text_in []) texts)
-    (new_info [] (replaced_contents how.replace file) how.merge additions))) (Err NotText)) (sym text)
+    ap (λ (i : Info). header_edit (neighbour_written how.replace file i)) says
+    ∙ ap (λ (t : Bool). cond t (header_edit (neighbour_written how.replace file (info_with [] (map (text_in []) texts)
+    (new_info [] (replaced_contents how.replace file) how.merge additions)))) (Err (Header NotText))) (sym text)
 
 pub neighbour_not_text : (how : How) (additions : Additions) (texts : List (List (List ℕ))) (file : List ℕ)
-    → is_text file ≡ false → answer_of file (neighbour_text_annotation_of how additions texts file) ≡ Err NotText
+    → is_text file ≡ false
+    → text_answer file (neighbour_text_annotation_of how additions texts file) ≡ Err (Header NotText)
 unfolding neighbour_text_annotation_of
 neighbour_not_text how additions texts file e =
-    ap (λ (t : Bool). answer_of file (cond t (neighbour_written how.replace file (info_with [] (map (text_in []) texts)
-    (new_info [] (replaced_contents how.replace file) how.merge additions))) (Err NotText))) e
+    ap (λ (t : Bool). text_answer file (cond t (header_edit (neighbour_written how.replace file
+    (info_with [] (map (text_in []) texts) (new_info [] (replaced_contents how.replace file) how.merge additions))))
+    (Err (Header NotText)))) e

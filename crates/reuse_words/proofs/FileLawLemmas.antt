@@ -24,6 +24,8 @@ use Rattle.reuse_header.specs.Header.{HeaderSpan, span_in, header_of}
 use Rattle.reuse_header.specs.Writing.{block_text, neighbour_marks}
 use Rattle.reuse_header.specs.Annotation.{Edit, edited, replacement, kind_of_file, edit_of, written_by, annotation_of}
 use Rattle.reuse_header.specs.Annotation.{chosen_form, replaced_block, old_contents}
+use Rattle.reuse_header.specs.Writing.{new_info}
+use Rattle.reuse_words.specs.declared.refusal.TextHeaderRefusal.TheVariants.{Header}
 use Rattle.reuse_header.specs.Neighbour.{is_text, replaced_contents, neighbour_end, neighbour_written}
 use Rattle.reuse_header.specs.Neighbour.{neighbour_annotation_of}
 use Rattle.reuse_header.specs.Comment.{comment_text, closes_form, fitting, comment_written}
@@ -365,9 +367,16 @@ no_texts style how additions file =
     ap (λ (i : Info). header_edit (written_by style file old i (marks_of style (chosen_form style how.form found))))
     (new_same (punctuation_of style) (old_contents old) how.merge additions)
 
+header_if : (text : Bool) (made : Result Edit HeaderRefusal)
+    → cond text (header_edit made) (Err (Header NotText)) ≡ header_edit (cond text made (Err NotText))
+header_if true made = refl
+header_if false made = refl
+
 pub no_neighbour_texts : (how : How) (additions : Additions) (file : List ℕ)
-    → neighbour_text_annotation_of how additions [] file ≡ neighbour_annotation_of how additions file
+    → neighbour_text_annotation_of how additions [] file ≡ header_edit (neighbour_annotation_of how additions file)
 unfolding neighbour_text_annotation_of neighbour_annotation_of
 no_neighbour_texts how additions file =
-    ap (λ (i : Info). cond (is_text file) (neighbour_written how.replace file i) (Err NotText))
+    ap (λ (i : Info). cond (is_text file) (header_edit (neighbour_written how.replace file i)) (Err (Header NotText)))
     (new_same [] (replaced_contents how.replace file) how.merge additions)
+    ∙ header_if (is_text file) (neighbour_written how.replace file
+    (new_info [] (replaced_contents how.replace file) how.merge additions))

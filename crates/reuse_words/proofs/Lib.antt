@@ -9,5 +9,8 @@ pub mod FreeLemmas
 pub mod FileLawLemmas
 pub mod NeighbourLawLemmas
 pub mod AddedLawLemmas
+pub mod AddedNeighbourLemmas
+pub mod GapLemmas
+pub mod AddedTextLemmas
 pub mod HeldLemmas
 pub mod TagLemmas

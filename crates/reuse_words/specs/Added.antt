@@ -42,11 +42,12 @@ text_annotation_of style how additions texts file =
 
 -- the edit that adds information and texts to a neighbour file, or the first refusal
 unfoldable pub neighbour_text_annotation_of : How → Additions → List (List (List ℕ)) → List ℕ
-    → Result Edit HeaderRefusal
+    → Result Edit TextHeaderRefusal
 neighbour_text_annotation_of how additions texts file =
     let info = new_info [] (replaced_contents how.replace file) how.merge additions in
-    if is_text file then neighbour_written how.replace file (info_with [] (texts_in None texts) info)
-    else Err NotText
+    if is_text file
+    then header_edit (neighbour_written how.replace file (info_with [] (texts_in None texts) info))
+    else Err (Header NotText)
 
 -- what a call answers
 abbrev pub text_answer : List ℕ → Result Edit TextHeaderRefusal → Result (Option Splice) TextHeaderRefusal

@@ -1,6 +1,6 @@
 -- A text that a header may have beside its tags: the lines of a file (docs/RULES.md, "Words of a header").
-use Rattle.std.specs.Prelude.{◌≡◌, ℕ, Bool, not, ◌&&◌, ◌||◌, ◌==◌, nat_lt, List, [], ◌∷◌, ◌++◌, length, map}
-use Rattle.std.specs.Prelude.{Result, Ok, Err, codes, if◌then◌else◌}
+use Rattle.std.specs.Prelude.{◌≡◌, ℕ, Bool, true, not, ◌&&◌, ◌||◌, ◌==◌, nat_lt, List, [], ◌∷◌, ◌++◌, length, map}
+use Rattle.std.specs.Prelude.{All, Result, Ok, Err, codes, if◌then◌else◌}
 use Rattle.std.specs.List.{list_any}
 use Rattle.reuse_text.specs.Text.{file_lines}
 use Rattle.reuse_notice.specs.Tags.{is_blank, drop_end}
@@ -45,6 +45,10 @@ text_of file =
     else if not (is_text file) then Err NotText
     else if has_control file then Err ControlByte
     else text_of_lines (lines_in file)
+
+-- each line of each text is UTF-8 without a NUL byte
+abbrev pub AreTexts : List (List (List ℕ)) → Type 0
+AreTexts texts = All (λ text. All (λ line. is_text line ≡ true) text) texts
 
 -- the text that is expected, or an allocation failure, which may take the place of each answer
 abbrev pub IsExpectedText : {X : Type 0} → Result X TextRefusal → Result X TextRefusal → Type 0

@@ -6,8 +6,7 @@ ghost use Rattle.reuse_header.specs.Drafts.{IsWithin};
 ghost use Rattle.reuse_header.specs.Found.{block_view};
 ghost use Rattle.reuse_header.specs.Marks.{marks_of};
 ghost use Rattle.reuse_header.specs.Annotation.{written_by};
-ghost use Rattle.reuse_header.specs.Neighbour.{is_text};
-ghost use Rattle.reuse_header.specs.Splices.{IsExpected, answer_of};
+ghost use Rattle.reuse_header.specs.Neighbour.{is_text, neighbour_written};
 ghost use Rattle.reuse_header.specs.Comment.{closes_comment};
 ghost use Rattle.reuse_words.specs.Information.{text_in};
 ghost use Rattle.reuse_words.specs.Added.{header_edit, text_annotation_of, neighbour_text_annotation_of};
@@ -118,15 +117,15 @@ pub fn annotate_neighbour_with(
     additions: &Additions,
     texts: &[HeaderText],
     how: &How,
-) -> Result<Option<Splice>, HeaderRefusal>
+) -> Result<Option<Splice>, TextHeaderRefusal>
     requires { length file.now ≤ LONGEST_FILE }
-    ensures { IsExpected (answer_of file.now
+    ensures { IsExpectedTextEdit (text_answer file.now
         (neighbour_text_annotation_of how.now additions.now texts.now file.now)) result }
 {
     if is_text_file(file) {
         annotate_text(alloc, file, additions, texts, how)
     } else {
-        Err(HeaderRefusal::NotText)
+        Err(TextHeaderRefusal::Header(HeaderRefusal::NotText))
     }
 }
 
@@ -137,14 +136,31 @@ fn annotate_text(
     additions: &Additions,
     texts: &[HeaderText],
     how: &How,
-) -> Result<Option<Splice>, HeaderRefusal>
+) -> Result<Option<Splice>, TextHeaderRefusal>
     requires short { length file.now ≤ LONGEST_FILE }
     requires text { is_text file.now ≡ true }
-    ensures { IsExpected (answer_of file.now
+    ensures { IsExpectedTextEdit (text_answer file.now
         (neighbour_text_annotation_of how.now additions.now texts.now file.now)) result }
 {
     let contents = replaced_contents(alloc, file, how.replace)?;
     let said = new_info(alloc, contents.as_slice(), b"", how.merge, additions)?;
     let info = info_with(alloc, &said, texts, b"", b"")?;
-    write_neighbour(alloc, file, how.replace, &info)
+    write_beside(alloc, file, how.replace, &info)
+}
+
+// The change that writes a neighbour.
+fn write_beside(
+    alloc: Global,
+    file: &[u8],
+    replace: bool,
+    info: &Info,
+) -> Result<Option<Splice>, TextHeaderRefusal>
+    requires { length file.now ≤ LONGEST_FILE }
+    ensures { IsExpectedTextEdit (text_answer file.now
+        (header_edit (neighbour_written replace file.now info.now))) result }
+{
+    match write_neighbour(alloc, file, replace, info) {
+        Ok(splice) => Ok(splice),
+        Err(refusal) => Err(TextHeaderRefusal::Header(refusal)),
+    }
 }

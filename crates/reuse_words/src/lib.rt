@@ -16,7 +16,8 @@ mod words;
 pub use adding::{annotate_file_with, annotate_neighbour_with};
 pub use amending::{amend_file_without, amend_neighbour_without};
 pub use file_laws::{
-    added_texts_are_written, no_texts_add_nothing, removals_fit, removals_keep_other_bytes,
+    added_texts_are_written, added_texts_make_texts, adding_texts_keeps_other_bytes,
+    no_texts_add_nothing, removals_fit, removals_keep_other_bytes, text_annotations_fit,
     texts_alone_are_taken_out, texts_keep_tags,
 };
 pub use laws::{
