@@ -72,6 +72,7 @@ impl<S: DiskSystem + Drop> RootFolder<S> {
         ensures syncs { result.unsynced.syncs ≡ syncs }
         ensures noted { IsNoted result.unsynced journal_folder }
         ensures ownership { result.ownership ≡ ownership }
+        ensures root { result.open_folders.root_path ≡ root }
     {
         let alloc = system.rt().alloc();
         let open_folders = OpenFolders::new(alloc, root, ownership.process());

@@ -91,6 +91,8 @@ impl<R: Files<File = File> + AllocGlobal + Clone + Drop> DiskStore<HostSystem<R>
         // Syncs are made as it is asked for, and the journal is noted for the first barrier.
         ensures syncs { result.folder.unsynced.syncs ≡ syncs }
         ensures noted { IsNoted result.folder.unsynced journal_folder }
+        // It is the folder that was locked, and files keep their owners as it is asked for.
+        ensures root { result.folder.open_folders.root_path ≡ lock.root }
         ensures owner_change { result.folder.ownership.owner_change ≡ owner_change }
         ensures failures { ⟦<HostStore<R> as Store>⟧.failures result ≡ 0 }
         ensures written { ⟦<HostStore<R> as Store>⟧.written result ≡ 0 }
@@ -117,7 +119,7 @@ impl<S: DiskSystem + Drop> DiskStore<S> {
     /// Whether the journal belongs to another user than the process. If that can't be seen, it
     /// isn't reported here: opening the journal fails.
     pub fn is_journal_of_other(&mut self, alloc: Global) -> bool
-        ensures calls { self.new.calls ≡ self.old.calls }
+        ensures reads { OnlyReads ⟦<DiskStore<S> as Store>⟧ self.old self.new }
         ensures unsynced { self.new.folder.unsynced ≡ self.old.folder.unsynced }
     {
         let user = self.folder.ownership().user();
@@ -130,7 +132,7 @@ impl<S: DiskSystem + Drop> DiskStore<S> {
     /// From now on the first put of a call fails if a file was read that can't keep its owner,
     /// unless that is allowed, or if a name was asked for that no file can have.
     pub fn watch_writes(&mut self)
-        ensures calls { self.new.calls ≡ self.old.calls }
+        ensures reads { OnlyReads ⟦<DiskStore<S> as Store>⟧ self.old self.new }
         ensures unsynced { self.new.folder.unsynced ≡ self.old.folder.unsynced }
     {
         self.folder.watch_writes();
@@ -139,7 +141,7 @@ impl<S: DiskSystem + Drop> DiskStore<S> {
     /// Short files that are read from now on are remembered, for a call that began at this time
     /// since 1970: they aren't read again as long as the system reports the same of them.
     pub fn remember_files(&mut self, since: Option<Duration>)
-        ensures calls { self.new.calls ≡ self.old.calls }
+        ensures reads { OnlyReads ⟦<DiskStore<S> as Store>⟧ self.old self.new }
         ensures unsynced { self.new.folder.unsynced ≡ self.old.folder.unsynced }
     {
         self.folder.remember_files(since);
@@ -148,7 +150,7 @@ impl<S: DiskSystem + Drop> DiskStore<S> {
     /// Goes to where the system shows the handles of the process, so that paths through them are
     /// short, until `come_back`. Meanwhile no other path may start where the process was.
     pub fn go_to_handles(&mut self, env: &impl Env, alloc: Global)
-        ensures calls { self.new.calls ≡ self.old.calls }
+        ensures reads { OnlyReads ⟦<DiskStore<S> as Store>⟧ self.old self.new }
         ensures unsynced { self.new.folder.unsynced ≡ self.old.folder.unsynced }
     {
         self.folder.go_to_handles(env, alloc);
@@ -156,7 +158,7 @@ impl<S: DiskSystem + Drop> DiskStore<S> {
 
     /// Comes back to the folder that the process was called in.
     pub fn come_back(&mut self, env: &impl Env, alloc: Global)
-        ensures calls { self.new.calls ≡ self.old.calls }
+        ensures reads { OnlyReads ⟦<DiskStore<S> as Store>⟧ self.old self.new }
         ensures unsynced { self.new.folder.unsynced ≡ self.old.folder.unsynced }
     {
         self.folder.come_back(env, alloc);
@@ -166,7 +168,7 @@ impl<S: DiskSystem + Drop> DiskStore<S> {
     /// what stands at a path and is neither a file nor a folder, as a link or a pipe, is read as a
     /// file that is too long: so it isn't taken for a path without a file, where one could be made.
     pub fn expect_rollback(&mut self)
-        ensures calls { self.new.calls ≡ self.old.calls }
+        ensures reads { OnlyReads ⟦<DiskStore<S> as Store>⟧ self.old self.new }
         ensures unsynced { self.new.folder.unsynced ≡ self.old.folder.unsynced }
     {
         self.rolled_back.expect();
@@ -179,7 +181,7 @@ impl<S: DiskSystem + Drop> DiskStore<S> {
 
     /// No put fails for that any more, but those of such files; whether one has failed.
     pub fn release_writes(&mut self) -> bool
-        ensures calls { self.new.calls ≡ self.old.calls }
+        ensures reads { OnlyReads ⟦<DiskStore<S> as Store>⟧ self.old self.new }
         ensures unsynced { self.new.folder.unsynced ≡ self.old.folder.unsynced }
     {
         self.folder.release_writes()
@@ -188,7 +190,7 @@ impl<S: DiskSystem + Drop> DiskStore<S> {
     /// Whether the file at the path, if there is one, can be written anew and keep its owner, or
     /// needn't.
     pub fn may_write(&mut self, alloc: Global, path: &PathText) -> Result<bool, StoreFault>
-        ensures calls { self.new.calls ≡ self.old.calls }
+        ensures reads { OnlyReads ⟦<DiskStore<S> as Store>⟧ self.old self.new }
         ensures unsynced { self.new.folder.unsynced ≡ self.old.folder.unsynced }
     {
         let answer = self.folder.may_write(alloc, path);
@@ -217,7 +219,7 @@ impl<S: DiskSystem + Drop> DiskStore<S> {
 
     /// The last call that failed, where one did since the last asking.
     pub fn take_failure(&mut self) -> Option<Failure>
-        ensures calls { self.new.calls ≡ self.old.calls }
+        ensures reads { OnlyReads ⟦<DiskStore<S> as Store>⟧ self.old self.new }
         ensures unsynced { self.new.folder.unsynced ≡ self.old.folder.unsynced }
     {
         self.failure.take()

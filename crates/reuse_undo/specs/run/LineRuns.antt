@@ -24,6 +24,7 @@ use Rattle.reuse_lock.specs.Locks.{calls_of, AreOpen, IsLocked}
 use Rattle.reuse_lock.specs.declared.RootLock.{RootLock}
 use Rattle.reuse_disk.specs.Noted.{IsNoted}
 use Rattle.reuse_disk.specs.declared.syncs.Unsynced.{Unsynced}
+use Rattle.reuse_system.specs.declared.owner.OwnerChange.{OwnerChange}
 use Rattle.reuse_print.specs.declared.fault.Fault.{Fault}
 use Rattle.reuse_print.specs.declared.fault.Fault.TheVariants as faults
 use Rattle.reuse_print.specs.declared.output.Sink as sinks
@@ -32,7 +33,7 @@ use Rattle.reuse_undo.specs.declared.run.access_refusal.AccessRefusal.TheVariant
 use Rattle.reuse_undo.specs.declared.run.locked.RunOptions.{RunOptions}
 use Rattle.reuse_undo.specs.declared.run.run_result.RunResult.{RunResult}
 use Rattle.reuse_undo.specs.run.FoundNames.{FindsNames}
-use Rattle.reuse_undo.specs.run.OneCall.{AnswersOnce, EndsOnce, StaysNoted, StaysThenLooks}
+use Rattle.reuse_undo.specs.run.OneCall.{AnswersOnce, EndsOnce, Stays, StaysThenLooks}
 
 -- ---- what is asked for
 
@@ -41,9 +42,9 @@ pub record FindsOnce {S : Type 0} (store : Ghosts S) (noted : S → Unsynced) (r
     (found : Result (Vec NameCount Global) Refusal) : Type 0 where
   pub begun : S
   pub left : S
-  pub goes : StaysNoted noted old begun
+  pub goes : Stays store noted old begun
   pub finds : FindsNames store request begun left found
-  pub comes_back : StaysNoted noted left new
+  pub comes_back : Stays store noted left new
 
 -- what is ready for the names that were found; or the refusal of the finding, or an allocation failure
 abbrev pub AreAdditionsFor : Result (Vec NameCount Global) Refusal → Result StyleAdditions Refusal → Type 0
@@ -90,15 +91,24 @@ pub record AnswersLine {S O : Type 0} (store : Ghosts S) (sink : sinks.Ghosts O)
 
 -- ---- on which folder
 
--- The root was locked, and a store was opened that syncs as the settings say; what is noted then is the journal's
--- folder.
-pub record OpensFolder (root : List ℕ) (settings : Settings) (unsynced : Unsynced) : Type 0 where
+-- what a store works with, as it was opened: the path of its root, what is to be synced, and whether files may lose their
+-- owners
+pub record OpenedStore : Type 0 where
+  pub root : List ℕ
+  pub unsynced : Unsynced
+  pub owner_change : OwnerChange
+
+-- The root was locked, and a store of it was opened. It syncs and keeps owners as the settings say; what is noted then is
+-- the journal's folder.
+pub record OpensFolder (root : List ℕ) (settings : Settings) (opened : OpenedStore) : Type 0 where
   pub lock : RootLock
   pub is_of_root : string_bytes lock.root ≡ root
   pub is_locked : IsLocked root (calls_of lock.held)
   pub is_held : AreOpen lock.held
-  pub syncs : unsynced.syncs ≡ settings.syncs
-  pub noted : IsNoted unsynced journal_folder
+  pub is_at_root : opened.root ≡ root
+  pub syncs : opened.unsynced.syncs ≡ settings.syncs
+  pub owners : opened.owner_change ≡ settings.owner_change
+  pub noted : IsNoted opened.unsynced journal_folder
 
 -- how the answer is printed
 abbrev pub options_of : Line → RunOptions → PrintOptions
@@ -111,7 +121,7 @@ pub record WorksOn {S O : Type 0} (store : Ghosts S) (sink : sinks.Ghosts O) (no
   pub begun : S
   pub left : S
   pub asked : Request
-  pub stays : StaysNoted noted old begun
+  pub stays : Stays store noted old begun
   pub answers : AnswersLine store sink noted line.names (options_of line run_options)
       (with_texts texts line.request) begun left asked result.ending
   pub looks : StaysThenLooks store noted left new
@@ -121,15 +131,15 @@ abbrev pub result_of : Result (Result ℕ Fault) AccessRefusal → RunResult
 result_of ending = record { ending = ending; rolled_back = None; diagnostics = None }
 
 -- the journal isn't trusted, and is another user's: nothing was carried out
-abbrev pub IsDenied : {S : Type 0} → (noted : S → Unsynced) → Settings → (old new : S) → RunResult → Type 0
-IsDenied noted settings old new result = (settings.trusts_journal ≡ false) × StaysNoted noted old new
+abbrev pub IsDenied : {S : Type 0} → Ghosts S → (noted : S → Unsynced) → Settings → (old new : S) → RunResult → Type 0
+IsDenied store noted settings old new result = (settings.trusts_journal ≡ false) × Stays store noted old new
     × (result ≡ result_of (Err JournalOfAnother))
 
 -- so it was, or it was denied
 abbrev pub WorksUnlessDenied : {S O : Type 0} → Ghosts S → sinks.Ghosts O → (noted : S → Unsynced) → Line
     → RunOptions → List LicenceText → (old new : S) → RunResult → Type 0
 WorksUnlessDenied store sink noted line run_options texts old new result =
-    IsDenied noted run_options.settings old new result
+    IsDenied store noted run_options.settings old new result
     ⊎ WorksOn store sink noted line run_options texts old new result
 
 -- another run works on the tree, or memory ran out: no folder was opened
@@ -140,14 +150,14 @@ IsNotBegun result = (fault : Fault) × ((fault ≡ faults.InUse) ⊎ (fault ≡ 
 -- The folder that the line names was locked and opened, and the line carried out there, with texts that were found for
 -- it.
 pub record RunsOnFolder {S O : Type 0} (store : Ghosts S) (sink : sinks.Ghosts O) (noted : S → Unsynced)
-    (line : Line) (run_options : RunOptions) (result : RunResult) : Type 0 where
+    (opened : S → OpenedStore) (line : Line) (run_options : RunOptions) (result : RunResult) : Type 0 where
   pub folder : S
   pub texts : List LicenceText
   pub end : S
-  pub opens : OpensFolder (string_bytes line.root) run_options.settings (noted folder)
+  pub opens : OpensFolder (string_bytes line.root) run_options.settings (opened folder)
   pub works : WorksUnlessDenied store sink noted line run_options texts folder end result
 
-abbrev pub RunsLine : {S O : Type 0} → Ghosts S → sinks.Ghosts O → (noted : S → Unsynced) → Line → RunOptions
-    → RunResult → Type 0
-RunsLine store sink noted line run_options result =
-    IsNotBegun result ⊎ RunsOnFolder store sink noted line run_options result
+abbrev pub RunsLine : {S O : Type 0} → Ghosts S → sinks.Ghosts O → (noted : S → Unsynced)
+    → (opened : S → OpenedStore) → Line → RunOptions → RunResult → Type 0
+RunsLine store sink noted opened line run_options result =
+    IsNotBegun result ⊎ RunsOnFolder store sink noted opened line run_options result

@@ -19,9 +19,9 @@ use Rattle.reuse_undo.specs.run.FoundNames.{ListsNames}
 use Rattle.reuse_undo.specs.run.RunLine.{IsUnopened}
 use Rattle.reuse_undo.specs.run.RunResult.{CarriesOut}
 
--- all that a barrier is to make durable is noted as before
-abbrev pub StaysNoted : {S : Type 0} → (noted : S → Unsynced) → (old new : S) → Type 0
-StaysNoted noted old new = noted new ≡ noted old
+-- the store was only read, and all that a barrier is to make durable is noted as before
+abbrev pub Stays : {S : Type 0} → Ghosts S → (noted : S → Unsynced) → (old new : S) → Type 0
+Stays store noted old new = OnlyReads store old new × (noted new ≡ noted old)
 
 -- ---- one request
 
@@ -33,7 +33,7 @@ Answers store sink true request options old new before after outcome =
 Answers store sink false request options old new before after outcome =
     CarriesOut store sink.contents sink.failed request options old new before after outcome
 
--- So it was, once, and before and after it the notes stayed. All that is printed is the answer: the output took
+-- So it was, once, and before and after it the store stayed. All that is printed is the answer: the output took
 -- nothing before.
 pub record AnswersOnce {S O : Type 0} (store : Ghosts S) (sink : sinks.Ghosts O) (noted : S → Unsynced)
     (lists_names : Bool) (request : Request) (options : PrintOptions) (old new : S)
@@ -42,11 +42,11 @@ pub record AnswersOnce {S O : Type 0} (store : Ghosts S) (sink : sinks.Ghosts O)
   pub left : S
   pub before : O
   pub after : O
-  pub goes : StaysNoted noted old begun
+  pub goes : Stays store noted old begun
   pub nothing : sink.contents before ≡ []
   pub whole : sink.failed before ≡ false
   pub answers : Answers store sink lists_names request options begun left before after outcome
-  pub comes_back : StaysNoted noted left new
+  pub comes_back : Stays store noted left new
 
 -- ---- a call that is held
 
@@ -66,18 +66,18 @@ pub record LooksAt {S : Type 0} (store : Ghosts S) (old new : S) : Type 0 where
 
 -- so it was, and then the store stayed
 abbrev pub LooksThenStays : {S : Type 0} → Ghosts S → (noted : S → Unsynced) → S → S → Type 0
-LooksThenStays {S = S} store noted old new = (looked : S) × LooksAt store old looked × StaysNoted noted looked new
+LooksThenStays {S = S} store noted old new = (looked : S) × LooksAt store old looked × Stays store noted looked new
 
 -- the store stayed, and then it may have been looked at so
 abbrev pub StaysThenLooks : {S : Type 0} → Ghosts S → (noted : S → Unsynced) → S → S → Type 0
 StaysThenLooks {S = S} store noted old new =
-    (seen : S) × StaysNoted noted old seen × ((new ≡ seen) ⊎ LooksAt store seen new)
+    (seen : S) × Stays store noted old seen × ((new ≡ seen) ⊎ LooksAt store seen new)
 
 -- it was carried out, or it wasn't begun
-abbrev pub IsEndedBy : {S : Type 0} → (Once : S → S → Result ℕ Fault → Type 0) → (noted : S → Unsynced) → S → S
-    → Result (Result ℕ Fault) AccessRefusal → Type 0
-IsEndedBy Once noted old new (Ok outcome) = Once old new outcome
-IsEndedBy Once noted old new (Err access_refusal) = StaysNoted noted old new
+abbrev pub IsEndedBy : {S : Type 0} → Ghosts S → (Once : S → S → Result ℕ Fault → Type 0) → (noted : S → Unsynced)
+    → S → S → Result (Result ℕ Fault) AccessRefusal → Type 0
+IsEndedBy store Once noted old new (Ok outcome) = Once old new outcome
+IsEndedBy store Once noted old new (Err access_refusal) = Stays store noted old new
 
 -- A call was tried, and failed. Then it was looked at what it would change, and it was made, or it wasn't begun.
 pub record IsHeld {S : Type 0} (store : Ghosts S) (Once : S → S → Result ℕ Fault → Type 0) (noted : S → Unsynced)
@@ -88,7 +88,7 @@ pub record IsHeld {S : Type 0} (store : Ghosts S) (Once : S → S → Result ℕ
   pub tries : Once old tried outcome
   pub failed : is_failure outcome ≡ true
   pub looks : LooksThenStays store noted tried looked
-  pub ends : IsEndedBy Once noted looked new ending
+  pub ends : IsEndedBy store Once noted looked new ending
 
 -- a call was made once; if it failed, the second try counts
 abbrev pub MakesOnce : {S : Type 0} → Ghosts S → (Once : S → S → Result ℕ Fault → Type 0) → (noted : S → Unsynced)

@@ -3,6 +3,7 @@
 //! held before its first put if it has asked for such a file, and then what it would change is
 //! looked at, path by path, as in a dry run.
 ghost use Rattle.std.specs.Prelude.{◌≡◌};
+ghost use Rattle.reuse_store.specs.Asked.{OnlyReads};
 ghost use Rattle.reuse_command.specs.Answer.{DidNotFail};
 ghost use Rattle.reuse_journal.specs.Journal.{State};
 ghost use Rattle.reuse_session.specs.session.Session.{store_of, SimulatesState};
@@ -174,7 +175,8 @@ fn access_refusal_among<R: Files<File = File> + AllocGlobal + Clone + Drop>(
     folder: &mut HostStore<R>,
     path_outcomes: &[PathOutcome],
 ) -> Option<AccessRefusal>
-    ensures { folder.new.folder.unsynced ≡ folder.old.folder.unsynced }
+    ensures reads { OnlyReads ⟦<HostStore<R> as Store>⟧ folder.old folder.new }
+    ensures noted { folder.new.folder.unsynced ≡ folder.old.folder.unsynced }
 {
     if is_refused(path_outcomes) {
         return None;
@@ -195,7 +197,8 @@ fn access_refusal_of<R: Files<File = File> + AllocGlobal + Clone + Drop>(
     folder: &mut HostStore<R>,
     path: &PathText,
 ) -> Option<AccessRefusal>
-    ensures { folder.new.folder.unsynced ≡ folder.old.folder.unsynced }
+    ensures reads { OnlyReads ⟦<HostStore<R> as Store>⟧ folder.old folder.new }
+    ensures noted { folder.new.folder.unsynced ≡ folder.old.folder.unsynced }
 {
     if ends_in_long_name(path.text()) {
         return Some(AccessRefusal::NameTooLong(file_of(alloc, path)?));

@@ -1,5 +1,6 @@
 //! What is found out about a call beside its outcome, for notes.
 ghost use Rattle.std.specs.Prelude.{◌≡◌, ◌⊎◌};
+ghost use Rattle.reuse_store.specs.Asked.{OnlyReads};
 ghost use Rattle.reuse_undo.specs.run.OneCall.{LooksAt, StaysThenLooks};
 
 use crate::run::above::journal_above;
@@ -230,7 +231,8 @@ impl Diagnostics {
         folder: &mut HostStore<R>,
         outcome: &Result<usize, Fault>,
     )
-        ensures { folder.new.folder.unsynced ≡ folder.old.folder.unsynced }
+        ensures reads { OnlyReads ⟦<HostStore<R> as Store>⟧ folder.old folder.new }
+        ensures noted { folder.new.folder.unsynced ≡ folder.old.folder.unsynced }
     {
         self.failure = folder.take_failure();
         self.is_by_path = folder.is_by_path();

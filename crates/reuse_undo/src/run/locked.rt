@@ -2,12 +2,13 @@
 //! It prints the answer on standard output, and finds out what notes report.
 ghost use Rattle.std.specs.Prelude.{◌≡◌, ◌⊎◌, IfOk, IfErr, string_bytes, false, true};
 ghost use Rattle.reuse_change.specs.Layout.{journal_folder};
+ghost use Rattle.reuse_store.specs.Asked.{OnlyReads};
 ghost use Rattle.reuse_arguments.specs.Requests.{with_texts};
 ghost use Rattle.reuse_disk.specs.Noted.{IsNoted};
 ghost use Rattle.reuse_print.specs.declared.fault.Fault.TheVariants as faults;
 ghost use Rattle.reuse_undo.specs.run.LineRuns.{AnswersLine, OpensFolder, RunsLine, WorksUnlessDenied};
 ghost use Rattle.reuse_undo.specs.run.LineRuns.{is_listing, options_of};
-ghost use Rattle.reuse_undo.specs.run.OneCall.{StaysNoted, StaysThenLooks};
+ghost use Rattle.reuse_undo.specs.run.OneCall.{StaysThenLooks};
 
 use crate::run::access_refusal::AccessRefusal;
 use crate::run::adding::with_styles;
@@ -49,7 +50,11 @@ pub fn run_line<R: Files<File = File> + AllocGlobal + Clock + Env + Print + Epri
     run_options: RunOptions,
 ) -> RunResult
     ensures { RunsLine ⟦<HostStore<R> as Store>⟧ ⟦<Printed<'static, R> as Sink>⟧ (λ store. store.folder.unsynced)
-        line run_options result }
+        (λ store. record {
+          root = string_bytes store.folder.open_folders.root_path;
+          unsynced = store.folder.unsynced;
+          owner_change = store.folder.ownership.owner_change;
+        }) line run_options result }
 {
     match tools_for(rt, alloc, &line, run_options) {
         Ok(tools) => {
@@ -80,7 +85,12 @@ fn tools_for<R: Files<File = File> + AllocGlobal + Clock + Eprint + Clone + Drop
     run_options: RunOptions,
 ) -> Result<(HostStore<R>, LicenceTexts, Progress<R>), Fault>
     ensures opens { IfOk result
-        (λ tools. OpensFolder (string_bytes line.now.root) run_options.settings tools.0.folder.unsynced) }
+        (λ tools. OpensFolder (string_bytes line.now.root) run_options.settings
+        (record {
+          root = string_bytes tools.0.folder.open_folders.root_path;
+          unsynced = tools.0.folder.unsynced;
+          owner_change = tools.0.folder.ownership.owner_change;
+        })) }
     ensures fault { IfErr result (λ fault. (fault ≡ faults.InUse) ⊎ (fault ≡ faults.Memory)) }
 {
     let lock = lock_root(rt, alloc, line.root.as_str())?;
@@ -98,6 +108,8 @@ fn folder_at<R: Files<File = File> + AllocGlobal + Clone + Drop>(
 ) -> Result<HostStore<R>, AllocError>
     ensures syncs { IfOk result (λ folder. folder.folder.unsynced.syncs ≡ settings.syncs) }
     ensures noted { IfOk result (λ folder. IsNoted folder.folder.unsynced journal_folder) }
+    ensures owners { IfOk result (λ folder. folder.folder.ownership.owner_change ≡ settings.owner_change) }
+    ensures root { IfOk result (λ folder. folder.folder.open_folders.root_path ≡ lock.root) }
 {
     Ok(HostStore::at(rt.clone()?, lock, settings.syncs, settings.owner_change))
 }
@@ -109,6 +121,7 @@ fn is_denied<R: Files<File = File> + AllocGlobal + Clone + Drop>(
     run_options: RunOptions,
 ) -> bool
     ensures untrusted { result ≡ true → run_options.settings.trusts_journal ≡ false }
+    ensures reads { OnlyReads ⟦<HostStore<R> as Store>⟧ folder.old folder.new }
     ensures noted { folder.new.folder.unsynced ≡ folder.old.folder.unsynced }
 {
     !run_options.settings.trusts_journal && folder.is_journal_of_other(alloc)
@@ -122,7 +135,8 @@ fn step_to_note<R: Files<File = File> + AllocGlobal + Clone + Drop>(
     request: &Request,
     run_options: RunOptions,
 ) -> Option<u32>
-    ensures { folder.new.folder.unsynced ≡ folder.old.folder.unsynced }
+    ensures reads { OnlyReads ⟦<HostStore<R> as Store>⟧ folder.old folder.new }
+    ensures noted { folder.new.folder.unsynced ≡ folder.old.folder.unsynced }
 {
     let pending = pending_step(alloc, folder)?;
     if let Request::Recover { .. } = request {

@@ -1,6 +1,7 @@
 -- A request that is carried out once, and a line, between stores that stay.
 use Rattle.std.proofs.Common.{◌≡◌, ◌∙◌, ℕ, Bool, Option, None, Some, Result, Ok, Err, refl, subst, sym}
 use Rattle.reuse_store.specs.declared.store.Store.{Ghosts}
+use Rattle.reuse_store.proofs.AskedLemmas.{reads_more}
 use Rattle.reuse_command.specs.declared.reply.Refusal.{Refusal}
 use Rattle.reuse_command.specs.declared.request.Request.{Request}
 use Rattle.reuse_arguments.specs.declared.line.NamesUse.{NamesUse}
@@ -11,12 +12,18 @@ use Rattle.reuse_print.specs.declared.fault.Fault.TheVariants as faults
 use Rattle.reuse_print.specs.declared.output.Sink as sinks
 use Rattle.reuse_undo.specs.declared.run.access_refusal.AccessRefusal.{AccessRefusal}
 use Rattle.reuse_undo.specs.run.LineRuns.{AnswersLine, IsAnsweredSo, is_listing}
-use Rattle.reuse_undo.specs.run.OneCall.{AnswersOnce, EndsOnce, StaysNoted}
+use Rattle.reuse_undo.specs.run.OneCall.{AnswersOnce, EndsOnce, Stays}
+
+-- a store that stayed twice
+pub stays_on : {S : Type 0} (store : Ghosts S) (noted : S → Unsynced) (older old new : S) → Stays store noted older old
+    → Stays store noted old new → Stays store noted older new
+stays_on store noted older old new before after =
+    (reads_more store older old new before.0 after.0, after.1 ∙ before.1)
 
 -- a request that was carried out between two stores was so from one that stayed before, to one that stayed behind
 pub once_between : {S O : Type 0} (store : Ghosts S) (sink : sinks.Ghosts O) (noted : S → Unsynced) (lists_names : Bool)
     (request : Request) (options : PrintOptions) (older old new newer : S) (outcome : Result ℕ Fault)
-    → StaysNoted noted older old → StaysNoted noted new newer
+    → Stays store noted older old → Stays store noted new newer
     → AnswersOnce store sink noted lists_names request options old new outcome
     → AnswersOnce store sink noted lists_names request options older newer outcome
 once_between store sink noted lists_names request options older old new newer outcome before after once =
@@ -25,11 +32,11 @@ once_between store sink noted lists_names request options older old new newer ou
       left = once.left;
       before = once.before;
       after = once.after;
-      goes = once.goes ∙ before;
+      goes = stays_on store noted older old once.begun before once.goes;
       nothing = once.nothing;
       whole = once.whole;
       answers = once.answers;
-      comes_back = after ∙ once.comes_back;
+      comes_back = stays_on store noted once.left new newer once.comes_back after;
     }
 
 -- what was refused is answered so

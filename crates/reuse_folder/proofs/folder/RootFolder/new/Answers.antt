@@ -2,4 +2,4 @@ use Rattle.reuse_folder.proofs.folder.RootFolder.new.Goals as goal
 
 pub invariant_of-result : goal.invariant_of-result
 invariant_of-result g c =
-    record { opened = λ honest. c.new-open_folders.ensures (g.S.System.folders c.args.system) }
+    record { opened = λ honest. c.new-open_folders.ensures.opened (g.S.System.folders c.args.system) }
