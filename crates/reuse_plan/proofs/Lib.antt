@@ -25,6 +25,7 @@ pub mod LeftLemmas
 pub mod LeftParts
 pub mod LicenceLemmas
 pub mod Members
+pub mod NoTexts
 pub mod OneAmendment
 pub mod OneAnnotation
 pub mod Outcomes
