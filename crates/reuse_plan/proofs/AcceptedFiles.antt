@@ -6,15 +6,16 @@ use Rattle.std.specs.FinMap.{get}
 use Rattle.std.proofs.lemmas.Bool.{false≢true, le-ltb, ltb-false}
 use Rattle.std.proofs.lemmas.Option.{none-some}
 use Rattle.reuse_text.specs.declared.TheConstants.{LONGEST_FILE}
-use Rattle.reuse_notice.specs.declared.adding.Additions.{Additions}
+use Rattle.reuse_command.specs.declared.command.HeaderAdditions.{HeaderAdditions}
 use Rattle.reuse_header.specs.Annotation as header
 use Rattle.reuse_header.specs.Header.{header_of}
-use Rattle.reuse_header.specs.Neighbour.{is_text, neighbour_annotated, neighbour_annotation_of}
+use Rattle.reuse_header.specs.Neighbour.{is_text}
 use Rattle.reuse_header.specs.declared.annotation.How.{How}
 use Rattle.reuse_style.specs.declared.style.Kind.{Kind}
 use Rattle.reuse_style.specs.declared.style.Kind.TheVariants as kind
 use Rattle.reuse_style.specs.declared.style.Style.{Style}
 use Rattle.reuse_change.specs.Files.{Files, Clashes}
+use Rattle.reuse_plan.specs.Annotation.{annotated, annotation_of, made_by, neighbour_annotated, neighbour_annotation_of}
 use Rattle.reuse_plan.specs.Accepted.{IsUnread, HasRoomForNeighbour, RulesAccept, CanBeAnnotated}
 use Rattle.reuse_plan.specs.Annotate.{neighbour_of, neighbour_is_tagged, goes_to_neighbour, target_of}
 use Rattle.reuse_plan.specs.Annotate.{target_of_unknown, target_by_kind, target_by_style, target_by_bytes, edit_by}
@@ -55,7 +56,7 @@ pub done_rest : (b : Bool) (first rest : Result (Option Edit) Refusal) → b ≡
 done_rest b first rest e more = (more.0, ap (λ t. cond t first rest) e ∙ more.1)
 
 -- an annotation that the header rules accept is done
-pub done_by : (path at bytes : List ℕ) (expected : Expected) → IsOk (header.made_by bytes expected)
+pub done_by : (path at bytes : List ℕ) (expected : Expected) → IsOk (made_by bytes expected)
     → IsDone (edit_by path at bytes expected)
 done_by path at bytes (Err refusal) is = absurd (false≢true is)
 done_by path at bytes (Ok edit) is = by_test (bytes_eq (header.edited bytes edit) bytes) _
@@ -64,7 +65,8 @@ done_by path at bytes (Ok edit) is = by_test (bytes_eq (header.edited bytes edit
     by_test true it = (None, refl)
     by_test false it = (Some it, refl)
 
-module _ (additions : Additions) (how : How) (scope : Scope) (own : OwnKinds) (tree : Files) (path bytes : List ℕ) where
+module _ (additions : HeaderAdditions) (how : How) (scope : Scope) (own : OwnKinds) (tree : Files)
+    (path bytes : List ℕ) where
   abbrev pair : Pair
   pair = pair_at tree path
 
@@ -182,11 +184,11 @@ module _ (additions : Additions) (how : How) (scope : Scope) (own : OwnKinds) (t
 
     comment_made : (style : Style) → TakesComment scope own path bytes pair style
         → (scope.skip_existing && is_some (header_of style bytes)) ≡ false → Accepts bytes
-        → IsOk (header.annotated style how additions bytes)
+        → IsOk (annotated style how additions bytes)
     comment_made style reason kept (inl skipped) =
         absurd (comment_not_skipped scope own path bytes pair style reason kept skipped)
     comment_made style reason kept (inr (inl (other, too, made))) =
-        subst (λ s. IsOk (header.annotated s how additions bytes))
+        subst (λ s. IsOk (annotated s how additions bytes))
         (one_style scope own path bytes other style too.of_style reason.of_style) made
     comment_made style reason kept (inr (inr (calls, made))) =
         absurd (no_neighbour_too scope own path bytes pair style reason calls)
@@ -196,7 +198,7 @@ module _ (additions : Additions) (how : How) (scope : Scope) (own : OwnKinds) (t
         → IsDone (edit_inside how scope additions path bytes style)
     inside style reason true e = done_nothing _ _ e
     inside style reason false e = done_rest _ _ _ e (done_by path path bytes
-        (header.annotation_of style how additions bytes) (comment_made style reason e accepted))
+        (annotation_of style how additions bytes) (comment_made style reason e accepted))
 
     neighbour_made : TakesNeighbour scope own path bytes pair → ((beside : List ℕ) → get tree
         (neighbour_of path) ≡ Some beside → (scope.skip_existing && neighbour_is_tagged beside) ≡ false) → Accepts bytes
@@ -254,7 +256,7 @@ module _ (additions : Additions) (how : How) (scope : Scope) (own : OwnKinds) (t
 
 -- ---- a path
 
-module _ (additions : Additions) (how : How) (scope : Scope) (own : OwnKinds) (tree : Files) (path : List ℕ) where
+module _ (additions : HeaderAdditions) (how : How) (scope : Scope) (own : OwnKinds) (tree : Files) (path : List ℕ) where
   pub accepted_is_done : CanBeAnnotated additions how scope own tree path
       → IsDone (annotated_at how scope additions own tree path)
   accepted_is_done can =

@@ -7,8 +7,9 @@ use Rattle.std.proofs.lemmas.Bool.{false≢true, or_cases, or_parts, and_parts, 
 use Rattle.reuse_style.specs.declared.style.Style.{Style}
 use Rattle.reuse_style.specs.declared.style.Kind.{Kind}
 use Rattle.reuse_style.specs.declared.style.Kind.TheVariants as kind
-use Rattle.reuse_header.specs.Neighbour.{is_text, neighbour_annotation_of, neighbour_end}
+use Rattle.reuse_header.specs.Neighbour.{is_text, neighbour_end}
 use Rattle.reuse_text.specs.declared.TheConstants.{LONGEST_FILE}
+use Rattle.reuse_plan.specs.Annotation.{annotation_of, made_by, neighbour_annotation_of}
 use Rattle.reuse_plan.specs.Accepted.{IsUnread}
 use Rattle.reuse_plan.specs.Annotate.{neighbour_of, is_uncommentable, goes_to_neighbour, goes_to_neighbour_unread}
 use Rattle.reuse_plan.specs.Annotate.{target_of_unknown, target_by_kind, target_by_style, target_by_bytes}
@@ -32,6 +33,8 @@ use Rattle.std.proofs.lemmas.Slice.Eq.{bytes_eq-Decides}
 use Rattle.std.proofs.lemmas.Option.{same_Some, none-some}
 use Rattle.reuse_text.specs.Text.{mark_len_of, file_lines}
 use Rattle.reuse_notice.specs.declared.adding.Additions.{Additions}
+use Rattle.reuse_words.specs.Added.{text_annotation_of, neighbour_text_annotation_of}
+use Rattle.reuse_command.specs.declared.command.HeaderAdditions.{HeaderAdditions}
 use Rattle.reuse_header.specs.declared.annotation.How.{How}
 use Rattle.reuse_header.specs.Annotation as header
 use Rattle.reuse_header.specs.Body.{body_lines, place_in}
@@ -237,26 +240,28 @@ apart path same = let size = ap length same in omega (arith, size, length-append
 
 -- what is known of each annotation
 abbrev pub ReplacesBlock : Type 0
-ReplacesBlock = (style : Style) (how : How) (additions : Additions) (file : List ℕ) (edit : header.Edit)
-    (span : HeaderSpan) → how.replace ≡ true
-    → header.annotation_of style how additions file ≡ Ok edit
+ReplacesBlock = (style : Style) (how : How) (tags : Additions) (texts : List (List (List ℕ))) (file : List ℕ)
+    (edit : header.Edit) (span : HeaderSpan) → how.replace ≡ true
+    → text_annotation_of style how tags texts file ≡ Ok edit
     → option_map (span_in file) (header_of style file) ≡ Some span
     → header.edited file edit ≡ take span.start file ++ edit.text ++ drop span.end file
 
 abbrev pub InsertsBlock : Type 0
-InsertsBlock = (style : Style) (how : How) (additions : Additions) (file : List ℕ) (edit : header.Edit)
-    → (how.replace ≡ false) ⊎ (header_of style file ≡ None)
-    → header.annotation_of style how additions file ≡ Ok edit
+InsertsBlock = (style : Style) (how : How) (tags : Additions) (texts : List (List (List ℕ))) (file : List ℕ)
+    (edit : header.Edit) → (how.replace ≡ false) ⊎ (header_of style file ≡ None)
+    → text_annotation_of style how tags texts file ≡ Ok edit
     → IsInsertion file (place_in file (body_lines style (file_lines file))) edit
 
 abbrev pub ReplacesNeighbour : Type 0
-ReplacesNeighbour = (how : How) (additions : Additions) (file : List ℕ) (edit : header.Edit) → how.replace ≡ true
-    → neighbour_annotation_of how additions file ≡ Ok edit
+ReplacesNeighbour = (how : How) (tags : Additions) (texts : List (List (List ℕ))) (file : List ℕ)
+    (edit : header.Edit) → how.replace ≡ true
+    → neighbour_text_annotation_of how tags texts file ≡ Ok edit
     → header.edited file edit ≡ take (mark_len_of file) file ++ edit.text ++ drop (neighbour_end file) file
 
 abbrev pub InsertsNeighbour : Type 0
-InsertsNeighbour = (how : How) (additions : Additions) (file : List ℕ) (edit : header.Edit) → how.replace ≡ false
-    → neighbour_annotation_of how additions file ≡ Ok edit
+InsertsNeighbour = (how : How) (tags : Additions) (texts : List (List (List ℕ))) (file : List ℕ)
+    (edit : header.Edit) → how.replace ≡ false
+    → neighbour_text_annotation_of how tags texts file ≡ Ok edit
     → IsInsertion file (mark_len_of file) edit
 
 no_span : (file : List ℕ) (found : Option Header) → option_map (span_in file) found ≡ None → found ≡ None
@@ -265,14 +270,14 @@ no_span file (Some found) e = absurd (cc)
 
 module _ (replaces : ReplacesBlock) (inserts : InsertsBlock) (replaces_beside : ReplacesNeighbour)
     (inserts_beside : InsertsNeighbour) where
-  keeps_file : (style : Style) (how : How) (additions : Additions) (file : List ℕ) (edit : header.Edit)
-      → header.annotation_of style how additions file ≡ Ok edit
+  keeps_file : (style : Style) (how : How) (additions : HeaderAdditions) (file : List ℕ) (edit : header.Edit)
+      → annotation_of style how additions file ≡ Ok edit
       → KeepsOthers (block_replaced how style file) file (header.edited file edit)
   keeps_file style how additions file edit h =
       of_block how.replace refl (option_map (span_in file) (header_of style file)) refl
     where
       put : (how.replace ≡ false) ⊎ (header_of style file ≡ None) → KeepsOthers None file (header.edited file edit)
-      put none = let new = inserts style how additions file edit none h in
+      put none = let new = inserts style how additions.tags additions.texts file edit none h in
           (place_in file (body_lines style (file_lines file)), (header.new_bytes edit, new.made))
 
       of_block : (b : Bool) → how.replace ≡ b → (found : Option HeaderSpan)
@@ -280,22 +285,23 @@ module _ (replaces : ReplacesBlock) (inserts : InsertsBlock) (replaces_beside : 
           → KeepsOthers (cond b found None) file (header.edited file edit)
       of_block false e found k = put (inl e)
       of_block true e None k = put (inr (no_span file (header_of style file) k))
-      of_block true e (Some span) k = (edit.text, replaces style how additions file edit span e h k)
+      of_block true e (Some span) k =
+          (edit.text, replaces style how additions.tags additions.texts file edit span e h k)
 
-  keeps_neighbour : (how : How) (additions : Additions) (file : List ℕ) (edit : header.Edit)
+  keeps_neighbour : (how : How) (additions : HeaderAdditions) (file : List ℕ) (edit : header.Edit)
       → neighbour_annotation_of how additions file ≡ Ok edit
       → IsSameAround (mark_len_of file) (part_replaced how file) file (header.edited file edit)
   keeps_neighbour how additions file edit h = of_test how.replace refl
     where
       of_test : (b : Bool) → how.replace ≡ b → IsSameAround (mark_len_of file)
           (cond b (neighbour_end file) (mark_len_of file)) file (header.edited file edit)
-      of_test true e = (edit.text, replaces_beside how additions file edit e h)
-      of_test false e = (header.new_bytes edit, (inserts_beside how additions file edit e h).made)
+      of_test true e = (edit.text, replaces_beside how additions.tags additions.texts file edit e h)
+      of_test false e = (header.new_bytes edit, (inserts_beside how additions.tags additions.texts file edit e h).made)
 
   -- ---- one file
 
-  module _ (additions : Additions) (how : How) (scope : Scope) (own : OwnKinds) (tree : Files) (path bytes : List ℕ)
-      (here : get tree path ≡ Some bytes) where
+  module _ (additions : HeaderAdditions) (how : How) (scope : Scope) (own : OwnKinds) (tree : Files)
+      (path bytes : List ℕ) (here : get tree path ≡ Some bytes) where
     abbrev old : Pair
     old = pair_at tree path
 
@@ -314,17 +320,17 @@ module _ (replaces : ReplacesBlock) (inserts : InsertsBlock) (replaces_beside : 
     -- it is commented, unless it is skipped
     commented : (style : Style) → TakesTo (Inside style)
         → (scope.skip_existing && is_some (header_of style bytes)) ≡ false → (given : Option Edit)
-        → edit_by path path bytes (header.annotation_of style how additions bytes) ≡ Ok given
+        → edit_by path path bytes (annotation_of style how additions bytes) ≡ Ok given
         → Becomes (pair_then tree given path)
     commented style reason kept given h =
-        let made = makes_by path path bytes (header.annotation_of style how additions bytes) given h in
+        let made = makes_by path path bytes (annotation_of style how additions bytes) given h in
         inr (
           comment_not_skipped scope own path bytes old style reason kept,
           inl (record {
             style = style;
             takes = reason;
             made = header.edited bytes made.0;
-            by_rules = ap (header.made_by bytes) made.1;
+            by_rules = ap (made_by bytes) made.1;
             holds = ap₂ pair (then_here tree path bytes (header.edited bytes made.0) given made.2 here)
                 (then_other tree path bytes (header.edited bytes made.0) given (neighbour_of path) made.2
                 (λ same. apart path (sym same)) ∙ reason.alone);
@@ -334,7 +340,7 @@ module _ (replaces : ReplacesBlock) (inserts : InsertsBlock) (replaces_beside : 
 
     inside : (style : Style) → TakesTo (Inside style) → (b : Bool)
         → (scope.skip_existing && is_some (header_of style bytes)) ≡ b → (given : Option Edit)
-        → cond b (done None) (edit_by path path bytes (header.annotation_of style how additions bytes)) ≡ Ok given
+        → cond b (done None) (edit_by path path bytes (annotation_of style how additions bytes)) ≡ Ok given
         → Becomes (pair_then tree given path)
     inside style reason true e given h =
         let tests = and_parts scope.skip_existing (is_some (header_of style bytes)) e in
@@ -356,7 +362,7 @@ module _ (replaces : ReplacesBlock) (inserts : InsertsBlock) (replaces_beside : 
       inr (subst (λ f. IsBeside f (pair_then tree given path)) (sym is) (record {
         takes = subst (λ f. TakesNeighbour scope own path bytes (pair (get tree path) f)) is reason;
         made = header.edited (unwrap_or file []) edit;
-        by_rules = ap (header.made_by (unwrap_or file [])) expected;
+        by_rules = ap (made_by (unwrap_or file [])) expected;
         holds = ap₂ pair (then_other tree (neighbour_of path) (unwrap_or file [])
             (header.edited (unwrap_or file []) edit) given path makes (apart path)) written;
         keeps = keeps_neighbour how additions (unwrap_or file []) edit expected;
@@ -411,7 +417,7 @@ module _ (replaces : ReplacesBlock) (inserts : InsertsBlock) (replaces_beside : 
     becomes (Ok target) reason given h = by_target target (reason target refl) given h
 
   -- what is done at a path
-  pub annotated_there : (additions : Additions) (how : How) (scope : Scope) (own : OwnKinds) (tree : Files)
+  pub annotated_there : (additions : HeaderAdditions) (how : How) (scope : Scope) (own : OwnKinds) (tree : Files)
       (path : List ℕ) (given : Option Edit) → annotated_at how scope additions own tree path ≡ Ok given
       → IsAnnotated additions how scope own path (pair_at tree path) (pair_then tree given path)
   annotated_there additions how scope own tree path given h = of_file (get tree path) refl h

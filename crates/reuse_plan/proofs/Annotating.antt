@@ -23,7 +23,7 @@ use Rattle.reuse_plan.specs.Amend.{amended_where, amended_at}
 use Rattle.reuse_plan.specs.Annotate.{annotated_where, annotated_at}
 use Rattle.reuse_header.specs.declared.annotation.How.{How}
 use Rattle.reuse_style.specs.Kinds.{OwnKinds}
-use Rattle.reuse_notice.specs.declared.adding.Additions.{Additions}
+use Rattle.reuse_command.specs.declared.command.HeaderAdditions.{HeaderAdditions}
 use Rattle.reuse_command.specs.declared.command.FileAmendment.{FileAmendment}
 use Rattle.reuse_command.specs.declared.command.Scope.{Scope}
 use Rattle.reuse_plan.specs.Shown.{ShowsPair}
@@ -123,8 +123,9 @@ module _ (tree : Files) (path : List ℕ) (paths : List (List ℕ))
   some_file there = sym (among_keys tree path) ∙ sym same ∙ there
 
 pub absent_answer : (tree : Files) (path : List ℕ) (paths : List (List ℕ)) → ShowsPair paths tree path
-    → (how : How) (scope : Scope) (additions : Additions) (own : OwnKinds) (b : Bool) → is_among paths path ≡ false
-    → is_folder_of paths path ≡ b → annotated_at how scope additions own tree path ≡ cond b
+    → (how : How) (scope : Scope) (additions : HeaderAdditions) (own : OwnKinds) (b : Bool)
+    → is_among paths path ≡ false → is_folder_of paths path ≡ b
+    → annotated_at how scope additions own tree path ≡ cond b
     (refused (refusals.IsFolder (place.Path path))) (refused (refusals.NoSuchPath path))
 absent_answer tree path paths are how scope additions own b none folder =
     ap (annotated_where how scope additions own tree path) (is_absent tree path paths are.there none)

@@ -2,7 +2,7 @@
 use Rattle.std.proofs.Common.{◌≡◌, inl, inr, ℕ, not, ◌&&◌, List, Option, Some, Result, Ok, Err, refl, sym, ap₂, subst}
 use Rattle.std.proofs.Common.{◌∙◌, ◌↔◌, Bool, true, false, cond, [], ◌∷◌, None, ap, ◌⊎◌, nat_lt, length, zero, suc, map}
 use Rattle.std.proofs.Common.{◌++◌, is_some, arith, Contains}
-use Rattle.reuse_notice.specs.declared.adding.Additions.{Additions}
+use Rattle.reuse_command.specs.declared.command.HeaderAdditions.{HeaderAdditions}
 use Rattle.reuse_notice.proofs.SetLemmas.{In, In-from_contains, Contains-from_in}
 use Rattle.reuse_header.specs.declared.annotation.How.{How}
 use Rattle.reuse_command.specs.Reading.{get, Files}
@@ -57,7 +57,7 @@ use Rattle.reuse_plan.specs.Skipped.{has_tagged, is_skipped_at, is_skipped_where
 
 module _ (replaces : ReplacesBlock) (inserts : InsertsBlock) (replaces_beside : ReplacesNeighbour)
     (inserts_beside : InsertsNeighbour)
-    (additions : Additions) (how : How) (scope : Scope) (own : OwnKinds) (tree : Files) where
+    (additions : HeaderAdditions) (how : How) (scope : Scope) (own : OwnKinds) (tree : Files) where
   abbrev pub at : List ℕ → Result (Option Edit) Refusal
   at = annotated_at how scope additions own tree
 
@@ -99,7 +99,7 @@ module _ (replaces : ReplacesBlock) (inserts : InsertsBlock) (replaces_beside : 
 
 module _ (replaces : ReplacesBlock) (inserts : InsertsBlock) (replaces_beside : ReplacesNeighbour)
     (inserts_beside : InsertsNeighbour)
-    (places : List Place) (additions : Additions) (how : How) (scope : Scope) (tree : Files) where
+    (places : List Place) (additions : HeaderAdditions) (how : How) (scope : Scope) (tree : Files) where
   by_names : (edits : List Edit) (styles : Result OwnKinds Refusal) → styles_in tree ≡ styles
       → edits_by_names places additions how scope tree styles ≡ Ok edits
       → Annotates places additions how scope tree (edited tree edits)
@@ -143,7 +143,7 @@ test_from_root true root through = refl
 test_from_root false false through = refl
 test_from_root false true through = absurd (false≢true (through refl))
 
-module _ (places : List Place) (additions : Additions) (how : How) (scope : Scope) (tree : Files) where
+module _ (places : List Place) (additions : HeaderAdditions) (how : How) (scope : Scope) (tree : Files) where
   abbrev edits_named : Result OwnKinds Refusal → Result (List Edit) Refusal
   edits_named styles = edits_by_names places additions how scope tree styles
 
@@ -203,7 +203,7 @@ abbrev Reports : Option Edit → Type 0 → Bool → Type 0
 Reports given P true = P × (given ≡ None)
 Reports given P false = P → ⊥
 
-module _ (how : How) (scope : Scope) (additions : Additions) (own : OwnKinds) (tree : Files) (path bytes : List ℕ)
+module _ (how : How) (scope : Scope) (additions : HeaderAdditions) (own : OwnKinds) (tree : Files) (path bytes : List ℕ)
     (given : Option Edit) where
   abbrev ReportsOf : Bool → Type 0
   ReportsOf = Reports given (IsSkipped scope own path bytes (pair_at tree path))
@@ -247,7 +247,7 @@ module _ (how : How) (scope : Scope) (additions : Additions) (own : OwnKinds) (t
       (edit_neighbour how scope additions tree path (get tree (neighbour_of path))) given h)
   by_aim (Ok Nowhere) reason h = (inl (reason Nowhere refl), sym (same_Ok None given h))
 
-module _ (how : How) (scope : Scope) (additions : Additions) (own : OwnKinds) (tree : Files) (path : List ℕ) where
+module _ (how : How) (scope : Scope) (additions : HeaderAdditions) (own : OwnKinds) (tree : Files) (path : List ℕ) where
   reported_of : (given : Option Edit) → annotated_at how scope additions own tree path ≡ Ok given
       → (bytes : List ℕ) × (get tree path ≡ Some bytes)
       × Reports given (IsSkipped scope own path bytes (pair_at tree path)) (is_skipped scope own tree path)
@@ -354,7 +354,7 @@ no_limit (Ok edits) reported none c = by_size (is_too_many edits) c
     by_size true c = none.0 refusals.TooMany (in_one (path_outcome.Refused refusals.TooMany) reported c)
     by_size false c = none_in reported c
 
-module _ (places : List Place) (additions : Additions) (how : How) (scope : Scope) (own : OwnKinds) (tree : Files)
+module _ (places : List Place) (additions : HeaderAdditions) (how : How) (scope : Scope) (own : OwnKinds) (tree : Files)
     (styles : styles_in tree ≡ Ok own) where
   abbrev report : List ℕ → PathOutcome
   report path = path_outcome_of (annotation_at how scope additions own tree path)

@@ -6,16 +6,16 @@ use Rattle.reuse_text.specs.Text.{is_empty}
 use Rattle.std.specs.List.{AllByRecursion, cons_option, Contains, list_any, All}
 use Rattle.std.specs.FinMap.{get, empty}
 use Rattle.reuse_notice.specs.Sets.{set_of}
-use Rattle.reuse_notice.specs.declared.adding.Additions.{Additions}
+use Rattle.reuse_command.specs.declared.command.HeaderAdditions.{HeaderAdditions}
 use Rattle.reuse_dep5.specs.Conversion.{converted}
 use Rattle.reuse_dep5.specs.declared.refusal.Dep5Refusal.{Dep5Refusal}
 use Rattle.reuse_header.specs.declared.annotation.How.{How}
 use Rattle.reuse_header.specs.Annotation as header
 use Rattle.reuse_header.specs.Header.{header_of}
-use Rattle.reuse_header.specs.Neighbour.{neighbour_annotation_of}
 use Rattle.reuse_change.specs.Files.{Files}
 use Rattle.reuse_change.specs.declared.change.Change.{Change}
 use Rattle.reuse_text.specs.declared.TheConstants.{LONGEST_FILE}
+use Rattle.reuse_plan.specs.Annotation.{annotation_of, neighbour_annotation_of}
 use Rattle.reuse_plan.specs.Amend.{amended_at}
 use Rattle.reuse_plan.specs.Annotate.{neighbour_of, neighbour_is_tagged, target_of, edit_by, edit_neighbour}
 use Rattle.reuse_plan.specs.Annotate.{edit_target, annotated_where, annotated_at}
@@ -93,7 +93,7 @@ module _
     → P (appended path bytes more))
     (back : (change : Change) (edit : Edit) → Q change → taken_back_on tree change ≡ Some edit → P edit)
   where
-    module _ (how : How) (scope : Scope) (additions : Additions) (path : List ℕ) (edit : Edit) where
+    module _ (how : How) (scope : Scope) (additions : HeaderAdditions) (path : List ℕ) (edit : Edit) where
       of_neighbour : (file : Option (List ℕ)) → get tree (neighbour_of path) ≡ file
           → edit_neighbour how scope additions tree path file ≡ some_edit edit → P edit
       of_neighbour None here e =
@@ -112,7 +112,7 @@ module _
           of_neighbour (get tree (neighbour_of path)) refl
           (if_not (nat_lt 4096 (length (neighbour_of path))) (refusals.TooLong path) _ (Some edit) e)
       of_target bytes (Ok (Inside style)) here e =
-          there path path bytes (header.annotation_of style how additions bytes) edit here
+          there path path bytes (annotation_of style how additions bytes) edit here
           (unskipped (scope.skip_existing && is_some (header_of style bytes)) _ edit e).1
 
       of_annotated : (own : OwnKinds) → annotated_at how scope additions own tree path ≡ some_edit edit → P edit

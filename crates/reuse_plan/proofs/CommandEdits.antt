@@ -5,7 +5,7 @@ use Rattle.std.specs.List.{cons_option}
 use Rattle.std.specs.Option.{option_map, option_or}
 use Rattle.std.proofs.lemmas.Option.{same_Some}
 use Rattle.reuse_notice.specs.Sets.{set_of}
-use Rattle.reuse_notice.specs.declared.adding.Additions.{Additions}
+use Rattle.reuse_command.specs.declared.command.HeaderAdditions.{HeaderAdditions}
 use Rattle.reuse_command.specs.declared.command.FileAmendment.{FileAmendment}
 use Rattle.reuse_header.specs.declared.annotation.How.{How}
 use Rattle.reuse_change.specs.Change.{path_of}
@@ -48,13 +48,13 @@ abbrev pub edits_at_places : (List ℕ → Result (Option Edit) Refusal) → Sco
 edits_at_places at scope places paths =
     if not scope.recursive && has_root places then Err (IsFolder place.Root) else edits_at at paths
 
-abbrev pub edits_by_names : List Place → Additions → How → Scope → Files → Result OwnKinds Refusal
+abbrev pub edits_by_names : List Place → HeaderAdditions → How → Scope → Files → Result OwnKinds Refusal
     → Result (List Edit) Refusal
 edits_by_names places additions how scope tree (Err refusal) = Err refusal
 edits_by_names places additions how scope tree (Ok own) =
     edits_at_places (annotated_at how scope additions own tree) scope places (selected_paths scope places tree)
 
-abbrev pub annotation_edits : List Place → Additions → How → Scope → Files → Result (List Edit) Refusal
+abbrev pub annotation_edits : List Place → HeaderAdditions → How → Scope → Files → Result (List Edit) Refusal
 annotation_edits places additions how scope tree = edits_by_names places additions how scope tree (styles_in tree)
 
 abbrev pub amendments_by_names : List Place → FileAmendment → Scope → Files → Result OwnKinds Refusal
@@ -94,7 +94,7 @@ edits_of_places : (at : List ℕ → PathEdit) (paths : List (List ℕ)) (b : Bo
 edits_of_places at paths true = refl
 edits_of_places at paths false = edits_of_map at paths
 
-pub of_annotation : (places : List Place) (additions : Additions) (how : How) (scope : Scope) (tree : Files)
+pub of_annotation : (places : List Place) (additions : HeaderAdditions) (how : How) (scope : Scope) (tree : Files)
     → edits_of (Annotate places additions how scope) tree ≡ annotation_edits places additions how scope tree
 of_annotation places additions how scope tree = by_styles (styles_in tree)
   where

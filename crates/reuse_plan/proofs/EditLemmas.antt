@@ -6,17 +6,21 @@ use Rattle.reuse_command.specs.Reading.{get, Files}
 use Rattle.std.proofs.lemmas.Bool.{false≢true, and_right}
 use Rattle.std.proofs.lemmas.List.{append-nil}
 use Rattle.reuse_style.specs.declared.style.Style.{Style}
-use Rattle.reuse_header.specs.declared.annotation.HeaderRefusal.{HeaderRefusal}
+use Rattle.reuse_header.specs.declared.annotation.HeaderRefusal.TheVariants.{NotText, NoSuchForm, HoldsCloser, TooLong}
+use Rattle.reuse_header.specs.declared.annotation.HeaderRefusal.TheVariants.{Unsettled, Memory}
+use Rattle.reuse_words.specs.Added.{text_answer, IsExpectedTextEdit}
+use Rattle.reuse_words.specs.declared.refusal.TextHeaderRefusal.{TextHeaderRefusal}
+use Rattle.reuse_words.specs.declared.refusal.TextHeaderRefusal.TheVariants.{BadText, Header}
+use Rattle.reuse_plan.specs.HeaderFaults.{text_refused_by}
 use Rattle.reuse_header.specs.declared.annotation.Splice.{Splice}
 use Rattle.reuse_header.specs.declared.harm.Harm.{Harm}
 use Rattle.reuse_header.specs.Annotation as header
 use Rattle.reuse_header.specs.Header.{header_of}
-use Rattle.reuse_header.specs.Splices.{answer_of}
 use Rattle.reuse_change.specs.Change.{sealed_make, sealed_splice}
 use Rattle.sha2.specs.Sha256.{sha256}
 use Rattle.reuse_text.specs.declared.TheConstants.{LONGEST_FILE}
+use Rattle.reuse_plan.specs.Annotation.{annotation_of, neighbour_annotation_of}
 use Rattle.reuse_plan.specs.Edit.{Edit}
-use Rattle.reuse_header.specs.Neighbour.{neighbour_annotation_of}
 use Rattle.reuse_plan.specs.Annotate.{neighbour_of, neighbour_is_tagged, goes_to_neighbour, target_of, edit_by}
 use Rattle.reuse_plan.specs.Annotate.{annotated_where}
 use Rattle.reuse_plan.specs.AnnotationPlan.{own_of, annotated_by, beside_by, neighbour_by, inside_by, place_by}
@@ -27,7 +31,7 @@ use Rattle.reuse_command.specs.Covered.{is_covered}
 use Rattle.reuse_command.specs.declared.reply.Refusal.TheVariants as refusals
 use Rattle.reuse_plan.specs.declared.target.Target.TheVariants.{InNeighbour}
 use Rattle.reuse_plan.specs.Annotations.{Expected, Fits}
-use Rattle.reuse_plan.specs.Plan.{CarriesOutEdit, MakesEdit}
+use Rattle.reuse_plan.specs.Plan.{CarriesOutEdit, IsRefusalOf, MakesEdit}
 use Rattle.reuse_plan.specs.Steps.{short_file}
 use Rattle.reuse_plan.specs.declared.annotation.Annotation.{Annotation}
 use Rattle.reuse_command.specs.declared.reply.Refusal.{Refusal}
@@ -46,7 +50,7 @@ pub fits_by : (bytes : List ℕ) (expected : Expected) → ((edit : header.Edit)
 fits_by bytes (Ok edit) each = each edit refl
 fits_by bytes (Err refusal) each = tt
 
-abbrev answered : Option Splice → Result (Option Splice) HeaderRefusal
+abbrev answered : Option Splice → Result (Option Splice) TextHeaderRefusal
 answered splice = Ok splice
 
 abbrev pub edited_to : Option Edit → Result (Option Edit) Refusal
@@ -58,7 +62,7 @@ same_splice one other e = cc
 -- the change of a file that is there
 pub change_made : (tree : Files) (path at clone bytes : List ℕ) (expected : Expected) (splice : Splice)
     → get tree at ≡ Some bytes → length bytes ≤ LONGEST_FILE → Fits bytes expected
-    → answer_of bytes expected ≡ answered (Some splice) → clone ≡ at
+    → text_answer bytes expected ≡ answered (Some splice) → clone ≡ at
     → MakesEdit tree (edit_by path at bytes expected) (Some (sealed_splice clone bytes splice.at splice.old splice.new))
 change_made tree path at clone bytes (Err refusal) splice here short fits answer same = absurd (cc)
 change_made tree path at clone bytes (Ok edit) splice here short fits answer same =
@@ -102,7 +106,7 @@ drop_none (suc n) = refl
 
 -- the change that makes a file
 pub making_made : (tree : Files) (path at clone : List ℕ) (expected : Expected) (splice : Splice) → get tree at ≡ None
-    → Fits [] expected → answer_of [] expected ≡ answered (Some splice) → clone ≡ at
+    → Fits [] expected → text_answer [] expected ≡ answered (Some splice) → clone ≡ at
     → MakesEdit tree (edit_by path at [] expected) (Some (sealed_make clone splice.new))
 making_made tree path at clone (Err refusal) splice here fits answer same = absurd (cc)
 making_made tree path at clone (Ok edit) splice here fits answer same =
@@ -149,6 +153,26 @@ making_made tree path at clone (Ok edit) splice here fits answer same =
           (subst (λ (s : Splice). CarriesOutEdit tree (sealed_make at s.new) it) (same_splice made splice h) makes),
     )
 
+-- ---- why a header isn't written
+
+err_edit : (path at file : List ℕ) (expected : Expected) (refusal : TextHeaderRefusal)
+    → text_answer file expected ≡ Err refusal → edit_by path at file expected ≡ Err (text_refused_by path refusal)
+err_edit path at file (Ok edit) refusal e = absurd (cc)
+err_edit path at file (Err other) refusal e = let same : other ≡ refusal = cc in
+    ap (λ r. Err (text_refused_by path r)) same
+
+-- its refusal is the one of the path
+pub refused_edit : (path at file : List ℕ) (expected : Expected) (refusal : TextHeaderRefusal)
+    → IsExpectedTextEdit (text_answer file expected) (Err refusal)
+    → IsRefusalOf (edit_by path at file expected) (text_refused_by path refusal)
+refused_edit path at file expected BadText is = err_edit path at file expected BadText is
+refused_edit path at file expected (Header NotText) is = err_edit path at file expected (Header NotText) is
+refused_edit path at file expected (Header NoSuchForm) is = err_edit path at file expected (Header NoSuchForm) is
+refused_edit path at file expected (Header HoldsCloser) is = err_edit path at file expected (Header HoldsCloser) is
+refused_edit path at file expected (Header TooLong) is = err_edit path at file expected (Header TooLong) is
+refused_edit path at file expected (Header Unsettled) is = err_edit path at file expected (Header Unsettled) is
+refused_edit path at file expected (Header (Memory e)) is = tt
+
 -- ---- files that are not skipped
 
 pub same_some : {X Y Z : Type 0} (f : X → Z) (g : Y → Z) (x : Option X) (y : Option Y) → option_map f x ≡ option_map g y
@@ -161,9 +185,9 @@ same_some f g (Some x) None e = absurd (cc)
 pub inside_is : (asked : Annotation) (path bytes : List ℕ) (style : Style)
     → (asked.scope.now.skip_existing && is_some (header_of style bytes)) ≡ false
     → inside_by asked path bytes style ≡ edit_by path path bytes
-    (header.annotation_of style asked.how.now asked.additions.now bytes)
+    (annotation_of style asked.how.now asked.additions.now bytes)
 inside_is asked path bytes style e = ap (λ b. cond b (edited_to None)
-    (edit_by path path bytes (header.annotation_of style asked.how.now asked.additions.now bytes))) e
+    (edit_by path path bytes (annotation_of style asked.how.now asked.additions.now bytes))) e
 
 -- ---- a file that was read
 
@@ -308,7 +332,7 @@ module _ (asked : Annotation) (path : List ℕ) where
   pub inside_unskipped : (bytes : List ℕ) (style : Style)
       → (asked.scope.now.skip_existing && is_some (header_of style bytes)) ≡ false
       → path_inside_by asked path bytes style ≡ unskipped path (harm_inside style bytes)
-      (edit_by path path bytes (header.annotation_of style asked.how.now asked.additions.now bytes))
+      (edit_by path path bytes (annotation_of style asked.how.now asked.additions.now bytes))
   inside_unskipped bytes style kept =
       ap₂ (λ s e. record { path = path; skipped = s; harm = harm_inside style bytes; left = false; edit = e }) kept
       (inside_is asked path bytes style kept)

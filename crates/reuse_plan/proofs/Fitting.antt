@@ -13,16 +13,16 @@ use Rattle.std.proofs.lemmas.List.{drop-drop, reverse-append}
 use Rattle.std.proofs.lemmas.List.Sums.{suffix_len-le-length}
 use Rattle.std.proofs.lemmas.Map.Keys.{IsDistinct-cons, sorted_head, sorted_tail}
 use Rattle.std.proofs.lemmas.Slice.Eq.{bytes_eq-Decides}
-use Rattle.reuse_notice.specs.declared.adding.Additions.{Additions}
+use Rattle.reuse_command.specs.declared.command.HeaderAdditions.{HeaderAdditions}
 use Rattle.reuse_command.specs.declared.command.FileAmendment.{FileAmendment}
 use Rattle.reuse_style.specs.declared.style.Style.{Style}
 use Rattle.reuse_header.specs.declared.annotation.How.{How}
 use Rattle.reuse_header.specs.Annotation as header
 use Rattle.reuse_header.specs.Header.{header_of}
-use Rattle.reuse_header.specs.Neighbour.{neighbour_annotation_of}
 use Rattle.reuse_change.specs.Path.{is_path, lies_under, journal_folder}
 use Rattle.reuse_change.specs.Files.{Files, AreFiles}
 use Rattle.reuse_text.specs.declared.TheConstants.{LONGEST_FILE}
+use Rattle.reuse_plan.specs.Annotation.{annotation_of, neighbour_annotation_of}
 use Rattle.reuse_plan.specs.Amend.{amended_at}
 use Rattle.reuse_plan.specs.Annotate.{neighbour_of, neighbour_is_tagged, target_of, edit_by, edit_inside}
 use Rattle.reuse_plan.specs.Annotate.{edit_neighbour, edit_of_neighbour, edit_target, annotated_where, annotated_at}
@@ -182,10 +182,10 @@ edit_at path at bytes (Ok one) edit e =
     let made = (unskipped (bytes_eq (header.edited bytes one) bytes) _ edit e).1 in
     ap (λ (x : Edit). x.path) (sym (same_edit _ edit made))
 
-module _ (how : How) (scope : Scope) (additions : Additions) (tree : Files) (path : List ℕ) (edit : Edit) where
+module _ (how : How) (scope : Scope) (additions : HeaderAdditions) (tree : Files) (path : List ℕ) (edit : Edit) where
   inside_at : (bytes : List ℕ) (style : Style) → edit_inside how scope additions path bytes style ≡ some_edit edit
       → edit.path ≡ path
-  inside_at bytes style e = edit_at path path bytes (header.annotation_of style how additions bytes) edit
+  inside_at bytes style e = edit_at path path bytes (annotation_of style how additions bytes) edit
       (unskipped (scope.skip_existing && is_some (header_of style bytes)) _ edit e).1
 
   neighbour_at : (file : Option (List ℕ)) → edit_neighbour how scope additions tree path file ≡ some_edit edit

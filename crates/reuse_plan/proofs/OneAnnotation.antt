@@ -1,13 +1,16 @@
 -- One annotation: the place that it goes to, and the text that it leaves there.
 use Rattle.std.proofs.Common.{◌≡◌, ◌≢◌, ◌⊎◌, inl, inr, ℕ, Bool, true, false, ◌&&◌, List, Some, None, IsSome, is_some}
-use Rattle.std.proofs.Common.{sym, ap, subst, ◌∙◌, [], ◌∷◌, refl, Option, Ok, bytes_eq, Contains}
+use Rattle.std.proofs.Common.{sym, ap, subst, ◌∙◌, [], ◌∷◌, refl, Option, Ok, Err, bytes_eq, Contains}
 use Rattle.std.proofs.lemmas.Bool.{false≢true}
 use Rattle.std.proofs.lemmas.Option.{same_Some, none-some}
 use Rattle.reuse_style.specs.declared.style.Style.{Style}
 use Rattle.reuse_style.specs.declared.style.Kind.{Kind}
 use Rattle.reuse_style.specs.declared.style.Kind.TheVariants as kind
 use Rattle.reuse_header.specs.Header.{header_of}
-use Rattle.reuse_header.specs.Neighbour.{is_text, neighbour_annotated}
+use Rattle.reuse_header.specs.Neighbour.{is_text}
+use Rattle.reuse_plan.specs.Annotation.{annotated, annotation_of, made_by, neighbour_annotated}
+use Rattle.reuse_plan.specs.Annotation.{neighbour_annotation_of}
+use Rattle.reuse_plan.specs.Annotations.{Expected}
 use Rattle.reuse_plan.specs.Annotate.{neighbour_is_tagged, neighbour_of}
 use Rattle.reuse_plan.specs.Annotated.{Pair, IsStyleOf, HasKind, TakesComment, TakesNeighbour, IsSkipped, IsCommented}
 use Rattle.reuse_plan.specs.Annotated.{IsAccompanied, IsAnnotated, Annotates, file_written, pair_at, StaysOrIsText}
@@ -17,9 +20,12 @@ use Rattle.reuse_command.specs.declared.command.Unknown.TheVariants as unknown
 use Rattle.reuse_command.specs.Reading.{get, Files}
 use Rattle.std.proofs.lemmas.Slice.Eq.{bytes_eq-Decides}
 use Rattle.reuse_notice.specs.declared.adding.Additions.{Additions}
+use Rattle.reuse_header.specs.Annotation as header
+use Rattle.reuse_words.specs.Added.{text_annotation_of, neighbour_text_annotation_of}
+use Rattle.reuse_words.specs.Texts.{AreTexts}
+use Rattle.reuse_command.specs.declared.command.HeaderAdditions.{HeaderAdditions}
 use Rattle.reuse_notice.proofs.SetLemmas.{In, In-from_contains, Contains-from_in}
 use Rattle.reuse_header.specs.declared.annotation.How.{How}
-use Rattle.reuse_header.specs.Annotation.{annotated}
 use Rattle.reuse_change.proofs.FileMaps.{same_files}
 use Rattle.reuse_plan.specs.Selected.{selected_paths}
 use Rattle.reuse_command.specs.declared.command.Place.{Place}
@@ -111,7 +117,7 @@ beside_not_skipped scope own path bytes pair takes kept (inr (skip, inr (beside,
 
 -- ---- one file
 
-module _ (additions : Additions) (how : How) (scope : Scope) (own : OwnKinds) (path bytes : List ℕ)
+module _ (additions : HeaderAdditions) (how : How) (scope : Scope) (own : OwnKinds) (path bytes : List ℕ)
     (old new other : Pair) where
   both_commented : IsCommented additions how scope own path bytes old new
       → IsCommented additions how scope own path bytes old other → new ≡ other
@@ -148,7 +154,7 @@ module _ (additions : Additions) (how : How) (scope : Scope) (own : OwnKinds) (p
   becomes_one (inr one) (inl two) = absurd (one.0 two.0)
   becomes_one (inr one) (inr two) = both_written one.1 two.1
 
-annotated_one : (additions : Additions) (how : How) (scope : Scope) (own : OwnKinds) (path : List ℕ)
+annotated_one : (additions : HeaderAdditions) (how : How) (scope : Scope) (own : OwnKinds) (path : List ℕ)
     (old new other : Pair) → IsAnnotated additions how scope own path old new
     → IsAnnotated additions how scope own path old other → new ≡ other
 annotated_one additions how scope own path old new other one two =
@@ -179,7 +185,7 @@ module _ (of : List ℕ → List ℕ) (q : List ℕ) where
         | inr later ↦ none path later
       ])
 
-module _ (places : List Place) (additions : Additions) (how : How) (scope : Scope) (before after other : Files)
+module _ (places : List Place) (additions : HeaderAdditions) (how : How) (scope : Scope) (before after other : Files)
     (one : Annotates places additions how scope before after)
     (two : Annotates places additions how scope before other) where
   abbrev paths : List (List ℕ)
@@ -214,14 +220,21 @@ module _ (places : List Place) (additions : Additions) (how : How) (scope : Scop
 
 -- what the header rules make of text is text
 abbrev pub MakesTexts : Type 0
-MakesTexts =
-    (style : Style) (how : How) (additions : Additions) (file made : List ℕ) → ArePlain additions → AreUtf8 additions
-    → is_text file ≡ true → annotated style how additions file ≡ Ok made → is_text made ≡ true
+MakesTexts = (style : Style) (how : How) (tags : Additions) (texts : List (List (List ℕ))) (file : List ℕ)
+    (edit : header.Edit) → ArePlain tags → AreUtf8 tags → AreTexts texts → is_text file ≡ true
+    → text_annotation_of style how tags texts file ≡ Ok edit → is_text (header.edited file edit) ≡ true
 
 abbrev pub MakesNeighbourTexts : Type 0
-MakesNeighbourTexts =
-    (how : How) (additions : Additions) (file made : List ℕ) → ArePlain additions → AreUtf8 additions
-    → neighbour_annotated how additions file ≡ Ok made → (is_text file ≡ true) × (is_text made ≡ true)
+MakesNeighbourTexts = (how : How) (tags : Additions) (texts : List (List (List ℕ))) (file : List ℕ)
+    (edit : header.Edit) → ArePlain tags → AreUtf8 tags → AreTexts texts
+    → neighbour_text_annotation_of how tags texts file ≡ Ok edit
+    → (is_text file ≡ true) × (is_text (header.edited file edit) ≡ true)
+
+-- what is made is made by an edit
+made_from : (file made : List ℕ) (expected : Expected) → made_by file expected ≡ Ok made
+    → (edit : header.Edit) × (expected ≡ Ok edit) × (header.edited file edit ≡ made)
+made_from file made (Ok edit) e = (edit, refl, let same : header.edited file edit ≡ made = cc e in same)
+made_from file made (Err refusal) e = absurd (let none : ⊥ = cc e in none)
 
 -- a file stays, or is one of text then
 abbrev Stays : Option (List ℕ) → Option (List ℕ) → Type 0
@@ -232,8 +245,21 @@ written_stays None [] text = inl refl
 written_stays None (b ∷ made) text = inr (b ∷ made, refl, text)
 written_stays (Some bytes) made text = inr (made, refl, text)
 
-module _ (files : MakesTexts) (beside : MakesNeighbourTexts) (additions : Additions) (how : How) (scope : Scope)
-    (plain : ArePlain additions) (utf8 : AreUtf8 additions) where
+module _ (files : MakesTexts) (beside : MakesNeighbourTexts) (additions : HeaderAdditions) (how : How) (scope : Scope)
+    (plain : ArePlain additions.tags) (utf8 : AreUtf8 additions.tags) (are : AreTexts additions.texts) where
+  file_text : (style : Style) (file made : List ℕ) → is_text file ≡ true → annotated style how additions file ≡ Ok made
+      → is_text made ≡ true
+  file_text style file made text e =
+      let from = made_from file made (annotation_of style how additions file) e in
+      ap is_text (sym from.2)
+      ∙ files style how additions.tags additions.texts file from.0 plain utf8 are text from.1
+
+  neighbour_text : (file made : List ℕ) → neighbour_annotated how additions file ≡ Ok made → is_text made ≡ true
+  neighbour_text file made e =
+      let from = made_from file made (neighbour_annotation_of how additions file) e in
+      ap is_text (sym from.2)
+      ∙ (beside how additions.tags additions.texts file from.0 plain utf8 are from.1).1
+
   module _ (own : OwnKinds) (path : List ℕ) (old new : Pair)
       (is : IsAnnotated additions how scope own path old new) where
     commented : IsCommented additions how scope own path is.bytes old new
@@ -242,7 +268,7 @@ module _ (files : MakesTexts) (beside : MakesNeighbourTexts) (additions : Additi
       inr (
         c.made,
         ap (λ (pair : Pair). pair.file) c.holds,
-        files c.style how additions is.bytes c.made plain utf8 c.takes.text c.by_rules,
+        file_text c.style is.bytes c.made c.takes.text c.by_rules,
       ),
       inl (ap (λ (pair : Pair). pair.neighbour) c.holds ∙ sym c.takes.alone),
     )
@@ -252,7 +278,7 @@ module _ (files : MakesTexts) (beside : MakesNeighbourTexts) (additions : Additi
     accompanied a = (
       inl (ap (λ (pair : Pair). pair.file) a.holds),
       subst (λ (file : Option (List ℕ)). Stays old.neighbour file) (sym (ap (λ (pair : Pair). pair.neighbour) a.holds))
-          (written_stays old.neighbour a.made (beside how additions _ a.made plain utf8 a.by_rules).1),
+          (written_stays old.neighbour a.made (neighbour_text _ a.made a.by_rules)),
     )
 
     pair_stays : Stays old.file new.file × Stays old.neighbour new.neighbour

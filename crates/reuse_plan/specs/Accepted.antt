@@ -4,11 +4,10 @@ use Rattle.std.specs.List.{Contains}
 use Rattle.std.specs.FinMap.{get}
 use Rattle.reuse_change.specs.declared.layout.TheConstants.{LARGEST_ENTRY, MOST_CHANGES}
 use Rattle.reuse_text.specs.declared.TheConstants.{LONGEST_FILE}
-use Rattle.reuse_notice.specs.declared.adding.Additions.{Additions}
+use Rattle.reuse_command.specs.declared.command.HeaderAdditions.{HeaderAdditions}
 use Rattle.reuse_amend.specs.declared.amendments.Amendments.{Amendments}
-use Rattle.reuse_header.specs.Annotation.{annotated}
 use Rattle.reuse_header.specs.Amendment.{amended_file, amendment_of, neighbour_amendment_of}
-use Rattle.reuse_header.specs.Neighbour.{is_text, neighbour_annotated}
+use Rattle.reuse_header.specs.Neighbour.{is_text}
 use Rattle.reuse_tags.specs.Everywhere.{amended_everywhere}
 use Rattle.reuse_header.specs.declared.annotation.How.{How}
 use Rattle.reuse_style.specs.Kinds.{OwnKinds, kind_unread}
@@ -18,6 +17,7 @@ use Rattle.reuse_style.specs.declared.style.Kind.TheVariants as kind
 use Rattle.reuse_dep5.specs.Conversion.{converted}
 use Rattle.reuse_toml.specs.TomlAmending.{toml_amendment_of}
 use Rattle.reuse_change.specs.Files.{Files, Clashes}
+use Rattle.reuse_plan.specs.Annotation.{annotated, neighbour_annotated}
 use Rattle.reuse_plan.specs.Amend.{amended_table}
 use Rattle.reuse_plan.specs.Removed.{removal_of, text_left, neighbour_removal_of, neighbour_left}
 use Rattle.reuse_plan.specs.Annotate.{neighbour_of}
@@ -92,7 +92,7 @@ pub record HasRoomForNeighbour (tree : Files) (path : List ℕ) : Type 0 where
   pub free : get tree (neighbour_of path) ≡ None → ¬ (Clashes tree (neighbour_of path))
 
 -- the file is skipped, or the header rules accept its bytes in its style, or those of its neighbour
-abbrev pub RulesAccept : Additions → How → Scope → OwnKinds → List ℕ → List ℕ → Pair → Type 0
+abbrev pub RulesAccept : HeaderAdditions → How → Scope → OwnKinds → List ℕ → List ℕ → Pair → Type 0
 RulesAccept additions how scope own path bytes pair =
     IsSkipped scope own path bytes pair
     ⊎ ((style : Style) × TakesComment scope own path bytes pair style × IsOk (annotated style how additions bytes))
@@ -101,7 +101,7 @@ RulesAccept additions how scope own path bytes pair =
 
 -- the path has a covered file, which isn't too long where it is read, room beside it where its neighbour takes the
 -- information, and what the rules accept
-pub record CanBeAnnotated (additions : Additions) (how : How) (scope : Scope) (own : OwnKinds) (tree : Files)
+pub record CanBeAnnotated (additions : HeaderAdditions) (how : How) (scope : Scope) (own : OwnKinds) (tree : Files)
     (path : List ℕ) : Type 0 where
   pub bytes : List ℕ
   pub there : get tree path ≡ Some bytes
@@ -112,7 +112,7 @@ pub record CanBeAnnotated (additions : Additions) (how : How) (scope : Scope) (o
 
 -- the tree's own styles are good, the root is given only where folders are gone through, each path that is gone through
 -- can be annotated, and one entry holds them all
-pub record CanAnnotate (places : List Place) (additions : Additions) (how : How) (scope : Scope)
+pub record CanAnnotate (places : List Place) (additions : HeaderAdditions) (how : How) (scope : Scope)
     (tree : Files) : Type 0 where
   pub own : OwnKinds
   pub styles : styles_in tree ≡ Ok own

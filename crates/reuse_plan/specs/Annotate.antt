@@ -5,23 +5,24 @@ use Rattle.std.specs.Prelude.{Option, Some, None, is_some, is_none, Result, Ok, 
 use Rattle.std.specs.List.{list_any}
 use Rattle.std.specs.Str.{bytes_eq}
 use Rattle.std.specs.FinMap.{get}
-use Rattle.reuse_notice.specs.declared.adding.Additions.{Additions}
+use Rattle.reuse_command.specs.declared.command.HeaderAdditions.{HeaderAdditions}
 use Rattle.reuse_style.specs.declared.style.Style.{Style}
 use Rattle.reuse_style.specs.declared.style.Kind.{Kind}
 use Rattle.reuse_style.specs.declared.style.Kind.TheVariants as kind
 use Rattle.reuse_header.specs.declared.annotation.How.{How}
-use Rattle.reuse_header.specs.declared.annotation.HeaderRefusal.{HeaderRefusal}
 use Rattle.reuse_style.specs.Kinds.{OwnKinds, kind_of_file, kind_unread}
 use Rattle.reuse_text.specs.declared.TheConstants.{LONGEST_FILE}
 use Rattle.reuse_header.specs.Header.{header_of, neighbour_contents}
 use Rattle.reuse_header.specs.Tagged.{has_tag}
 use Rattle.reuse_header.specs.Annotation as header
-use Rattle.reuse_header.specs.Neighbour.{is_text, neighbour_annotation_of}
+use Rattle.reuse_header.specs.Neighbour.{is_text}
 use Rattle.reuse_change.specs.Files.{Files}
 use Rattle.reuse_command.specs.Covered.{is_covered}
 use Rattle.reuse_change.specs.Listing.{is_folder}
+use Rattle.reuse_plan.specs.Annotation.{annotation_of, neighbour_annotation_of}
 use Rattle.reuse_plan.specs.Edit.{Edit}
-use Rattle.reuse_plan.specs.HeaderFaults.{refused_by}
+use Rattle.reuse_plan.specs.HeaderFaults.{text_refused_by}
+use Rattle.reuse_words.specs.declared.refusal.TextHeaderRefusal.{TextHeaderRefusal}
 use Rattle.reuse_change.specs.Clash.{is_clash}
 use Rattle.reuse_command.specs.declared.command.Scope.{Scope}
 use Rattle.reuse_command.specs.declared.command.Unknown.{Unknown}
@@ -88,8 +89,8 @@ target_of scope own tree path bytes =
 -- ---- what is done there
 
 -- what an annotation makes of the bytes at a place; a refusal names the file
-abbrev pub edit_by : List ℕ → List ℕ → List ℕ → Result header.Edit HeaderRefusal → Result (Option Edit) Refusal
-edit_by path at bytes (Err refusal) = Err (refused_by path refusal)
+abbrev pub edit_by : List ℕ → List ℕ → List ℕ → Result header.Edit TextHeaderRefusal → Result (Option Edit) Refusal
+edit_by path at bytes (Err refusal) = Err (text_refused_by path refusal)
 edit_by path at bytes (Ok edit) =
     if bytes_eq (header.edited bytes edit) bytes then Ok None
     else Ok (Some (record {
@@ -100,17 +101,18 @@ edit_by path at bytes (Ok edit) =
     }))
 
 -- a file's own comment, unless it has a header block and such files are skipped
-abbrev pub edit_inside : How → Scope → Additions → List ℕ → List ℕ → Style → Result (Option Edit) Refusal
+abbrev pub edit_inside : How → Scope → HeaderAdditions → List ℕ → List ℕ → Style → Result (Option Edit) Refusal
 edit_inside how scope additions path bytes style =
     if scope.skip_existing && is_some (header_of style bytes) then Ok None
-    else edit_by path path bytes (header.annotation_of style how additions bytes)
+    else edit_by path path bytes (annotation_of style how additions bytes)
 
 -- whether a neighbour has licensing information
 abbrev pub neighbour_is_tagged : List ℕ → Bool
 neighbour_is_tagged bytes = list_any (has_tag []) (neighbour_contents bytes)
 
 -- the neighbour that is there, or that is made
-abbrev pub edit_neighbour : How → Scope → Additions → Files → List ℕ → Option (List ℕ) → Result (Option Edit) Refusal
+abbrev pub edit_neighbour : How → Scope → HeaderAdditions → Files → List ℕ → Option (List ℕ)
+    → Result (Option Edit) Refusal
 edit_neighbour how scope additions tree path None =
     if is_clash tree (neighbour_of path) then Err (Clash (neighbour_of path))
     else edit_by path (neighbour_of path) [] (neighbour_annotation_of how additions [])
@@ -119,12 +121,12 @@ edit_neighbour how scope additions tree path (Some bytes) =
     else if scope.skip_existing && neighbour_is_tagged bytes then Ok None
     else edit_by path (neighbour_of path) bytes (neighbour_annotation_of how additions bytes)
 
-abbrev pub edit_of_neighbour : How → Scope → Additions → Files → List ℕ → Result (Option Edit) Refusal
+abbrev pub edit_of_neighbour : How → Scope → HeaderAdditions → Files → List ℕ → Result (Option Edit) Refusal
 edit_of_neighbour how scope additions tree path =
     if nat_lt 4096 (length (neighbour_of path)) then Err (TooLong path)
     else edit_neighbour how scope additions tree path (get tree (neighbour_of path))
 
-abbrev pub edit_target : How → Scope → Additions → Files → List ℕ → List ℕ → Result Target Refusal
+abbrev pub edit_target : How → Scope → HeaderAdditions → Files → List ℕ → List ℕ → Result Target Refusal
     → Result (Option Edit) Refusal
 edit_target how scope additions tree path bytes (Err refusal) = Err refusal
 edit_target how scope additions tree path bytes (Ok Nowhere) = Ok None
@@ -132,7 +134,7 @@ edit_target how scope additions tree path bytes (Ok InNeighbour) = edit_of_neigh
 edit_target how scope additions tree path bytes (Ok (Inside style)) = edit_inside how scope additions path bytes style
 
 -- what annotate does at a path, where the tree has this
-abbrev pub annotated_where : How → Scope → Additions → OwnKinds → Files → List ℕ → Option (List ℕ)
+abbrev pub annotated_where : How → Scope → HeaderAdditions → OwnKinds → Files → List ℕ → Option (List ℕ)
     → Result (Option Edit) Refusal
 annotated_where how scope additions own tree path None =
     if is_folder tree path then Err (IsFolder (place.Path path)) else Err (NoSuchPath path)
@@ -140,5 +142,5 @@ annotated_where how scope additions own tree path (Some bytes) =
     if not (is_covered path) then Err (NotCovered path)
     else edit_target how scope additions tree path bytes (target_of scope own tree path bytes)
 
-abbrev pub annotated_at : How → Scope → Additions → OwnKinds → Files → List ℕ → Result (Option Edit) Refusal
+abbrev pub annotated_at : How → Scope → HeaderAdditions → OwnKinds → Files → List ℕ → Result (Option Edit) Refusal
 annotated_at how scope additions own tree path = annotated_where how scope additions own tree path (get tree path)

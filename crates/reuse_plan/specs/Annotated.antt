@@ -6,16 +6,17 @@ use Rattle.std.specs.List.{Contains}
 use Rattle.std.specs.Option.{option_map}
 use Rattle.std.specs.FinMap.{get}
 use Rattle.reuse_text.specs.Text.{mark_len_of}
-use Rattle.reuse_notice.specs.declared.adding.Additions.{Additions}
+use Rattle.reuse_command.specs.declared.command.HeaderAdditions.{HeaderAdditions}
 use Rattle.reuse_style.specs.declared.style.Style.{Style}
 use Rattle.reuse_style.specs.declared.style.Kind.{Kind}
 use Rattle.reuse_style.specs.declared.style.Kind.TheVariants as kind
 use Rattle.reuse_header.specs.declared.annotation.How.{How}
-use Rattle.reuse_header.specs.Annotation.{annotated, replaced_block}
+use Rattle.reuse_header.specs.Annotation.{replaced_block}
 use Rattle.reuse_header.specs.Header.{HeaderSpan, header_of, span_in}
 use Rattle.reuse_style.specs.Kinds.{OwnKinds, kind_of_file}
-use Rattle.reuse_header.specs.Neighbour.{is_text, neighbour_annotated, neighbour_end}
+use Rattle.reuse_header.specs.Neighbour.{is_text, neighbour_end}
 use Rattle.reuse_change.specs.Files.{Files}
+use Rattle.reuse_plan.specs.Annotation.{annotated, neighbour_annotated}
 use Rattle.reuse_plan.specs.Annotate.{neighbour_of, neighbour_is_tagged}
 use Rattle.reuse_command.specs.Covered.{is_covered}
 use Rattle.reuse_plan.specs.TreeStyles.{styles_in}
@@ -81,7 +82,7 @@ TakesNeighbour scope own path bytes pair =
 
 -- The file is commented: it holds what the header rules make of its own bytes. Each byte outside the old header block
 -- stays, and there is no neighbour.
-pub record IsCommented (additions : Additions) (how : How) (scope : Scope) (own : OwnKinds) (path bytes : List ℕ)
+pub record IsCommented (additions : HeaderAdditions) (how : How) (scope : Scope) (own : OwnKinds) (path bytes : List ℕ)
     (old new : Pair) : Type 0 where
   pub style : Style
   pub takes : TakesComment scope own path bytes old style
@@ -97,8 +98,8 @@ file_written old made = Some made
 
 -- The file stays, and its neighbour holds what the rules make of the neighbour's own bytes, or of none where it isn't
 -- there. Each byte outside its old block stays.
-pub record IsAccompanied (additions : Additions) (how : How) (scope : Scope) (own : OwnKinds) (path bytes : List ℕ)
-    (old new : Pair) : Type 0 where
+pub record IsAccompanied (additions : HeaderAdditions) (how : How) (scope : Scope) (own : OwnKinds)
+    (path bytes : List ℕ) (old new : Pair) : Type 0 where
   pub takes : TakesNeighbour scope own path bytes old
   pub made : List ℕ
   pub by_rules : neighbour_annotated how additions (unwrap_or old.neighbour []) ≡ Ok made
@@ -126,7 +127,7 @@ IsSkippedAt scope own tree path =
     (bytes : List ℕ) × (get tree path ≡ Some bytes) × IsSkipped scope own path bytes (pair_at tree path)
 
 -- the path has a covered file, which is skipped, and then both stay; or is commented; or accompanied
-pub record IsAnnotated (additions : Additions) (how : How) (scope : Scope) (own : OwnKinds) (path : List ℕ)
+pub record IsAnnotated (additions : HeaderAdditions) (how : How) (scope : Scope) (own : OwnKinds) (path : List ℕ)
     (old new : Pair) : Type 0 where
   pub bytes : List ℕ
   pub there : old.file ≡ Some bytes
@@ -140,7 +141,7 @@ pub record IsAnnotated (additions : Additions) (how : How) (scope : Scope) (own 
 
 -- by the tree's own styles each file that is gone through is annotated, and each path holds what it held that is none
 -- of these nor a neighbour of one
-pub record Annotates (places : List Place) (additions : Additions) (how : How) (scope : Scope)
+pub record Annotates (places : List Place) (additions : HeaderAdditions) (how : How) (scope : Scope)
     (before after : Files) : Type 0 where
   pub own : OwnKinds
   pub styles : styles_in before ≡ Ok own

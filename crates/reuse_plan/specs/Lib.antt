@@ -5,6 +5,7 @@ pub mod AmendmentPlan
 pub mod Annotate
 pub mod Annotated
 pub mod AnnotationPlan
+pub mod Annotation
 pub mod Annotations
 pub mod FileTask
 pub mod Chosen

@@ -4,7 +4,7 @@ use Rattle.std.specs.Prelude.{Result, Ok, Err, nat_lt, if◌then◌else◌}
 use Rattle.std.specs.List.{sum_by}
 use Rattle.std.specs.FinMap.{insert, remove}
 use Rattle.reuse_change.specs.declared.layout.TheConstants.{LARGEST_ENTRY, MOST_CHANGES}
-use Rattle.reuse_notice.specs.declared.adding.Additions.{Additions}
+use Rattle.reuse_command.specs.declared.command.HeaderAdditions.{HeaderAdditions}
 use Rattle.reuse_header.specs.declared.annotation.How.{How}
 use Rattle.reuse_change.specs.Files.{Files}
 use Rattle.reuse_plan.specs.Amend.{amended_at}
@@ -71,7 +71,7 @@ at_places at scope places paths =
     if not scope.recursive && has_root places then refused_alone (IsFolder place.Root) else map at paths
 
 -- what annotate does at a path, where the tree gives these kinds to its own names
-abbrev pub annotation_at : How → Scope → Additions → OwnKinds → Files → List ℕ → PathEdit
+abbrev pub annotation_at : How → Scope → HeaderAdditions → OwnKinds → Files → List ℕ → PathEdit
 annotation_at how scope additions own tree path =
     record {
       path = path;
@@ -82,7 +82,7 @@ annotation_at how scope additions own tree path =
     }
 
 -- at these places; the refusal of the tree's styles stands alone
-abbrev pub annotations_by : List Place → Additions → How → Scope → Files → Result OwnKinds Refusal → List PathEdit
+abbrev pub annotations_by : List Place → HeaderAdditions → How → Scope → Files → Result OwnKinds Refusal → List PathEdit
 annotations_by places additions how scope tree (Err refusal) = refused_alone refusal
 annotations_by places additions how scope tree (Ok own) =
     at_places (annotation_at how scope additions own tree) scope places (selected_paths scope places tree)

@@ -4,14 +4,13 @@ ghost use Rattle.reuse_plan.specs.FileTask.{scope_of, works_on};
 
 use crate::covered::{is_amendable, is_covered};
 use reuse_change::PathText;
-use reuse_command::command::{FileAmendment, Scope};
+use reuse_command::command::{FileAmendment, HeaderAdditions, Scope};
 use reuse_header::{How, StyleTable};
-use reuse_notice::Additions;
 
 /// What is asked of an annotation, and the styles of the tree that it is of.
 #[derive(Clone, Copy)]
 pub(crate) struct Annotation<'a, 'own> {
-    pub(crate) additions: &'a Additions,
+    pub(crate) additions: &'a HeaderAdditions,
     pub(crate) how: &'a How,
     pub(crate) scope: &'a Scope,
     pub(crate) styles: &'a StyleTable<'own>,

@@ -3,15 +3,15 @@ ghost use Rattle.std.specs.Prelude.{◌≡◌, ◌≤◌, ◌+◌, [], take, dro
 ghost use Rattle.reuse_text.specs.declared.TheConstants.{LONGEST_FILE};
 ghost use Rattle.reuse_command.specs.Reading.{get, Files};
 ghost use Rattle.reuse_change.specs.Change.{sealed_splice};
-ghost use Rattle.reuse_header.specs.Splices.{IsExpected, answer_of};
 ghost use Rattle.reuse_header.specs.Amendment.{amendment_answer, IsExpectedAmendment};
 ghost use Rattle.reuse_amend.specs.declared.amendments.Amendments.{Amendments};
 ghost use Rattle.reuse_toml.specs.TomlAmending.{toml_amendment_of};
 ghost use Rattle.reuse_toml.specs.TomlAnswers.{IsTomlAnswer};
+ghost use Rattle.reuse_words.specs.Added.{IsExpectedTextEdit, text_answer};
 ghost use Rattle.reuse_plan.specs.Amend.{amendment_edit, amend_refused_by, table_amendment, table_refused_by};
 ghost use Rattle.reuse_plan.specs.AmendmentPlan as amending;
 ghost use Rattle.reuse_plan.specs.Annotate.{edit_by};
-ghost use Rattle.reuse_plan.specs.HeaderFaults.{refused_by};
+ghost use Rattle.reuse_plan.specs.HeaderFaults.{refused_by, text_refused_by};
 ghost use Rattle.reuse_plan.specs.Left.{names_behind};
 ghost use Rattle.reuse_plan.specs.Annotations.{Fits, Expected};
 ghost use Rattle.reuse_plan.specs.Edit.{edit_between};
@@ -28,6 +28,7 @@ use reuse_command::reply::Refusal;
 use reuse_header::{AmendHeaderRefusal, HeaderRefusal, Splice};
 use reuse_text::{Bytes, Difference, difference_of};
 use reuse_toml::{AmendTomlRefusal, TomlSplice};
+use reuse_words::TextHeaderRefusal;
 use std::alloc::{AllocError, Global};
 
 /// The change of a file that is there, of these bytes, by what an annotation makes of it. A refusal
@@ -37,16 +38,16 @@ pub(crate) fn change_by(
     path: &PathText,
     at: &PathText,
     file: &[u8],
-    made: Result<Option<Splice>, HeaderRefusal>,
+    made: Result<Option<Splice>, TextHeaderRefusal>,
 ) -> Result<Option<Change>, Refusal>
     ensures edit { (tree : Files) (expected : Expected) → get tree at.now ≡ Some file.now
         → length file.now ≤ LONGEST_FILE
-        → Fits file.now expected → IsExpected (answer_of file.now expected) made
+        → Fits file.now expected → IsExpectedTextEdit (text_answer file.now expected) made
         → AnswersEdit tree (edit_by path.now at.now file.now expected) result }
     ensures no_fault { IfErr result IsNoFault }
 {
     match made {
-        Err(refusal) => Err(refused_by(alloc, path, refusal)?),
+        Err(refusal) => Err(text_refused_by(alloc, path, refusal)?),
         Ok(None) => Ok(None),
         Ok(Some(splice)) => Ok(Some(Change::sealed_splice(
             at.try_clone(alloc)?,
@@ -63,15 +64,15 @@ pub(crate) fn making_by(
     alloc: Global,
     path: &PathText,
     at: &PathText,
-    made: Result<Option<Splice>, HeaderRefusal>,
+    made: Result<Option<Splice>, TextHeaderRefusal>,
 ) -> Result<Option<Change>, Refusal>
     ensures edit { (tree : Files) (expected : Expected) → get tree at.now ≡ None → Fits [] expected
-        → IsExpected (answer_of [] expected) made
+        → IsExpectedTextEdit (text_answer [] expected) made
         → AnswersEdit tree (edit_by path.now at.now [] expected) result }
     ensures no_fault { IfErr result IsNoFault }
 {
     match made {
-        Err(refusal) => Err(refused_by(alloc, path, refusal)?),
+        Err(refusal) => Err(text_refused_by(alloc, path, refusal)?),
         Ok(None) => Ok(None),
         Ok(Some(splice)) => Ok(Some(Change::sealed_make(at.try_clone(alloc)?, splice.new))),
     }
@@ -220,6 +221,22 @@ pub(crate) fn amend_refused_by(
         AmendHeaderRefusal::Header(refusal) => return refused_by(alloc, path, refusal),
     };
     Ok(Refusal::Amend(path.try_clone(alloc)?, fault))
+}
+
+// The refusal of what is added to a header, with the path of its file.
+fn text_refused_by(
+    alloc: Global,
+    path: &PathText,
+    refusal: TextHeaderRefusal,
+) -> Result<Refusal, AllocError>
+    ensures { IfOk result (λ refused. refused ≡ text_refused_by path.now refusal) }
+{
+    match refusal {
+        TextHeaderRefusal::BadText => {
+            Ok(Refusal::Header(path.try_clone(alloc)?, HeaderFault::BadText))
+        }
+        TextHeaderRefusal::Header(refusal) => refused_by(alloc, path, refusal),
+    }
 }
 
 /// A header's refusal, with the path of its file.

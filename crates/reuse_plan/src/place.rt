@@ -7,10 +7,12 @@ ghost use Rattle.reuse_plan.specs.Shown.{ShowsPair};
 ghost use Rattle.reuse_change.specs.Clash.{is_clash};
 ghost use Rattle.reuse_header.specs.declared.annotation.How.{How};
 ghost use Rattle.reuse_style.specs.Kinds.{OwnKinds};
-ghost use Rattle.reuse_notice.specs.declared.adding.Additions.{Additions};
+ghost use Rattle.reuse_command.specs.declared.command.HeaderAdditions.{HeaderAdditions};
 ghost use Rattle.reuse_command.specs.declared.command.FileAmendment.{FileAmendment};
 ghost use Rattle.reuse_plan.specs.Amend.{amended_at};
 ghost use Rattle.reuse_plan.specs.Annotate.{neighbour_of, annotated_at};
+ghost use Rattle.reuse_plan.specs.Annotation.{annotation_of, neighbour_annotation_of};
+ghost use Rattle.reuse_words.specs.Added.{IsExpectedTextEdit, text_answer};
 ghost use Rattle.reuse_plan.specs.AnnotationPlan.{neighbour_by, path_inside_by, path_neighbour_by};
 ghost use Rattle.reuse_plan.specs.Harmed.{harm_inside};
 ghost use Rattle.reuse_plan.specs.PathPlans.{AnswersPlan};
@@ -31,12 +33,12 @@ use reuse_change::{Change, PathError, PathText, is_folder};
 use reuse_command::command::Place;
 use reuse_command::failure::Failure;
 use reuse_command::reply::Refusal;
-use reuse_header::{
-    Harm, Style, annotate_file, annotate_neighbour, annotations_fit, find, harm_of,
-    neighbour_has_tag, text_stands_first,
-};
+use reuse_header::{Harm, Splice, Style, find, harm_of, neighbour_has_tag, text_stands_first};
 use reuse_store::{Reading, Store, is_clash_at};
 use reuse_text::{Bytes, LONGEST_FILE};
+use reuse_words::{
+    TextHeaderRefusal, annotate_file_with, annotate_neighbour_with, text_annotations_fit,
+};
 use std::alloc::{AllocError, Global};
 
 /// What is known of a path once its file was read.
@@ -54,7 +56,7 @@ pub(crate) fn absent_refusal(
     paths: &[PathText],
     path: &PathText,
 ) -> Result<Refusal, AllocError>
-    ensures annotated { (how : How) (scope : Scope) (additions : Additions) (own : OwnKinds) (tree : Files)
+    ensures annotated { (how : How) (scope : Scope) (additions : HeaderAdditions) (own : OwnKinds) (tree : Files)
         → ShowsPair paths.now tree path.now → is_among paths.now path.now ≡ false
         → IfOk result (λ refusal. annotated_at how scope additions own tree path.now ≡ Err refusal) }
     ensures amended { (amendment : FileAmendment) (scope : Scope) (own : OwnKinds) (tree : Files)
@@ -146,8 +148,8 @@ fn plan_inside(
         return Ok(Step::Done(PathPlan::Skipped(path.try_clone(alloc)?)));
     }
     // That the edit lies within the file, and makes none that is too long.
-    annotations_fit();
-    let made = annotate_file(alloc, bytes, style, asked.additions, asked.how);
+    text_annotations_fit();
+    let made = annotate_inside(alloc, bytes, style, asked);
     match change_by(alloc, path, path, bytes, made) {
         Ok(Some(change)) => {
             let harm = harm_inside(bytes, style);
@@ -156,6 +158,22 @@ fn plan_inside(
         Ok(None) => Ok(Step::Done(PathPlan::Unchanged(path.try_clone(alloc)?))),
         Err(refusal) => Err(refusal),
     }
+}
+
+// What is made of a file, of these bytes, in its own comment.
+fn annotate_inside(
+    alloc: Global,
+    bytes: &[u8],
+    style: &Style<'_>,
+    asked: &Annotation<'_, '_>,
+) -> Result<Option<Splice>, TextHeaderRefusal>
+    requires { length bytes.now ≤ LONGEST_FILE }
+    ensures { IsExpectedTextEdit (text_answer bytes.now
+        (annotation_of style.now asked.now.how.now asked.now.additions.now bytes.now)) result }
+{
+    let added = asked.additions;
+    let texts = added.texts.as_slice();
+    annotate_file_with(alloc, bytes, style, &added.tags, texts, asked.how)
 }
 
 // What a header could break in a file of these bytes: one that is changed, or else the file's first.
@@ -190,12 +208,26 @@ pub(crate) fn plan_neighbour(
         return Ok(PathPlan::Skipped(path.try_clone(alloc)?));
     }
     // That the edit lies within the file, and makes none that is too long.
-    annotations_fit();
-    let made = annotate_neighbour(alloc, bytes.as_slice(), asked.additions, asked.how);
+    text_annotations_fit();
+    let made = annotate_beside(alloc, bytes.as_slice(), asked);
     match change_by(alloc, path, neighbour, bytes.as_slice(), made) {
         Ok(change) => Ok(PathPlan::of_change(alloc, path, change)?),
         Err(refusal) => Err(refusal),
     }
+}
+
+// What is made of a neighbour, of these bytes.
+fn annotate_beside(
+    alloc: Global,
+    bytes: &[u8],
+    asked: &Annotation<'_, '_>,
+) -> Result<Option<Splice>, TextHeaderRefusal>
+    requires { length bytes.now ≤ LONGEST_FILE }
+    ensures { IsExpectedTextEdit (text_answer bytes.now
+        (neighbour_annotation_of asked.now.how.now asked.now.additions.now bytes.now)) result }
+{
+    let added = asked.additions;
+    annotate_neighbour_with(alloc, bytes, &added.tags, added.texts.as_slice(), asked.how)
 }
 
 /// The change that makes a neighbour, which is looked at by itself.
@@ -231,7 +263,7 @@ fn make_neighbour(
     ensures no_fault { IfErr result IsNoFault }
 {
     // That what is made isn't too long.
-    annotations_fit();
-    let made = annotate_neighbour(alloc, b"", asked.additions, asked.how);
+    text_annotations_fit();
+    let made = annotate_beside(alloc, b"", asked);
     making_by(alloc, path, &neighbour, made)
 }

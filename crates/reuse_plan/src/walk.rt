@@ -26,10 +26,9 @@ use crate::styles::{OwnFiles, read_own_files, styles_by};
 use crate::tree_paths::pair_paths;
 use crate::unused::Unused;
 use reuse_change::PathText;
-use reuse_command::command::{Command, FileAmendment, Place, Scope};
+use reuse_command::command::{Command, FileAmendment, HeaderAdditions, Place, Scope};
 use reuse_command::reply::Refusal;
 use reuse_header::How;
-use reuse_notice::Additions;
 use reuse_store::Store;
 use std::alloc::Global;
 
@@ -102,7 +101,7 @@ pub(crate) fn plan_command<S: Store>(
 #[derive(Clone, Copy)]
 struct Annotating<'a> {
     places: &'a [Place],
-    additions: &'a Additions,
+    additions: &'a HeaderAdditions,
     how: &'a How,
     scope: &'a Scope,
 }

@@ -1,7 +1,7 @@
 use Rattle.std.proofs.Common.{◌≡◌, ◌∙◌, false, ◌&&◌, is_some, refl, sym, ap, subst}
-use Rattle.reuse_header.specs.Annotation.{annotation_of}
 use Rattle.reuse_header.specs.Found.{block_view}
 use Rattle.reuse_header.specs.Header.{header_of, span_in}
+use Rattle.reuse_plan.specs.Annotation.{annotation_of}
 use Rattle.reuse_plan.specs.Annotate.{edit_by}
 use Rattle.reuse_plan.specs.AnnotationPlan.{path_inside_by}
 use Rattle.reuse_plan.specs.Annotations.{Fits}
@@ -13,11 +13,12 @@ use Rattle.reuse_plan.specs.declared.path_plan.PathPlan.TheVariants as plan
 use Rattle.reuse_plan.specs.declared.path_plan.Policy.TheVariants.{Stop}
 use Rattle.reuse_plan.proofs.EditLemmas.{fits_by, same_some, unskipped, inside_unskipped}
 use Rattle.reuse_plan.proofs.place.plan_inside.Goals as goal
-use Rattle.reuse_plan.proofs.place.plan_inside.Goals.{After-annotate_file-made, else-asked-via-then-asked+else-is_some}
+use Rattle.reuse_plan.proofs.place.plan_inside.Goals.{After-annotate_inside-made}
+use Rattle.reuse_plan.proofs.place.plan_inside.Goals.{else-asked-via-then-asked+else-is_some}
 use Rattle.reuse_plan.proofs.place.plan_inside.Goals.{else-asked-via-else-asked}
 
 -- what is planned is the edit inside the file, which fits it
-module _ (c : After-annotate_file-made) where
+module _ (c : After-annotate_inside-made) where
   planned : path_inside_by c.args.asked.now c.args.path.now c.args.bytes.now c.args.style.now
       ≡ unskipped c.args.path.now (harm_inside c.args.style.now c.args.bytes.now)
       (edit_by c.args.path.now c.args.path.now c.args.bytes.now
@@ -38,34 +39,34 @@ module _ (c : After-annotate_file-made) where
       (annotation_of c.args.style.now c.args.asked.now.how.now c.args.asked.now.additions.now c.args.bytes.now)
   fits = fits_by c.args.bytes.now
       (annotation_of c.args.style.now c.args.asked.now.how.now c.args.asked.now.additions.now c.args.bytes.now)
-      (λ edit e. c.annotations_fit.ensures.files c.args.style.now c.args.asked.now.how.now
-      c.args.asked.now.additions.now c.args.bytes.now edit e)
+      (λ edit e. c.text_annotations_fit.ensures.files c.args.style.now c.args.asked.now.how.now
+      c.args.asked.now.additions.now.tags c.args.asked.now.additions.now.texts c.args.bytes.now edit e)
 
 pub returns-in-Ok-Some-clause-step : goal.returns-in-Ok-Some-clause-step
 returns-in-Ok-Some-clause-step c tree here =
-    let at = (goal.at.returns-in-Ok-Some-clause-step c).After-annotate_file-made in
+    let at = (goal.at.returns-in-Ok-Some-clause-step c).After-annotate_inside-made in
     let expected =
     annotation_of c.args.style.now c.args.asked.now.how.now c.args.asked.now.additions.now c.args.bytes.now in
     let makes = subst (MakesEdit tree (edit_by c.args.path.now c.args.path.now c.args.bytes.now expected))
     c.in-Ok-Some.field-0-is
-    (c.in-Ok-Some.ensures.edit tree expected here c.requires (fits at) c.annotate_file-made.ensures) in
+    (c.in-Ok-Some.ensures.edit tree expected here c.requires (fits at) c.annotate_inside-made.ensures) in
     subst (λ (e : PathEdit). IsPlanOf Stop tree e (plan.Change c.in-Ok-Some.change c.harm_inside-harm.result))
     (sym (planned at)) (makes.0, makes.1, makes.2, c.harm_inside-harm.ensures, refl)
 
 pub returns-in_ok-try_clone-in-Ok-None-clause-step : goal.returns-in_ok-try_clone-in-Ok-None-clause-step
 returns-in_ok-try_clone-in-Ok-None-clause-step c tree here =
-    let at = (goal.at.returns-in_ok-try_clone-in-Ok-None-clause-step c).After-annotate_file-made in
+    let at = (goal.at.returns-in_ok-try_clone-in-Ok-None-clause-step c).After-annotate_inside-made in
     let expected =
     annotation_of c.args.style.now c.args.asked.now.how.now c.args.asked.now.additions.now c.args.bytes.now in
     let makes = subst (MakesEdit tree (edit_by c.args.path.now c.args.path.now c.args.bytes.now expected))
     c.in-Ok-None.field-0-is
-    (c.in-Ok-None.ensures.edit tree expected here c.requires (fits at) c.annotate_file-made.ensures) in
+    (c.in-Ok-None.ensures.edit tree expected here c.requires (fits at) c.annotate_inside-made.ensures) in
     subst (λ (e : PathEdit). IsPlanOf Stop tree e (plan.Unchanged c.in_ok-try_clone-in-Ok-None.field-0))
     (sym (planned at)) (c.in_ok-try_clone-in-Ok-None.ensures, makes, refl, refl)
 
 pub returns-in-Err-clause-step : goal.returns-in-Err-clause-step
 returns-in-Err-clause-step c tree here =
-    let at = (goal.at.returns-in-Err-clause-step c).After-annotate_file-made in
+    let at = (goal.at.returns-in-Err-clause-step c).After-annotate_inside-made in
     subst (λ (e : PathEdit). IsRefusalOf e.edit c.in-Err.refusal) (sym (planned at))
     (c.in-Err.ensures.edit tree (annotation_of c.args.style.now c.args.asked.now.how.now c.args.asked.now.additions.now
-    c.args.bytes.now) here c.requires (fits at) c.annotate_file-made.ensures)
+    c.args.bytes.now) here c.requires (fits at) c.annotate_inside-made.ensures)

@@ -1,9 +1,9 @@
 use Rattle.std.proofs.Common.{◌≡◌, ◌∙◌, ℕ, false, ◌&&◌, nat_lt, List, length, Some, None, sym, ap, subst, arith}
 use Rattle.std.proofs.lemmas.Result.{err_from_is_err_and}
-use Rattle.reuse_header.specs.Neighbour.{neighbour_annotation_of}
-use Rattle.reuse_header.specs.Splices.{IsExpected, answer_of}
+use Rattle.reuse_words.specs.Added.{IsExpectedTextEdit, text_answer}
 use Rattle.reuse_command.specs.Reading.{get, Files, reading_of}
 use Rattle.reuse_text.specs.declared.TheConstants.{LONGEST_FILE}
+use Rattle.reuse_plan.specs.Annotation.{neighbour_annotation_of}
 use Rattle.reuse_plan.specs.Annotate.{neighbour_of, neighbour_is_tagged, edit_by}
 use Rattle.reuse_plan.specs.AnnotationPlan.{neighbour_by, path_neighbour_by}
 use Rattle.reuse_plan.specs.PathEdits.{PathEdit}
@@ -18,8 +18,8 @@ use Rattle.reuse_plan.proofs.place.plan_neighbour.Goals.{After-change_by}
 use Rattle.reuse_plan.proofs.place.plan_neighbour.Goals.{else-asked-via-then-asked+else-neighbour_has_tag}
 use Rattle.reuse_plan.proofs.place.plan_neighbour.Goals.{else-asked-via-else-asked}
 
-pub annotate_neighbour-made-requires : goal.annotate_neighbour-made-requires
-annotate_neighbour-made-requires c = omega (arith, ap length c.as_slice-2.ensures, c.in_ok-bytes.ensures.short)
+pub annotate_beside-made-requires : goal.annotate_beside-made-requires
+annotate_beside-made-requires c = omega (arith, ap length c.as_slice-2.ensures, c.in_ok-bytes.ensures.short)
 
 pub returns-in_err-bytes-clause-plan : goal.returns-in_err-bytes-clause-plan
 returns-in_err-bytes-clause-plan c tree bytes is here reading =
@@ -64,10 +64,11 @@ module _ (c : After-change_by) (tree : Files) (bytes : List ℕ)
       (c.change_by.ensures.edit tree expected (here ∙ ap (λ xs. Some xs) (short.1 ∙ sym c.as_slice-3.ensures))
       (omega (arith, ap length c.as_slice-3.ensures, c.in_ok-bytes.ensures.short))
       (fits_by file expected (λ edit e.
-      c.annotations_fit.ensures.neighbours c.args.asked.now.how.now c.args.asked.now.additions.now file edit e))
-      (subst (λ xs. IsExpected (answer_of xs (neighbour_annotation_of c.args.asked.now.how.now
-      c.args.asked.now.additions.now xs)) c.annotate_neighbour-made.result)
-      (c.as_slice-2.ensures ∙ sym c.as_slice-3.ensures) c.annotate_neighbour-made.ensures)))
+      c.text_annotations_fit.ensures.neighbours c.args.asked.now.how.now c.args.asked.now.additions.now.tags
+      c.args.asked.now.additions.now.texts file edit e))
+      (subst (λ xs. IsExpectedTextEdit (text_answer xs (neighbour_annotation_of c.args.asked.now.how.now
+      c.args.asked.now.additions.now xs)) c.annotate_beside-made.result)
+      (c.as_slice-2.ensures ∙ sym c.as_slice-3.ensures) c.annotate_beside-made.ensures)))
 
 pub returns-in-Ok-clause-plan : goal.returns-in-Ok-clause-plan
 returns-in-Ok-clause-plan c tree bytes is here reading =
