@@ -9,7 +9,7 @@ ghost use Rattle.std.specs.List.{All, Contains, starts_with};
 ghost use Rattle.std.specs.List.Sorted.{IsPermutation, IsStrictlySortedBy};
 ghost use Rattle.std.specs.FinMap.{get};
 ghost use Rattle.reuse_header.specs.declared.annotation.How.{How};
-ghost use Rattle.reuse_notice.specs.declared.adding.Additions.{Additions};
+ghost use Rattle.reuse_words.specs.Texts.{AreTexts};
 ghost use Rattle.reuse_notice.specs.Plain.{ArePlain, AreUtf8};
 ghost use Rattle.reuse_change.specs.Files.{Files, AreFiles, Clashes};
 ghost use Rattle.reuse_ready.specs.declared.additions.StyleAdditions.{StyleAdditions};
@@ -53,6 +53,7 @@ ghost use Rattle.reuse_change.specs.Listing.{is_among};
 ghost use Rattle.reuse_command.specs.declared.command.Command.TheVariants.{Amend, Annotate, ConvertDep5, Download};
 ghost use Rattle.reuse_command.specs.declared.command.Command.TheVariants.{AddStyles, Revert};
 ghost use Rattle.reuse_command.specs.declared.command.FileAmendment.{FileAmendment};
+ghost use Rattle.reuse_command.specs.declared.command.HeaderAdditions.{HeaderAdditions};
 ghost use Rattle.reuse_command.specs.declared.command.Place.{Place};
 ghost use Rattle.reuse_command.specs.declared.command.Scope.{Scope};
 ghost use Rattle.reuse_change.specs.declared.direction.Direction.{Direction};
@@ -68,9 +69,8 @@ ghost use Rattle.reuse_command.specs.declared.request.Call.TheVariants as calls;
 ghost use Rattle.reuse_command.specs.declared.request.Request.{Request};
 ghost use Rattle.reuse_command.specs.declared.request.Request.TheVariants as requests;
 
-use reuse_header::{
-    amending_keeps_other_bytes, annotated_texts_are_texts, annotating_keeps_other_bytes,
-};
+use reuse_header::amending_keeps_other_bytes;
+use reuse_words::{added_texts_make_texts, adding_texts_keeps_other_bytes};
 
 /// Any files open in one way: at most one path is the first at fault, at most one is where the
 /// pending step is stuck, at most one committed state can be opened on, and no two of these three
@@ -117,29 +117,31 @@ pub fn downloads_put_each_text()
 /// accompanied: its neighbour holds what they make of the neighbour's own bytes, or of none; or
 /// skipped, where that is asked for. Every byte outside the old header block stays, and so does
 /// every other path. These words leave one tree. A run that isn't refused leaves it: `Runs` is what
-/// `Session::run` promises. No file goes, and each that changes is text then, where the additions
-/// are plain and UTF-8, as `Additions::new` makes them. It isn't refused exactly where the tree's
-/// own styles are good, the root is given only where folders are gone through, each path that is
-/// gone through can be annotated by itself, and one entry holds them all.
+/// `Session::run` promises. No file goes, and each that changes is text then. That is said of
+/// additions that are plain and UTF-8, as `Additions::new` makes them, and of texts whose lines are
+/// text, as `HeaderText::read` makes them. It isn't refused exactly where the tree's own styles are
+/// good, the root is given only where folders are gone through, each path that is gone through can be
+/// annotated by itself, and one entry holds them all.
 pub fn annotations_change_chosen_places_alone()
-    ensures accepted { (places : List Place) (additions : Additions) (how : How) (scope : Scope) (tree : Files)
+    ensures accepted { (places : List Place) (additions : HeaderAdditions) (how : How) (scope : Scope) (tree : Files)
         → ((after : Files) × (outcome_of (Annotate places additions how scope) tree ≡ Ok after))
         ↔ CanAnnotate places additions how scope tree }
-    ensures made { (places : List Place) (additions : Additions) (how : How) (scope : Scope) (tree after : Files)
+    ensures made { (places : List Place) (additions : HeaderAdditions) (how : How) (scope : Scope) (tree after : Files)
         → outcome_of (Annotate places additions how scope) tree ≡ Ok after
         → Annotates places additions how scope tree after }
-    ensures one { (places : List Place) (additions : Additions) (how : How) (scope : Scope) (before after other : Files)
-        → Annotates places additions how scope before after
+    ensures one { (places : List Place) (additions : HeaderAdditions) (how : How) (scope : Scope)
+        (before after other : Files) → Annotates places additions how scope before after
         → Annotates places additions how scope before other → after ≡ other }
-    ensures left { (places : List Place) (additions : Additions) (how : How) (scope : Scope) (when : ℕ)
+    ensures left { (places : List Place) (additions : HeaderAdditions) (how : How) (scope : Scope) (when : ℕ)
         (old new : State) (reply : Response) → Runs (Annotate places additions how scope) when old (Ok reply) new
         → Annotates places additions how scope old.tree new.tree }
-    ensures texts { (places : List Place) (additions : Additions) (how : How) (scope : Scope) (before after : Files)
-        → Annotates places additions how scope before after
-        → ArePlain additions → AreUtf8 additions → (path : List ℕ) → StaysOrIsText before after path }
+    ensures texts { (places : List Place) (additions : HeaderAdditions) (how : How) (scope : Scope)
+        (before after : Files) → Annotates places additions how scope before after
+        → ArePlain additions.tags → AreUtf8 additions.tags → AreTexts additions.texts
+        → (path : List ℕ) → StaysOrIsText before after path }
 {
-    annotating_keeps_other_bytes();
-    annotated_texts_are_texts();
+    adding_texts_keeps_other_bytes();
+    added_texts_make_texts();
 }
 
 /// What amend does on a tree, in other words. Where it isn't refused, each file that is gone
@@ -316,23 +318,23 @@ pub fn outcome_follows_path_outcomes()
 /// unchanged holds what it held then, and so does its neighbour. `own` are the kinds that the tree
 /// gives to its own names.
 pub fn annotations_follow_path_outcomes()
-    ensures skipped { (places : List Place) (additions : Additions) (how : How) (scope : Scope) (own : OwnKinds)
+    ensures skipped { (places : List Place) (additions : HeaderAdditions) (how : How) (scope : Scope) (own : OwnKinds)
         (tree : Files) (path : List ℕ) → styles_in tree ≡ Ok own
         → Contains (path_outcomes_of (Annotate places additions how scope) tree) (Skipped path)
         → Contains (selected_paths scope places tree) path × IsSkippedAt scope own tree path }
-    ensures reported { (places : List Place) (additions : Additions) (how : How) (scope : Scope) (own : OwnKinds)
+    ensures reported { (places : List Place) (additions : HeaderAdditions) (how : How) (scope : Scope) (own : OwnKinds)
         (tree after : Files) (path : List ℕ) → styles_in tree ≡ Ok own
         → outcome_of (Annotate places additions how scope) tree ≡ Ok after
         → Contains (selected_paths scope places tree) path → IsSkippedAt scope own tree path
         → Contains (path_outcomes_of (Annotate places additions how scope) tree) (Skipped path) }
-    ensures stays { (places : List Place) (additions : Additions) (how : How) (scope : Scope) (own : OwnKinds)
+    ensures stays { (places : List Place) (additions : HeaderAdditions) (how : How) (scope : Scope) (own : OwnKinds)
         (tree after : Files) (path : List ℕ) → styles_in tree ≡ Ok own
         → outcome_of (Annotate places additions how scope) tree ≡ Ok after
         → Contains (path_outcomes_of (Annotate places additions how scope) tree) (Unchanged path)
         ⊎ Contains (path_outcomes_of (Annotate places additions how scope) tree) (Skipped path)
         → pair_at after path ≡ pair_at tree path }
 {
-    annotating_keeps_other_bytes();
+    adding_texts_keeps_other_bytes();
 }
 
 /// An undo and a redo follow the path outcomes of the changes that they go through. The first

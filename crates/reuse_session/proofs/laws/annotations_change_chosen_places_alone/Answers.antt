@@ -6,7 +6,7 @@ use Rattle.reuse_session.proofs.laws.annotations_change_chosen_places_alone.Goal
 
 pub returns : goal.returns
 returns c =
-    let kept = c.annotating_keeps_other_bytes.ensures in
+    let kept = c.adding_texts_keeps_other_bytes.ensures in
     record {
       accepted = λ places additions how scope tree. annotation_accepted places additions how scope tree kept.replaced
           kept.inserted kept.neighbour_replaced kept.neighbour_inserted;
@@ -18,7 +18,7 @@ returns c =
           annotates kept.replaced kept.inserted kept.neighbour_replaced kept.neighbour_inserted places additions how
           scope old.tree new.tree
           (left_by_run (Annotate places additions how scope) when old new reply runs);
-      texts = λ places additions how scope before after made plain utf8 path.
-          stays_or_text c.annotated_texts_are_texts.ensures.files c.annotated_texts_are_texts.ensures.neighbours
-          additions how scope plain utf8 places before after made path;
+      texts = λ places additions how scope before after made plain utf8 are path.
+          stays_or_text c.added_texts_make_texts.ensures.files c.added_texts_make_texts.ensures.neighbours
+          additions how scope plain utf8 are places before after made path;
     }

@@ -3,7 +3,7 @@ use Rattle.reuse_session.proofs.laws.annotations_follow_path_outcomes.Goals as g
 
 pub returns : goal.returns
 returns c =
-    let kept = c.annotating_keeps_other_bytes.ensures in
+    let kept = c.adding_texts_keeps_other_bytes.ensures in
     record {
       skipped = λ places additions how scope own tree path styles.
           skipped_reported places additions how scope own tree styles path;
