@@ -31,10 +31,9 @@ use Rattle.reuse_plan.specs.Amend.{amend_covered, table_edit, table_amendment, a
 use Rattle.reuse_plan.specs.Amend.{amended_where, amended_at}
 use Rattle.reuse_plan.specs.Amended.{KeepsOutsideBlock, IsNeighbourAmended, IsFileAmended, HasNoPlace, IsTableAmended}
 use Rattle.reuse_plan.specs.Amended.{IsAmended, BecomesNeighbour, BecomesFile, HasNoText}
-use Rattle.reuse_plan.specs.Amend.{remove_block, removal_edit, some_text}
-use Rattle.reuse_plan.specs.Removed.{left_beside, left_inside}
+use Rattle.reuse_plan.specs.Amend.{remove_block}
 use Rattle.reuse_plan.proofs.RemovedFiles.{left_here, left_other, neighbour_keeps, text_keeps, between_edit}
-use Rattle.reuse_plan.proofs.LeftParts.{BesideParts, InsideParts, beside_parts, inside_parts}
+use Rattle.reuse_plan.proofs.LeftParts.{beside_parts, inside_parts}
 use Rattle.reuse_plan.specs.AmendmentPlan.{Expected}
 use Rattle.reuse_plan.specs.Annotate.{neighbour_of}
 use Rattle.reuse_plan.specs.Annotated.{IsSameAround, IsStyleOf, HasKind, pair_at}

@@ -20,7 +20,7 @@ use Rattle.reuse_plan.specs.Amend.{remove_block, removal_edit, some_text}
 use Rattle.reuse_plan.specs.Annotate.{neighbour_of, edit_by}
 use Rattle.reuse_plan.specs.Tables.{is_table}
 use Rattle.reuse_command.specs.Covered.{is_covered}
-use Rattle.reuse_plan.specs.Edit.{Edit, dropped, edit_to}
+use Rattle.reuse_plan.specs.Edit.{Edit, dropped}
 use Rattle.reuse_plan.specs.Removed.{left_beside, left_inside}
 use Rattle.reuse_style.specs.Kinds.{OwnKinds}
 use Rattle.reuse_command.specs.declared.command.FileAmendment.{FileAmendment}

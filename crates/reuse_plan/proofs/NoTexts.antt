@@ -1,5 +1,5 @@
 -- An amendment that takes no texts out of headers makes the tree that amending their values makes.
-use Rattle.std.proofs.Common.{◌≡◌, ◌∙◌, ◌⊎◌, inl, inr, ℕ, Bool, true, false, cond, List, [], Option, Some, None, Result, Ok}
+use Rattle.std.proofs.Common.{◌≡◌, ◌∙◌, ◌⊎◌, inl, inr, ℕ, Bool, true, false, cond, List, [], Option, Some, None, Ok}
 use Rattle.std.proofs.Common.{Err, refl, sym, ap, subst}
 use Rattle.std.specs.Option.{option_map, option_map_or}
 use Rattle.std.proofs.lemmas.Slice.Eq.{bytes_eq-Decides, slice_eq-Decides}
@@ -9,9 +9,7 @@ use Rattle.reuse_notice.specs.Infos.{info_of}
 use Rattle.reuse_style.specs.declared.style.Style.{Style}
 use Rattle.reuse_style.specs.Kinds.{OwnKinds}
 use Rattle.reuse_style.specs.Styles.{punctuation_of}
-use Rattle.reuse_header.specs.declared.annotation.HeaderRefusal.{HeaderRefusal}
 use Rattle.reuse_header.specs.declared.annotation.HeaderRefusal.TheVariants.{NotText}
-use Rattle.reuse_header.specs.Annotation as header
 use Rattle.reuse_header.specs.Annotation.{written_by}
 use Rattle.reuse_header.specs.Header.{HeaderSpan, header_of, span_in}
 use Rattle.reuse_header.specs.Marks.{marks_of}
