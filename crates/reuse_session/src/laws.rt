@@ -14,10 +14,11 @@ ghost use Rattle.reuse_notice.specs.Plain.{ArePlain, AreUtf8};
 ghost use Rattle.reuse_change.specs.Files.{Files, AreFiles, Clashes};
 ghost use Rattle.reuse_ready.specs.declared.additions.StyleAdditions.{StyleAdditions};
 ghost use Rattle.reuse_change.specs.Change.{inverse_of};
+ghost use Rattle.reuse_amend.specs.declared.amendments.Amendments.{Amendments};
 ghost use Rattle.reuse_change.specs.declared.change.Change.{Change};
 ghost use Rattle.reuse_text.specs.declared.TheConstants.{LONGEST_FILE};
 ghost use Rattle.reuse_plan.specs.Accepted.{CanAmend, CanAnnotate, CanConvert, CanDownload};
-ghost use Rattle.reuse_plan.specs.Amended.{Amends, HaveSamePaths};
+ghost use Rattle.reuse_plan.specs.Amended.{Amends, KeepsPaths};
 ghost use Rattle.reuse_plan.specs.Annotated.{Annotates, IsSkippedAt, StaysOrIsText, pair_at};
 ghost use Rattle.reuse_plan.specs.Chosen.{IsNamed, StandsBeneath, IsAskedFor, IsAskedToAmend};
 ghost use Rattle.reuse_command.specs.Command.{HoldsEntry, paths_among};
@@ -53,6 +54,8 @@ ghost use Rattle.reuse_change.specs.Listing.{is_among};
 ghost use Rattle.reuse_command.specs.declared.command.Command.TheVariants.{Amend, Annotate, ConvertDep5, Download};
 ghost use Rattle.reuse_command.specs.declared.command.Command.TheVariants.{AddStyles, Revert};
 ghost use Rattle.reuse_command.specs.declared.command.FileAmendment.{FileAmendment};
+ghost use Rattle.reuse_command.specs.declared.command.FileAmendment.TheVariants.{InHeader, Remove};
+ghost use Rattle.reuse_command.specs.declared.command.HeaderRemoval.TheVariants.{Texts};
 ghost use Rattle.reuse_command.specs.declared.command.HeaderAdditions.{HeaderAdditions};
 ghost use Rattle.reuse_command.specs.declared.command.Place.{Place};
 ghost use Rattle.reuse_command.specs.declared.command.Scope.{Scope};
@@ -145,16 +148,18 @@ pub fn annotations_change_chosen_places_alone()
 }
 
 /// What amend does on a tree, in other words. Where it isn't refused, each file that is gone
-/// through has a neighbour, which holds what the rules make of its own bytes; or, where it has
+/// through has a neighbour, which holds what the rules leave of its own bytes; or, where it has
 /// none, it is text of some style and holds what the rules make of its own bytes in that style; or
-/// it is neither, and stays. Every byte outside the header block stays. Where each tag is amended,
-/// it is text, whatever its style, and every byte outside of the tags' values stays. Each
-/// `REUSE.toml` that is gone through is read as the table that was there with the values of the two
-/// keys amended, and differs in strings and commas alone. Every other path stays as it is. These
-/// words leave one tree. No file is made and none is removed. A run that isn't refused leaves that
-/// tree. It isn't refused exactly where the tree's own styles are good, the root is given only
-/// where folders are gone through, each path that is gone through can be amended by itself, and one
-/// entry holds them all.
+/// it is neither, and stays. Every byte outside the header block stays, but for an empty line behind
+/// a block that goes with its header. Where each tag is amended, it is text, whatever its style, and
+/// every byte outside of the tags' values stays. Each `REUSE.toml` that is gone through is read as
+/// the table that was there with the values of the two keys amended, and differs in strings and
+/// commas alone. Every other path stays as it is. These words leave one tree. No file is made. Where
+/// something is taken out of a header, a neighbour of a file that is gone through may go, and no
+/// other file goes. To take no texts out is to amend the values in headers alone. A run that isn't
+/// refused leaves that tree. It isn't refused exactly where the tree's own styles are good, the root
+/// is given only where folders are gone through, each path that is gone through can be amended by
+/// itself, and one entry holds them all.
 pub fn amendments_change_selected_places_alone()
     ensures accepted { (places : List Place) (amendment : FileAmendment) (scope : Scope) (tree : Files)
         → ((after : Files) × (outcome_of (Amend places amendment scope) tree ≡ Ok after))
@@ -165,7 +170,11 @@ pub fn amendments_change_selected_places_alone()
         → Amends places amendment scope before after
         → Amends places amendment scope before other → after ≡ other }
     ensures files { (places : List Place) (amendment : FileAmendment) (scope : Scope) (before after : Files)
-        → Amends places amendment scope before after → HaveSamePaths before after }
+        → Amends places amendment scope before after
+        → KeepsPaths amendment (amended_paths scope places before) before after }
+    ensures no_texts { (places : List Place) (values : Amendments) (scope : Scope) (before after : Files)
+        → Amends places (Remove values (Texts [])) scope before after
+        → Amends places (InHeader values) scope before after }
     ensures left { (places : List Place) (amendment : FileAmendment) (scope : Scope) (when : ℕ) (old new : State)
         (reply : Response) → Runs (Amend places amendment scope) when old (Ok reply) new
         → Amends places amendment scope old.tree new.tree }
