@@ -13,7 +13,6 @@ room=$(mktemp -d)
 trap 'rm -rf "$room"' EXIT
 cp "$top/crates.txt" "$top/HANDLES" "$room"
 # (reuse_session itself doesn't name reuse_words, which these tests call)
-sed -i '/^reuse_session:/{/ reuse_words/!s/$/ reuse_words/}' "$room/crates.txt"
 for crate in "$top"/crates/*; do
     to=$room/crates/$(basename "$crate")
     mkdir -p "$to"
