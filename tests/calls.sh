@@ -12,7 +12,6 @@ top=$(cd "$(dirname "$0")/.." && pwd)
 room=$(mktemp -d)
 trap 'rm -rf "$room"' EXIT
 cp "$top/crates.txt" "$top/HANDLES" "$room"
-# (reuse_session itself doesn't name reuse_words, which these tests call)
 for crate in "$top"/crates/*; do
     to=$room/crates/$(basename "$crate")
     mkdir -p "$to"
