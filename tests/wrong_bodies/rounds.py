@@ -88,7 +88,7 @@ class Function:
         indent, self.name = self.HEAD.match(lines[first]).groups()
         self.path, self.first, self.last = path, first, self.end(lines, first, indent)
         self.modules = self.modules_of(path)
-        self.owner, self.is_of_trait = [], False
+        self.owner, self.is_of_trait, self.written = [], False, ""
         for at in range(first):
             block = self.BLOCK.match(lines[at])
             if block and len(block[1]) < len(indent) and self.end(lines, at, block[1]) > first:
@@ -139,6 +139,9 @@ class Function:
         bound = {*re.findall(r"[<,]\s*(?:const )?(\w+)", generics), "mut", "const", "dyn", "Self"}
         self.owner = [it for it in words_of(of) + words_of(trait) if it not in bound]
         self.is_of_trait = bool(trait)
+        # Its own functions of a type with other types in it are named by all words of that.
+        is_plain = self.is_of_trait or len(self.owner) < 2
+        self.written = "".join(self.owner) if is_plain else "+".join(words_of(of))
 
     def is_meant(self, words):
         """Returns whether a `refused by:` row names it: by its name, perhaps behind its type's."""
@@ -152,13 +155,13 @@ class Function:
         start = "::".join([crate, *self.modules, ""])
         path = [self.name]
         if self.owner and listed is None:
-            path = ["".join(self.owner), self.name]
+            path = [self.written, self.name]
         elif self.owner:
             inside = [it[len(start) :].split("::") for it in listed if it.startswith(start)]
             owners = {it[0] for it in inside if len(it) == 2 and it[1] == self.name}
             plain = [it.replace("_", "").lower() for it in self.owner]
             fits = [it for it in owners if all(w in it.replace("_", "").lower() for w in plain)]
-            exact = [it for it in fits if it == "".join(self.owner)]
+            exact = [it for it in owners if it == self.written]
             if self.is_of_trait:
                 exact = exact or sorted(fits, key=lambda it: (len(it), it))
             path = [*exact[:1], self.name]
