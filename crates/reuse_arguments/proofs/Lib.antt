@@ -4,6 +4,7 @@ pub mod CommandLineLemmas
 pub mod CommandWordLemmas
 pub mod FileListLemmas
 pub mod FoundLemmas
+pub mod HeaderTextLemmas
 pub mod LineFaultLemmas
 pub mod PartLemmas
 pub mod StyleWordLemmas

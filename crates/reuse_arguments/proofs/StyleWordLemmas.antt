@@ -1,6 +1,6 @@
 -- What `styles` asks for, by its flags.
 use Rattle.std.proofs.Common.{◌≡◌, ◌∙◌, ℕ, Bool, true, false, List, ap, refl, sym, codes}
-use Rattle.std.specs.Prelude.{Ok, Err}
+use Rattle.std.specs.Prelude.{Err}
 use Rattle.reuse_arguments.specs.Contexts.{ContextView}
 use Rattle.reuse_arguments.specs.Found.{Rows, flag}
 use Rattle.reuse_arguments.specs.LineFaults.{help, unread}

@@ -1,6 +1,6 @@
 -- From what clap found on a command line to what is asked for (docs/REFERENCE.md).
-use Rattle.std.specs.Prelude.{◌≡◌, ◌⊎◌, ℕ, false, List, [], Option, None, Some, Result, Ok, Err, codes, option_map}
-use Rattle.std.specs.Prelude.{string_bytes, if◌then◌else◌, String}
+use Rattle.std.specs.Prelude.{◌≡◌, ◌⊎◌, ℕ, false, List, [], Option, None, Some, Result, Ok, Err, codes, map}
+use Rattle.std.specs.Prelude.{option_map, string_bytes, if◌then◌else◌, String}
 use Rattle.std.specs.Str.{bytes_eq}
 use Rattle.std.specs.declared.alloc.Global.{Global}
 use Rattle.clap.specs.Simple.{app_of, HasMatchesOf, subcommand_rows_of}
@@ -19,7 +19,8 @@ use Rattle.reuse_arguments.specs.Choices.{change_status_of, format_of, is_dry_ru
 use Rattle.reuse_arguments.specs.CommandWords.{amend_read, annotate_read}
 use Rattle.reuse_arguments.specs.Contexts.{ContextView}
 use Rattle.reuse_shown.specs.Dates.{IsYearOf}
-use Rattle.reuse_arguments.specs.FileWords.{files_from_of, ids_of, root_of, step_read, steps_read, texts_folder_read}
+use Rattle.reuse_arguments.specs.FileWords.{files_from_of, ids_of, root_of, step_read, steps_read, text_files_of}
+use Rattle.reuse_arguments.specs.FileWords.{texts_folder_read}
 use Rattle.reuse_arguments.specs.Found.{Rows, flag, found_in}
 use Rattle.reuse_arguments.specs.LineFaults.{IsExpectedAs, IsReportedAs, Mistake, then_read, unread}
 use Rattle.reuse_arguments.specs.Requests.{made_or_seen}
@@ -89,11 +90,19 @@ pub record IsParsed (above : Rows) (sub : Option (List ℕ × Rows)) (moment : �
   pub up : said.up ≡ flag above (codes "up")
   pub settings : said.settings ≡ settings_of above
   pub files_from : option_map string_bytes said.files_from ≡ files_from_of sub
+  pub text_files : map string_bytes said.text_files ≡ text_files_of sub
   pub line : IsExpectedAs asked_in (line_read above sub moment context) said.line
 
 -- words that are no line; nothing else is read of them
 abbrev pub no_line : LineFault → ParsedArguments
-no_line fault = record { verbose = false; up = false; settings = usual_settings; files_from = None; line = Err fault }
+no_line fault = record {
+  verbose = false;
+  up = false;
+  settings = usual_settings;
+  files_from = None;
+  text_files = [];
+  line = Err fault;
+}
 
 -- the same of the tree below this root
 abbrev pub line_at : Result Line LineFault → String Global → Result Line LineFault

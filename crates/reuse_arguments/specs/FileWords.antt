@@ -1,5 +1,7 @@
 -- Which files the words of a command line name, and what else they name one by one (docs/REFERENCE.md).
-use Rattle.std.specs.Prelude.{ℕ, List, Option, None, Some, Result, Ok, codes, option_and_then, if◌then◌else◌, unwrap_or}
+use Rattle.std.specs.Prelude.{ℕ, List, [], Option, None, Some, Result, Ok, codes, option_and_then, if◌then◌else◌, unwrap_or}
+use Rattle.std.specs.Option.{option_map_or}
+use Rattle.std.specs.Str.{bytes_eq}
 use Rattle.reuse_toml.specs.declared.glob.GlobPiece.{GlobPiece}
 use Rattle.reuse_style.specs.Styles.{style_named}
 use Rattle.reuse_style.specs.declared.style.Style.{Style}
@@ -19,6 +21,13 @@ root_of found = unwrap_or (value found (codes "root")) (codes ".")
 -- the file that lists the files, where the subcommand names one
 abbrev pub files_from_of : Option (List ℕ × Rows) → Option (List ℕ)
 files_from_of sub = option_and_then (λ s. value s.1 (codes "files-from")) sub
+
+-- the files of texts that the subcommand names: `annotate` adds them to headers, and `amend` takes them out
+abbrev pub text_option : List ℕ → List ℕ
+text_option name = if bytes_eq name (codes "annotate") then codes "text" else codes "remove-text"
+
+abbrev pub text_files_of : Option (List ℕ × Rows) → List (List ℕ)
+text_files_of sub = option_map_or (λ s. values s.1 (text_option s.0)) sub []
 
 -- the places, where words start at the folder, or the first word that names none
 abbrev pub place_read : Option (List ℕ) → List ℕ → Result Place Mistake

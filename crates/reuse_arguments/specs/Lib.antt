@@ -9,6 +9,7 @@ pub mod FileLists
 pub mod FileWords
 pub mod Found
 pub mod Globs
+pub mod HeaderTexts
 pub mod LineFaults
 pub mod ListedCommands
 pub mod Places

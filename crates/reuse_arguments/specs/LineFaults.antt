@@ -5,6 +5,8 @@ use Rattle.clap.specs.declared.error.kind.ErrorKind.{ErrorKind}
 use Rattle.clap.specs.declared.error.kind.ErrorKind.TheVariants as kinds
 use Rattle.reuse_notice.specs.Adding.{Refusal}
 use Rattle.reuse_notice.specs.Refusals.{refusal_view}
+use Rattle.reuse_words.specs.declared.text.TextRefusal.{TextRefusal}
+use Rattle.reuse_words.specs.declared.text.TextRefusal.TheVariants as texts
 use Rattle.reuse_arguments.specs.declared.line.LineFault.{LineFault}
 use Rattle.reuse_arguments.specs.declared.line.LineFault.TheVariants as faults
 
@@ -17,6 +19,7 @@ pub data Mistake : Type 0 where
   nothing_to_amend : Mistake
   bad_glob : List ℕ → Mistake
   unreadable : List ℕ → Mistake
+  bad_text : List ℕ → TextRefusal → Mistake
   no_tree : Mistake
 
 -- the mistake; an allocation failure is none
@@ -28,6 +31,8 @@ mistake_of (faults.BadAdditions refusal) = option_map bad_additions (refusal_vie
 mistake_of faults.NothingToAmend = Some nothing_to_amend
 mistake_of (faults.BadGlob word) = Some (bad_glob (string_bytes word))
 mistake_of (faults.Unreadable file) = Some (unreadable (string_bytes file))
+mistake_of (faults.BadText file (texts.Memory error)) = None
+mistake_of (faults.BadText file refusal) = Some (bad_text (string_bytes file) refusal)
 mistake_of faults.NoTree = Some no_tree
 mistake_of faults.Memory = None
 

@@ -2,6 +2,9 @@
 use Rattle.std.specs.Prelude.{ℕ, Bool, List, Some, if◌then◌else◌}
 use Rattle.reuse_command.specs.declared.command.Command.{Command}
 use Rattle.reuse_command.specs.declared.command.Command.TheVariants.{Amend, Annotate, Download}
+use Rattle.reuse_command.specs.declared.command.FileAmendment.{FileAmendment}
+use Rattle.reuse_command.specs.declared.command.FileAmendment.TheVariants.{Remove}
+use Rattle.reuse_command.specs.declared.command.HeaderRemoval.TheVariants.{Texts}
 use Rattle.reuse_command.specs.declared.licence.LicenceText.{LicenceText}
 use Rattle.reuse_command.specs.declared.request.Call.{Call}
 use Rattle.reuse_command.specs.declared.request.Call.TheVariants as calls
@@ -44,3 +47,27 @@ abbrev pub request_listed : List (List ℕ) → Request → Request
 request_listed paths (requests.Make call when) = requests.Make (call_listed paths call) when
 request_listed paths (requests.Preview call) = requests.Preview (call_listed paths call)
 request_listed paths request = request
+
+-- ---- with the texts of headers
+
+-- an amendment that takes texts out: it takes out these
+abbrev pub amendment_with_header_texts : List (List (List ℕ)) → FileAmendment → FileAmendment
+amendment_with_header_texts texts (Remove values (Texts none)) = Remove values (Texts texts)
+amendment_with_header_texts texts amendment = amendment
+
+-- a command that adds texts or takes them out
+abbrev pub command_with_header_texts : List (List (List ℕ)) → Command → Command
+command_with_header_texts texts (Annotate places additions how scope) =
+    Annotate places (record additions { texts = texts }) how scope
+command_with_header_texts texts (Amend places amendment scope) =
+    Amend places (amendment_with_header_texts texts amendment) scope
+command_with_header_texts texts command = command
+
+abbrev pub call_with_header_texts : List (List (List ℕ)) → Call → Call
+call_with_header_texts texts (calls.Run command) = calls.Run (command_with_header_texts texts command)
+call_with_header_texts texts call = call
+
+abbrev pub request_with_header_texts : List (List (List ℕ)) → Request → Request
+request_with_header_texts texts (requests.Make call when) = requests.Make (call_with_header_texts texts call) when
+request_with_header_texts texts (requests.Preview call) = requests.Preview (call_with_header_texts texts call)
+request_with_header_texts texts request = request

@@ -14,6 +14,7 @@ use Rattle.reuse_command.specs.RefusalTexts.{shown}
 use Rattle.reuse_ready.specs.Ready.{ready_comments_text, ready_styles_text}
 use Rattle.reuse_toml.specs.declared.glob.GlobPiece.{GlobPiece}
 use Rattle.reuse_arguments.specs.Choices.{is_dry_run}
+use Rattle.reuse_arguments.specs.CommandWords.{tags_alone}
 use Rattle.reuse_arguments.specs.Contexts.{ContextView}
 use Rattle.reuse_arguments.specs.FileWords.{globs_read, places_read}
 use Rattle.reuse_arguments.specs.Found.{Rows, flag}
@@ -58,7 +59,7 @@ annotation_read found context =
     then_read (places_read context.folder found) (λ places.
     then_read any_additions (λ additions.
     then_read (globs_read found) (λ globs.
-    Ok (Annotate places additions usual_how (scope_of globs)))))
+    Ok (Annotate places (tags_alone additions) usual_how (scope_of globs)))))
 
 -- ---- the words
 

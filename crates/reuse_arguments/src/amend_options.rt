@@ -50,6 +50,20 @@ pub const AMEND: &[Argument] = &[
         "Remove the contributor TEXT; may be repeated",
     ),
     Argument(
+        "remove-text",
+        None,
+        ArgumentKind::Values("FILE"),
+        Constraint::Excludes("everywhere"),
+        "Remove the text that FILE holds from headers; `-`: standard input; may be repeated",
+    ),
+    Argument(
+        "remove-header",
+        None,
+        ArgumentKind::Nothing,
+        Constraint::ExcludesAll(OTHER_CHANGES),
+        "Remove headers, all their tags; a text beside these stays; not with another change",
+    ),
+    Argument(
         "until",
         None,
         ArgumentKind::Value("YEAR"),
@@ -101,7 +115,7 @@ pub const AMEND: &[Argument] = &[
     EXIT_NON_ZERO,
 ];
 
-/// The options that change something, of which a call has one.
+/// The options with values that change something, of which a call has one, or `--remove-header`.
 pub const AMENDING: &[&str] = &[
     "replace-license",
     "remove-license",
@@ -111,6 +125,21 @@ pub const AMENDING: &[&str] = &[
     "remove-contributor",
     "until",
     "copyright-prefix",
+    "remove-text",
+];
+
+/// What `--remove-header` doesn't go with.
+const OTHER_CHANGES: &[&str] = &[
+    "replace-license",
+    "remove-license",
+    "replace-holder",
+    "remove-holder",
+    "replace-contributor",
+    "remove-contributor",
+    "until",
+    "copyright-prefix",
+    "remove-text",
+    "everywhere",
 ];
 
 /// What is changed of notices alone, and those of each dry run.

@@ -2,7 +2,7 @@
 use crate::help::{ABOUT, AFTER};
 use crate::options::{Argument, ArgumentKind, BEFORE, Choice, Constraint, Subcommand};
 use crate::prefix_name::prefix_names;
-use crate::subcommands::{HEADERS, HISTORY, NAMES, STEPS};
+use crate::subcommands::{ADDING, CHANGING, HISTORY, NAMES, STEPS};
 use clap::builder::ValueParser;
 use clap::{Arg, ArgAction, ArgGroup, Command};
 use reuse_header::style_names;
@@ -57,6 +57,7 @@ fn constrained<'a>(arg: Arg<'a>, constraint: Constraint) -> Result<Arg<'a>, Allo
         Constraint::RequiredUnless(other) => arg.required_unless_present(other),
         Constraint::Requires(other) => arg.requires_arg(other),
         Constraint::Excludes(other) => arg.conflicts_with(other),
+        Constraint::ExcludesAll(others) => arg.conflicts_with_all(others),
         Constraint::Alias(name) => arg.visible_alias(name),
         Constraint::Global(order) => Ok(arg.global(true).display_order(order)),
         Constraint::Excluding(order, other) => {
@@ -130,8 +131,12 @@ fn with_subcommands<'a>(
 }
 
 // The tables are large: each is added by a function of its own, so that no proof reads two.
-fn with_headers<'a>(alloc: Global, command: Command<'a>) -> Result<Command<'a>, AllocError> {
-    with_subcommands(alloc, command, HEADERS)
+fn with_adding<'a>(alloc: Global, command: Command<'a>) -> Result<Command<'a>, AllocError> {
+    with_subcommands(alloc, command, ADDING)
+}
+
+fn with_changing<'a>(alloc: Global, command: Command<'a>) -> Result<Command<'a>, AllocError> {
+    with_subcommands(alloc, command, CHANGING)
 }
 
 fn with_names<'a>(alloc: Global, command: Command<'a>) -> Result<Command<'a>, AllocError> {
@@ -159,6 +164,7 @@ pub fn whole<'a>(alloc: Global) -> Result<Command<'a>, AllocError> {
         .after_help(AFTER)
         .subcommand_required(true);
     let command = with_options(alloc, command)?;
-    let command = with_names(alloc, with_headers(alloc, command)?)?;
+    let command = with_changing(alloc, with_adding(alloc, command)?)?;
+    let command = with_names(alloc, command)?;
     with_history(alloc, with_steps(alloc, command)?)
 }

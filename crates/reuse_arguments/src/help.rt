@@ -29,6 +29,9 @@ paths relative to the root: `*` is any run without `/`, `**` any run, `**/` in f
 leaves out what it matches, and what lies in a folder that it matches. A PATH that is a file itself
 is annotated all the same.
 
+The FILE of --text holds a text of at most 64 KiB without comment marks and tags. It is added behind
+an empty line where the header doesn't have its words yet. FILEs are relative to the working folder.
+
 Examples: the licence and this year's copyright for all files beneath src, for all files that git
 tracks, and a check of these in CI:
   reuse-undo annotate --copyright \"Jane Doe\" --license MIT --recursive src
@@ -43,10 +46,14 @@ and so is one whose header has nothing of what is named. If one file is refused,
 A REUSE.toml is amended if it is a PATH, or lies beneath one with --recursive. The values of
 SPDX-License-Identifier and SPDX-FileCopyrightText in its [[annotations]] change, and all else stays.
 
-Texts are compared byte for byte, without their outer spaces. If OLD is an identifier such as
+Values are compared byte for byte, without their outer spaces. If OLD is an identifier such as
 GPL-2.0, it is replaced within expressions, too, and GPL-2.0+ and GPL-2.0-only are others. First
 licences are replaced, then removed; then holders and contributors; last come years and prefix.
-So HOLDER is as --replace-holder leaves it. A text that begins with `-` takes a space in front.
+So HOLDER is as --replace-holder leaves it. A value that begins with `-` takes a space in front.
+
+The FILE of --remove-text is as that of annotate --text: the first lines of a header with its words
+go, after all other changes. With --remove-header a header goes, or a neighbour; lines without a tag
+stay.
 
 With --everywhere the value of each tag changes where it stands, below the header, behind code and
 in files without a style, too. All else stays, but a line on which nothing is left goes.

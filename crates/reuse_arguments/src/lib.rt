@@ -2,8 +2,9 @@
 //!
 //! clap reads them by tables (`options`, `subcommands`), with the help that stands there. What it
 //! found is read here into a line (`line`), or into the first mistake. Nothing here changes a file,
-//! and only a list of files is read. The root of the program calls it. Tested by `words.sh`,
-//! `options.sh`, `choose.sh` and `completions.sh` in `tests/`.
+//! and only a list of files and the texts of headers are read. The root of the program calls it.
+//! Tested by `words.sh`, `options.sh`, `choose.sh`, `header_texts.sh` and `completions.sh` in
+//! `tests/`.
 #![tactic(auto)]
 
 mod amend_options;
@@ -11,6 +12,7 @@ mod arguments;
 mod context;
 pub mod file_list;
 mod glob_word;
+pub mod header_texts;
 mod help;
 pub mod line;
 mod options;

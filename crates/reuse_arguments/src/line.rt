@@ -1,12 +1,13 @@
 //! What a command line asks for.
 ghost use Rattle.std.specs.Prelude.{◌≡◌, Some, if◌then◌else◌};
-ghost use Rattle.reuse_arguments.specs.RefusalTexts.{line_fault_text};
+ghost use Rattle.reuse_arguments.specs.RefusalTexts.{line_fault_text, text_refusal_text};
 ghost use Rattle.reuse_arguments.specs.declared.line.ChangeStatus.TheVariants as statuses;
 
 use reuse_change::Moment;
 use reuse_command::request::Request;
 use reuse_notice::NoticeRefusal;
 use reuse_shown::shown_name::NameDisplay;
+use reuse_words::TextRefusal;
 use std::alloc::{AllocError, AllocFailed};
 use std::error::Error;
 use std::fmt;
@@ -75,7 +76,8 @@ pub enum NamesUse {
 pub struct Line {
     /// The folder of the tree, relative to the working folder.
     pub root: String,
-    /// What a session is asked for. The texts of a download are found later.
+    /// What a session is asked for. The texts of a download are found later, and so are a list of
+    /// files and the texts of headers.
     pub request: Request,
     /// What becomes of the names without a style that the request finds.
     pub names: NamesUse,
@@ -100,8 +102,10 @@ pub enum LineFault {
     NothingToAmend,
     /// A word is no glob.
     BadGlob(String),
-    /// The list of files can't be read.
+    /// The list of files, or the file of a text, can't be read.
     Unreadable(String),
+    /// What a file holds is no text of a header.
+    BadText(String, TextRefusal),
     /// No folder, from the working one upwards, is that of a tree.
     NoTree,
     /// Memory ran out.
@@ -119,6 +123,10 @@ impl fmt::Display for LineFault {
             LineFault::NothingToAmend => f.write_str("nothing to amend"),
             LineFault::BadGlob(word) => write!(f, "bad glob: {word}"),
             LineFault::Unreadable(file) => write!(f, "{file}: cannot be read"),
+            LineFault::BadText(file, refusal) => {
+                let reason = reason_of(refusal);
+                write!(f, "bad text: {file}: {reason}")
+            }
             LineFault::NoTree => f.write_str("no folder from here upwards has .reuse or .git"),
             LineFault::Memory => f.write_str("out of memory"),
         }
@@ -126,6 +134,21 @@ impl fmt::Display for LineFault {
 }
 
 impl Error for LineFault {}
+
+/// Why a file is no text of a header, as the refusal itself says it.
+fn reason_of(refusal: &TextRefusal) -> &'static str
+    ensures { result.now ≡ text_refusal_text refusal.now }
+{
+    match refusal {
+        TextRefusal::TooLong => "text is too long",
+        TextRefusal::NotText => "text is not UTF-8",
+        TextRefusal::ControlByte => "text has a control byte",
+        TextRefusal::HoldsTag => "text has a tag",
+        TextRefusal::HoldsBarrier => "text has a barrier",
+        TextRefusal::Empty => "text is empty",
+        TextRefusal::Memory(_) => "out of memory",
+    }
+}
 
 impl From<AllocError> for LineFault {
     ghost use Rattle.reuse_arguments.specs.declared.line.LineFault.TheVariants as faults;

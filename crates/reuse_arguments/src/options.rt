@@ -41,6 +41,8 @@ pub enum Constraint {
     Requires(&'static str),
     /// It doesn't go with this option.
     Excludes(&'static str),
+    /// It doesn't go with any of these options.
+    ExcludesAll(&'static [&'static str]),
     /// It has this name too.
     Alias(&'static str),
     /// It may stand behind the subcommand as well, and is the one of this order in its help.
@@ -155,6 +157,13 @@ pub const ANNOTATE: &[Argument] = &[
         ArgumentKind::Values("TEXT"),
         Constraint::Free,
         "Add a contributor; may be repeated",
+    ),
+    Argument(
+        "text",
+        None,
+        ArgumentKind::Values("FILE"),
+        Constraint::Free,
+        "Add the text that FILE holds below the tags; `-`: standard input; may be repeated",
     ),
     Argument(
         "year",

@@ -1,11 +1,14 @@
-//! The request of a line, made whole: with the texts of a download, or a list of files.
+//! The request of a line, made whole: with the texts of a download, a list of files, or the texts of
+//! headers.
 ghost use Rattle.std.specs.Prelude.{◌≡◌, if◌then◌else◌};
 ghost use Rattle.reuse_arguments.specs.Requests.{made_or_seen, with_texts, call_with_texts, command_with_texts};
 ghost use Rattle.reuse_arguments.specs.Requests.{request_listed, call_listed, command_listed};
+ghost use Rattle.reuse_arguments.specs.Requests.{request_with_header_texts, call_with_header_texts};
+ghost use Rattle.reuse_arguments.specs.Requests.{command_with_header_texts, amendment_with_header_texts};
 
 use reuse_change::Moment;
 use reuse_command::choice::PathList;
-use reuse_command::command::Command;
+use reuse_command::command::{Command, FileAmendment, HeaderRemoval, HeaderTexts};
 use reuse_command::licence::{Ids, LicenceTexts};
 use reuse_command::request::{Call, Request};
 
@@ -106,5 +109,46 @@ fn set_command_listed(command: &mut Command, listed: PathList)
         Command::Annotate { scope, .. } => scope.listed = Some(listed),
         Command::Amend { scope, .. } => scope.listed = Some(listed),
         _ => drop(listed),
+    }
+}
+
+/// The command adds these texts to headers, or takes them out, if it is one of texts.
+pub fn set_header_texts(request: &mut Request, texts: HeaderTexts)
+    ensures { request.new ≡ request_with_header_texts texts request.old }
+{
+    match request {
+        Request::Make(call, _) => set_call_header_texts(call, texts),
+        Request::Preview(call) => set_call_header_texts(call, texts),
+        Request::Log | Request::Show(_) | Request::Forget(_) | Request::Recover { .. } => {
+            drop(texts);
+        }
+    }
+}
+
+fn set_call_header_texts(call: &mut Call, texts: HeaderTexts)
+    ensures { call.new ≡ call_with_header_texts texts call.old }
+{
+    match call {
+        Call::Run(command) => set_command_header_texts(command, texts),
+        _ => drop(texts),
+    }
+}
+
+fn set_command_header_texts(command: &mut Command, texts: HeaderTexts)
+    ensures { command.new ≡ command_with_header_texts texts command.old }
+{
+    match command {
+        Command::Annotate { additions, .. } => additions.texts = texts,
+        Command::Amend { amendment, .. } => set_removed_texts(amendment, texts),
+        _ => drop(texts),
+    }
+}
+
+fn set_removed_texts(amendment: &mut FileAmendment, texts: HeaderTexts)
+    ensures { amendment.new ≡ amendment_with_header_texts texts amendment.old }
+{
+    match amendment {
+        FileAmendment::Remove(_, HeaderRemoval::Texts(removed)) => *removed = texts,
+        _ => drop(texts),
     }
 }

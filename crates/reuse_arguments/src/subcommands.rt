@@ -18,23 +18,23 @@ const ANNOTATE_CHOICES: &[Choice] = &[
     PRINTED,
 ];
 
-/// The subcommands that write the headers of files.
-pub const HEADERS: &[Subcommand] = &[
-    Subcommand(
-        "annotate",
-        "Add copyright and licensing information to files",
-        AFTER_ANNOTATE,
-        ANNOTATE,
-        ANNOTATE_CHOICES,
-    ),
-    Subcommand(
-        "amend",
-        "Change the copyright and licensing information that files have",
-        AFTER_AMEND,
-        AMEND,
-        AMEND_CHOICES,
-    ),
-];
+/// The subcommand that adds to the headers of files.
+pub const ADDING: &[Subcommand] = &[Subcommand(
+    "annotate",
+    "Add copyright and licensing information to files",
+    AFTER_ANNOTATE,
+    ANNOTATE,
+    ANNOTATE_CHOICES,
+)];
+
+/// The subcommand that changes them.
+pub const CHANGING: &[Subcommand] = &[Subcommand(
+    "amend",
+    "Change the copyright and licensing information that files have",
+    AFTER_AMEND,
+    AMEND,
+    AMEND_CHOICES,
+)];
 
 /// The subcommand for the names that have no style.
 pub const NAMES: &[Subcommand] = &[Subcommand(

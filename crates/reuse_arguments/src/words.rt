@@ -9,6 +9,7 @@ ghost use Rattle.reuse_arguments.specs.Asking.{asked_in};
 ghost use Rattle.reuse_arguments.specs.CommandLine.{IsReadAs, IsRefused, Says, call_read, download_of};
 ghost use Rattle.reuse_arguments.specs.CommandLine.{line_at, line_read};
 ghost use Rattle.reuse_arguments.specs.CommandLine.{no_line, request_read, said_at, subcommand_read, texts_read};
+ghost use Rattle.reuse_arguments.specs.FileWords.{files_from_of, text_files_of};
 ghost use Rattle.reuse_arguments.specs.Found.{found_in};
 ghost use Rattle.reuse_arguments.specs.LineFaults.{IsExpected, IsExpectedAs, IsReportedAs};
 
@@ -29,10 +30,12 @@ use choices::{is_dry_run, read_change_status, read_format, read_settings};
 use clap::error::ErrorKind;
 use clap::{ArgMatches, Error};
 use command_words::{read_amend, read_annotate};
-use file_words::{read_files_from, read_ids, read_root, read_step, read_steps, read_texts};
+use file_words::{
+    read_files_from, read_ids, read_root, read_step, read_steps, read_text_files, read_texts,
+};
 use finder::Finder;
 use found::{flag, subcommand};
-use reuse_change::Moment;
+use reuse_change::{FixedList, Moment};
 use reuse_command::command::Command;
 use reuse_command::licence::LicenceTexts;
 use reuse_command::request::{Call, Request};
@@ -51,12 +54,14 @@ pub struct ParsedArguments {
     pub settings: Settings,
     /// The file that lists the files to be annotated or amended, where one is named.
     pub files_from: Option<String>,
+    /// The files of the texts that are added to headers, or taken out, in order.
+    pub text_files: FixedList<String>,
     pub line: Result<Line, LineFault>,
 }
 
 impl ParsedArguments {
     /// Words that are no line.
-    pub fn fault(fault: LineFault) -> ParsedArguments
+    pub fn fault(alloc: Global, fault: LineFault) -> ParsedArguments
         ensures { result ≡ no_line fault }
     {
         ParsedArguments {
@@ -64,6 +69,7 @@ impl ParsedArguments {
             up: false,
             settings: Settings::usual(),
             files_from: None,
+            text_files: FixedList::new(Vec::new(alloc)),
             line: Err(fault),
         }
     }
@@ -77,6 +83,7 @@ impl ParsedArguments {
             up,
             settings,
             files_from,
+            text_files,
             line,
         } = self;
         ParsedArguments {
@@ -84,6 +91,7 @@ impl ParsedArguments {
             up,
             settings,
             files_from,
+            text_files,
             line: line_at(line, root),
         }
     }
@@ -136,16 +144,30 @@ fn said_in(
     ensures { Says matches.now moment (option_map (λ text. text.now) folder.entry) result }
 {
     let context = Context::of(moment, folder);
-    match read_files_from(alloc, matches) {
-        Ok(files_from) => ParsedArguments {
+    match read_files(alloc, matches) {
+        Ok((files_from, text_files)) => ParsedArguments {
             verbose: flag(matches, "verbose"),
             up: flag(matches, "up"),
             settings: read_settings(matches),
             files_from,
+            text_files,
             line: read_line(alloc, matches, moment, &context),
         },
-        Err(error) => ParsedArguments::fault(LineFault::from(error)),
+        Err(error) => ParsedArguments::fault(alloc, LineFault::from(error)),
     }
+}
+
+/// The file that lists files, where one is named, and the files of texts.
+fn read_files(
+    alloc: Global,
+    matches: &ArgMatches<'_>,
+) -> Result<(Option<String>, FixedList<String>), AllocError>
+    ensures { IfOk result (λ files. (option_map string_bytes files.0 ≡ files_from_of (subcommand_rows_of matches.now))
+        × (map string_bytes files.1 ≡ text_files_of (subcommand_rows_of matches.now))) }
+{
+    let files_from = read_files_from(alloc, matches)?;
+    let text_files = read_text_files(alloc, matches)?;
+    Ok((files_from, text_files))
 }
 
 /// Words that clap refuses with this error.
@@ -153,8 +175,8 @@ fn refused(alloc: Global, error: &Error) -> ParsedArguments
     ensures { IsRefused error.now result }
 {
     match fault_of(alloc, error) {
-        Ok(fault) => ParsedArguments::fault(fault),
-        Err(error) => ParsedArguments::fault(LineFault::from(error)),
+        Ok(fault) => ParsedArguments::fault(alloc, fault),
+        Err(error) => ParsedArguments::fault(alloc, LineFault::from(error)),
     }
 }
 

@@ -6,14 +6,14 @@ ghost use Rattle.reuse_notice.specs.Adding.{is_space};
 ghost use Rattle.std.specs.Option.{option_map};
 ghost use Rattle.reuse_arguments.specs.AmendSteps.{all_removed, all_replaced, prefix_read, removed, replaced};
 ghost use Rattle.reuse_arguments.specs.AmendSteps.{searched_read, with_holder, with_prefix, with_until};
-ghost use Rattle.reuse_arguments.specs.AmendWords.{amendments_read, in_turn, is_amending, steps_of};
+ghost use Rattle.reuse_arguments.specs.AmendWords.{amendments_read, has_amending_value, in_turn, is_amending, steps_of};
 ghost use Rattle.reuse_arguments.specs.Found.{found_in, is_given};
 ghost use Rattle.reuse_arguments.specs.LineFaults.{IsExpected, IsExpectedAs};
 
 use crate::amend_options::AMENDING;
 use crate::line::LineFault;
 use crate::prefix_name::prefix_of_name;
-use crate::words::found::{is_given, value, values};
+use crate::words::found::{flag, is_given, value, values};
 use crate::words::unread_words::{or_unread, unread};
 use clap::ArgMatches;
 use reuse_amend::Amendments;
@@ -135,9 +135,15 @@ fn amend(
 }
 
 /// Whether something is to be changed.
-#[tactic(auto, unfolding(crate::specs::AmendWords::amending_options))]
 fn is_amending(matches: &ArgMatches<'_>) -> bool
     ensures { result ≡ is_amending (found_in matches.now) }
+{
+    has_amending_value(matches) || flag(matches, "remove-header")
+}
+
+#[tactic(auto, unfolding(crate::specs::AmendWords::amending_options))]
+fn has_amending_value(matches: &ArgMatches<'_>) -> bool
+    ensures { result ≡ has_amending_value (found_in matches.now) }
 {
     is_one_given(matches, AMENDING)
 }

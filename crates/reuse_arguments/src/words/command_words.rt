@@ -2,7 +2,7 @@
 ghost use Rattle.std.specs.Prelude.{◌≡◌, ◌≤◌};
 ghost use Rattle.std.specs.Option.{option_map};
 ghost use Rattle.reuse_arguments.specs.CommandWords.{additions_read, amend_read, amendment_of, annotate_read};
-ghost use Rattle.reuse_arguments.specs.CommandWords.{named_prefix, scope_read};
+ghost use Rattle.reuse_arguments.specs.CommandWords.{named_prefix, scope_read, tags_alone};
 ghost use Rattle.reuse_arguments.specs.Found.{found_in};
 ghost use Rattle.reuse_arguments.specs.LineFaults.{IsExpected};
 
@@ -11,10 +11,12 @@ use crate::line::LineFault;
 use crate::words::amend_words::{prefix_in, read_amendments};
 use crate::words::choices::{read_how, read_unknown};
 use crate::words::file_words::{read_globs, read_places, read_style};
-use crate::words::found::{flag, value, values};
+use crate::words::found::{flag, is_given, value, values};
 use clap::ArgMatches;
 use reuse_amend::Amendments;
-use reuse_command::command::{Command, FileAmendment, Scope};
+use reuse_command::command::{
+    Command, FileAmendment, HeaderAdditions, HeaderRemoval, HeaderTexts, Scope,
+};
 use reuse_notice::{Additions, Prefix};
 use std::alloc::Global;
 
@@ -31,10 +33,20 @@ pub fn read_annotate(
     let scope = read_scope(alloc, matches)?;
     Ok(Command::Annotate {
         places,
-        additions,
+        additions: tags_alone(alloc, additions),
         how: read_how(matches),
         scope,
     })
+}
+
+/// What is added to headers: these tags. Texts are read later.
+pub fn tags_alone(alloc: Global, tags: Additions) -> HeaderAdditions
+    ensures { result ≡ tags_alone tags }
+{
+    HeaderAdditions {
+        tags,
+        texts: HeaderTexts::new(Vec::new(alloc)),
+    }
 }
 
 /// What `amend` is asked for.
@@ -50,17 +62,22 @@ pub fn read_amend(
     let scope = read_scope(alloc, matches)?;
     Ok(Command::Amend {
         places,
-        amendment: amendment_of(flag(matches, "everywhere"), amendments),
+        amendment: amendment_of(alloc, matches, amendments),
         scope,
     })
 }
 
-/// What becomes of a file, everywhere or in its header.
-fn amendment_of(everywhere: bool, amendments: Amendments) -> FileAmendment
-    ensures { result ≡ amendment_of everywhere amendments }
+/// What becomes of a file, everywhere or in its header. Texts are read later.
+fn amendment_of(alloc: Global, matches: &ArgMatches<'_>, amendments: Amendments) -> FileAmendment
+    ensures { result ≡ amendment_of (found_in matches.now) amendments }
 {
-    if everywhere {
+    if flag(matches, "everywhere") {
         FileAmendment::Everywhere(amendments)
+    } else if flag(matches, "remove-header") {
+        FileAmendment::Remove(amendments, HeaderRemoval::Header)
+    } else if is_given(matches, "remove-text") {
+        let none = HeaderTexts::new(Vec::new(alloc));
+        FileAmendment::Remove(amendments, HeaderRemoval::Texts(none))
     } else {
         FileAmendment::InHeader(amendments)
     }

@@ -4,7 +4,7 @@ ghost use Rattle.std.specs.Option.{option_map};
 ghost use Rattle.clap.specs.Simple.{subcommand_rows_of};
 ghost use Rattle.reuse_arguments.specs.FileWords.{files_from_of, globs_of, globs_read, ids_of, number_read, place_read};
 ghost use Rattle.reuse_arguments.specs.FileWords.{places_read, root_of, step_read, steps_read, style_read};
-ghost use Rattle.reuse_arguments.specs.FileWords.{texts_folder_read};
+ghost use Rattle.reuse_arguments.specs.FileWords.{text_files_of, text_option, texts_folder_read};
 ghost use Rattle.reuse_arguments.specs.Found.{found_in};
 ghost use Rattle.reuse_arguments.specs.LineFaults.{IsExpected, IsExpectedAs, all_read, each_read};
 
@@ -15,7 +15,7 @@ use crate::place_word::place_of_word;
 use crate::words::found::{flag, number, number_of, subcommand, value, values};
 use crate::words::unread_words::{or_unread, unread};
 use clap::ArgMatches;
-use reuse_change::EntryNumbers;
+use reuse_change::{EntryNumbers, FixedList};
 use reuse_command::choice::Globs;
 use reuse_command::command::{Place, Places};
 use reuse_command::licence::Ids;
@@ -46,6 +46,40 @@ pub fn read_files_from(
         Some(file) => Ok(Some(String::from_str(alloc, file)?)),
         None => Ok(None),
     }
+}
+
+/// The files of texts that the subcommand names, which `annotate` adds and `amend` takes out.
+pub fn read_text_files(
+    alloc: Global,
+    matches: &ArgMatches<'_>,
+) -> Result<FixedList<String>, AllocError>
+    ensures { IfOk result (λ files. map string_bytes files ≡ text_files_of (subcommand_rows_of matches.now)) }
+{
+    let Some((name, inner)) = subcommand(matches) else {
+        return Ok(FixedList::new(Vec::new(alloc)));
+    };
+    Ok(FixedList::new(strings_of(alloc, values(inner, text_option(name)))?))
+}
+
+// The option of a subcommand that names files of texts.
+fn text_option(name: &str) -> &'static str
+    ensures { result.now ≡ text_option name.now }
+{
+    if name == "annotate" {
+        "text"
+    } else {
+        "remove-text"
+    }
+}
+
+fn strings_of(alloc: Global, words: &[&str]) -> Result<Vec<String>, AllocError>
+    ensures { IfOk result (λ texts. map string_bytes texts.items ≡ map (λ word. word.now) words.now) }
+{
+    let mut texts = Vec::new(alloc);
+    for word in words {
+        texts.push(String::from_str(alloc, word)?)?;
+    }
+    Ok(texts)
 }
 
 /// The places.

@@ -9,6 +9,7 @@ ghost use Rattle.reuse_arguments.specs.StyleWords.{ready_table, scope_of, styles
 use crate::context::Context;
 use crate::line::{LineFault, NamesUse};
 use crate::words::choices::is_dry_run;
+use crate::words::command_words::tags_alone;
 use crate::words::file_words::{read_globs, read_places};
 use crate::words::found::flag;
 use crate::words::unread_words::unread;
@@ -74,7 +75,7 @@ fn read_annotation(
     let excluded = read_globs(alloc, matches)?;
     Ok(Command::Annotate {
         places,
-        additions,
+        additions: tags_alone(alloc, additions),
         how: usual_how(),
         scope: scope_of(excluded),
     })

@@ -19,7 +19,8 @@ returns-in-Ok c =
         verbose = c.flag.ensures;
         up = c.flag-in-Ok.ensures;
         settings = c.read_settings.ensures;
-        files_from = c.in-Ok.ensures;
+        files_from = c.in-Ok.ensures.0;
+        text_files = c.in-Ok.ensures.1;
         line = line;
       },
     )
