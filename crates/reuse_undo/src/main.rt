@@ -4,9 +4,9 @@
 //! say (`print`), and ends with the status of that. Every script of `tests/` runs it.
 #![tactic(auto)]
 
-ghost use Rattle.std.specs.Prelude.{◌≡◌, if◌then◌else◌, string_bytes, true};
+ghost use Rattle.std.specs.Prelude.{◌≡◌, if◌then◌else◌, map, string_bytes, true};
 ghost use Rattle.std.specs.Option.{option_map};
-ghost use Rattle.reuse_arguments.specs.ListedCommands.{IsReadWithList};
+ghost use Rattle.reuse_arguments.specs.HeaderTexts.{IsReadWhole};
 ghost use Rattle.reuse_shown.specs.declared.shown_name.NameDisplay.TheVariants as names;
 
 mod laws;
@@ -16,6 +16,7 @@ mod run;
 use print::report::{report_arguments, report_outcome};
 use print::status::{Ending, exit_status};
 use reuse_arguments::file_list::with_list;
+use reuse_arguments::header_texts::{WorkingFiles, with_header_texts};
 use reuse_arguments::line::{Line, LineFault};
 use reuse_arguments::words::finder::Clap;
 use reuse_arguments::words::{ParsedArguments, words_to_command};
@@ -61,7 +62,7 @@ fn said_in<R: Env + Files + AllocGlobal>(
 ) -> (ParsedArguments, Option<String>) {
     let words = match read_words(rt, alloc) {
         Ok(words) => words,
-        Err(fault) => return (ParsedArguments::fault(fault), None),
+        Err(fault) => return (ParsedArguments::fault(alloc, fault), None),
     };
     let said = words_to_command(&Clap, alloc, words.as_slice(), moment, None);
     if said.up {
@@ -84,31 +85,35 @@ fn said_around<R: Files + AllocGlobal>(
             let said = words_to_command(&Clap, alloc, words, moment, start);
             (said.at_root(root), Some(folder))
         }
-        Err(fault) => (ParsedArguments::fault(fault), None),
+        Err(fault) => (ParsedArguments::fault(alloc, fault), None),
     }
 }
 
-/// The line that was said, with the list of files that it names, whose words start at the folder.
+/// The line that was said, with the list of files that it names, whose words start at the folder,
+/// and then with the texts of headers that it names.
 fn whole_line<R: Files + Input>(
     rt: &R,
     alloc: Global,
     said: ParsedArguments,
     folder: Option<String>,
 ) -> Result<Line, LineFault>
-    ensures { IsReadWithList (option_map string_bytes said.files_from) said.line result }
+    ensures { IsReadWhole (option_map string_bytes said.files_from) (map string_bytes said.text_files) said.line
+        result }
 {
     let ParsedArguments {
         verbose: _,
         up: _,
         settings: _,
         files_from,
+        text_files,
         line,
     } = said;
     let start = match &folder {
         Some(folder) => Some(folder.as_str()),
         None => None,
     };
-    with_list(rt, alloc, line?, files_from, start)
+    let listed = with_list(rt, alloc, line?, files_from, start)?;
+    with_header_texts(&WorkingFiles::of(rt), alloc, listed, text_files.as_slice())
 }
 
 /// Which streams are terminals.

@@ -1,6 +1,7 @@
 -- What the program exits with.
 use Rattle.std.specs.Prelude.{ℕ, zero, suc, max, Result, Ok, Err, true, false}
 use Rattle.reuse_notice.specs.declared.adding.NoticeRefusal.TheVariants as notices
+use Rattle.reuse_words.specs.declared.text.TextRefusal.TheVariants as texts
 use Rattle.reuse_undo.specs.declared.run.access_refusal.AccessRefusal.{AccessRefusal}
 use Rattle.reuse_print.specs.declared.fault.Fault.{Fault}
 use Rattle.reuse_arguments.specs.declared.line.ChangeStatus.{ChangeStatus}
@@ -9,7 +10,7 @@ use Rattle.reuse_arguments.specs.declared.line.LineFault.{LineFault}
 use Rattle.reuse_undo.specs.declared.print.status.Ending.{Ending}
 use Rattle.reuse_undo.specs.declared.print.status.Ending.TheVariants.{BadClock, NoLine, Denied, Called}
 use Rattle.reuse_arguments.specs.declared.line.LineFault.TheVariants.{Usage, Help, BadPath, BadAdditions}
-use Rattle.reuse_arguments.specs.declared.line.LineFault.TheVariants.{NothingToAmend, BadGlob, Unreadable}
+use Rattle.reuse_arguments.specs.declared.line.LineFault.TheVariants.{NothingToAmend, BadGlob, BadText, Unreadable}
 use Rattle.reuse_arguments.specs.declared.line.LineFault.TheVariants.{NoTree, Memory}
 
 -- after a call, by how many paths changed, or would change in a dry run: 1 where it was refused or failed, and 1 where
@@ -20,8 +21,8 @@ call_status_of on_change (Ok zero) = 0
 call_status_of Zero (Ok (suc others)) = 0
 call_status_of One (Ok (suc others)) = 1
 
--- 0 where help was asked for, 1 where memory ran out, and 2 where the words are wrong, the list of files that they
--- name can't be read, or no tree is around the working folder
+-- 0 where help was asked for, 1 where memory ran out, and 2 where the words are wrong, the list of files or a text
+-- that they name can't be read or is none, or no tree is around the working folder
 abbrev pub line_status_of : LineFault → ℕ
 line_status_of (Help text) = 0
 line_status_of Memory = 1
@@ -32,6 +33,8 @@ line_status_of (Usage text) = 2
 line_status_of (BadPath text) = 2
 line_status_of (BadGlob text) = 2
 line_status_of (Unreadable file) = 2
+line_status_of (BadText file (texts.Memory error)) = 1
+line_status_of (BadText file refusal) = 2
 line_status_of NoTree = 2
 
 -- of a run: 1 where the clock is out of range, and at least 1 where it couldn't be printed why the words are no line,

@@ -7,6 +7,7 @@ use crate::run::access_refusal::AccessRefusal;
 use reuse_arguments::line::{ChangeStatus, LineFault};
 use reuse_notice::NoticeRefusal;
 use reuse_print::fault::Fault;
+use reuse_words::TextRefusal;
 
 /// How a run of the program ended.
 #[derive(Drop)]
@@ -79,13 +80,16 @@ fn line_status(fault: &LineFault) -> u8
 {
     match fault {
         LineFault::Help(_) => 0,
-        LineFault::Memory | LineFault::BadAdditions(NoticeRefusal::Memory(_)) => 1,
+        LineFault::Memory
+        | LineFault::BadAdditions(NoticeRefusal::Memory(_))
+        | LineFault::BadText(_, TextRefusal::Memory(_)) => 1,
         LineFault::Usage(_)
         | LineFault::BadPath(_)
         | LineFault::BadAdditions(_)
         | LineFault::NothingToAmend
         | LineFault::BadGlob(_)
         | LineFault::Unreadable(_)
+        | LineFault::BadText(_, _)
         | LineFault::NoTree => 2,
     }
 }
