@@ -25,7 +25,7 @@ _reuse_undo_read() {
       --texts=*) texts=${words[index]#*=} ;;
       --texts) texts=${words[++index]-.} ;;
       --copyright | -c | --license | -l | --contributor | --year | -y | --style | -s | --copyright-prefix | \
-        --copyright-style | --files-from | --exclude | --remove-license | --remove-holder | --remove-contributor | \
+        --copyright-style | --files-from | --text | --remove-text | --exclude | --remove-license | --remove-holder | --remove-contributor | \
         --until | --holder) index=$((index + 1)) ;;
       --replace-license | --replace-holder | --replace-contributor) index=$((index + 2)) ;;
       --) only_paths=yes ;;
@@ -79,7 +79,7 @@ _reuse_undo() {
         _reuse_undo_paths . folders
         return
         ;;
-      --files-from)
+      --files-from | --text | --remove-text)
         _reuse_undo_paths .
         return
         ;;
@@ -94,14 +94,15 @@ _reuse_undo() {
     case $subcommand in
       '') _reuse_undo_of "$every --help --version" ;;
       annotate)
-        _reuse_undo_of "--copyright --license --contributor --year --exclude-year --style --copyright-prefix
+        _reuse_undo_of "--copyright --license --contributor --text --year --exclude-year --style --copyright-prefix
           --copyright-style --merge-copyrights --single-line --multi-line --no-replace --recursive --files-from
           --exclude --force-dot-license --fallback-dot-license
           --skip-unrecognised --skip-existing --exit-non-zero-on-change --dry-run --check --diff --json $every --help"
         ;;
       amend)
         _reuse_undo_of "--replace-license --remove-license --replace-holder --remove-holder --replace-contributor
-          --remove-contributor --until --copyright-prefix --holder --everywhere --style --recursive
+          --remove-contributor --remove-text --remove-header --until --copyright-prefix --holder --everywhere
+          --style --recursive
           --files-from --exclude --exit-non-zero-on-change --dry-run --check --diff --json $every --help"
         ;;
       styles)
