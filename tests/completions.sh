@@ -116,8 +116,10 @@ completes help log -- gives
 completes annotate --co gives --contributor --copyright --copyright-prefix --copyright-style
 completes annotate --s gives --single-line --skip-existing --skip-unrecognised --style
 completes fo gives forget
-completes amend --r gives --recursive --remove-contributor --remove-holder --remove-license \
-  --replace-contributor --replace-holder --replace-license --root
+completes amend --r gives --recursive --remove-contributor --remove-header --remove-holder \
+  --remove-license --remove-text --replace-contributor --replace-holder --replace-license --root
+completes amend --remove-text s gives setup.py source
+completes annotate --text s gives setup.py source
 completes amend --copyright-prefix spdx-c gives spdx-c
 completes amend --replace-license MIT ISC s gives setup.py source
 completes amend --until 2026 source/ gives source/a.py source/deep

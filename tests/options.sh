@@ -120,6 +120,7 @@ words() {
   tells "$line--exclude-year|-y|2024" 2 '--year and --exclude-year'
   refuses "$line--texts|x" 'unexpected argument'
   refuses "$line--everywhere" 'unexpected argument'
+  refuses "$line--remove-text|x" 'unexpected argument'
   refuses "$line--files-from|x" --recursive
   refuses "$line--exclude|x" --recursive
   tells "$line-r|--exclude|a\\b" 2 'bad glob: a\\b'
@@ -157,7 +158,8 @@ amend_words() {
   for option in '--replace-license <OLD> <NEW>' '--remove-license <EXPR>' \
     '--replace-holder <OLD> <NEW>' '--remove-holder <HOLDER>' \
     '--replace-contributor <OLD> <NEW>' '--remove-contributor <TEXT>' '--until <YEAR>' \
-    '--copyright-prefix <NAME>' '--holder <HOLDER>' --everywhere '-s, --style <NAME>' \
+    '--copyright-prefix <NAME>' '--holder <HOLDER>' '--remove-text <FILE>' --remove-header \
+    --everywhere '-s, --style <NAME>' \
     '-r, --recursive' \
     '--files-from <FILE>' '--exclude <GLOB>' '-n, --dry-run' --check --diff --json; do
     [[ $out == *" $option "* || $out == *" $option"$'\n'* ]] ||
@@ -179,6 +181,11 @@ amend_words() {
   refuses 'amend|--until|2026|--style|c|--everywhere|a.py' 'cannot be used with'
   refuses 'amend|--until|2026|--everywhere|-s|c|a.py' 'cannot be used with'
   refuses 'amend|--until|2026|--everywhere|--everywhere|a.py' 'cannot be used multiple times'
+  refuses 'amend|--remove-text|x|--everywhere|a.py' 'cannot be used with'
+  for option in --everywhere '--until|2026' '--replace-holder|A|B' '--remove-text|x'; do
+    refuses "amend|$option|--remove-header|a.py" 'cannot be used with'
+    refuses "amend|--remove-header|$option|a.py" 'cannot be used with'
+  done
   refuses 'amend|--until|2026|--exclude|x|a.py' --recursive
   refuses 'amend|--until|2026|--files-from|x|a.py' --recursive
   refuses 'amend|--until|2026|--force-dot-license|a.py' 'unexpected argument'
