@@ -64,9 +64,9 @@ pub record LooksAt {S : Type 0} (store : Ghosts S) (old new : S) : Type 0 where
   pub failures : store.failures old ≤ store.failures new
   pub was_honest : store.honest new → store.honest old
 
--- so it was, and then the store stayed
-abbrev pub LooksThenStays : {S : Type 0} → Ghosts S → (noted : S → Unsynced) → S → S → Type 0
-LooksThenStays {S = S} store noted old new = (looked : S) × LooksAt store old looked × Stays store noted looked new
+-- so it was, and then it was seen which files can be written: all that a barrier is to make durable stayed noted
+abbrev pub LooksThenSees : {S : Type 0} → Ghosts S → (noted : S → Unsynced) → S → S → Type 0
+LooksThenSees {S = S} store noted old new = (looked : S) × LooksAt store old looked × (noted new ≡ noted looked)
 
 -- the store stayed, and then it may have been looked at so
 abbrev pub StaysThenLooks : {S : Type 0} → Ghosts S → (noted : S → Unsynced) → S → S → Type 0
@@ -87,7 +87,7 @@ pub record IsHeld {S : Type 0} (store : Ghosts S) (Once : S → S → Result ℕ
   pub outcome : Result ℕ Fault
   pub tries : Once old tried outcome
   pub failed : is_failure outcome ≡ true
-  pub looks : LooksThenStays store noted tried looked
+  pub looks : LooksThenSees store noted tried looked
   pub ends : IsEndedBy store Once noted looked new ending
 
 -- a call was made once; if it failed, the second try counts

@@ -3,12 +3,11 @@
 //! held before its first put if it has asked for such a file, and then what it would change is
 //! looked at, path by path, as in a dry run.
 ghost use Rattle.std.specs.Prelude.{◌≡◌};
-ghost use Rattle.reuse_store.specs.Asked.{OnlyReads};
 ghost use Rattle.reuse_command.specs.Answer.{DidNotFail};
 ghost use Rattle.reuse_journal.specs.Journal.{State};
 ghost use Rattle.reuse_session.specs.session.Session.{store_of, SimulatesState};
 ghost use Rattle.reuse_session.specs.session.Requests.{Previews, ReadsOnlyWithCause};
-ghost use Rattle.reuse_undo.specs.run.OneCall.{Answers, AnswersOnce, EndsOnce, LooksAt, LooksThenStays};
+ghost use Rattle.reuse_undo.specs.run.OneCall.{Answers, AnswersOnce, EndsOnce, LooksAt, LooksThenSees};
 ghost use Rattle.reuse_undo.specs.run.OneCall.{is_failure, MakesOnce};
 
 use crate::run::access_refusal::AccessRefusal;
@@ -160,7 +159,7 @@ fn first_access_refusal<R: Files<File = File> + AllocGlobal + Clone + Drop>(
     alloc: Global,
     call: &Call,
 ) -> (HostStore<R>, Option<AccessRefusal>)
-    ensures { LooksThenStays ⟦<HostStore<R> as Store>⟧ (λ store. store.folder.unsynced) folder result.0 }
+    ensures { LooksThenSees ⟦<HostStore<R> as Store>⟧ (λ store. store.folder.unsynced) folder result.0 }
 {
     let (mut folder, path_outcomes) = preview(alloc, folder, call);
     let access_refusal = match path_outcomes {
@@ -175,8 +174,7 @@ fn access_refusal_among<R: Files<File = File> + AllocGlobal + Clone + Drop>(
     folder: &mut HostStore<R>,
     path_outcomes: &[PathOutcome],
 ) -> Option<AccessRefusal>
-    ensures reads { OnlyReads ⟦<HostStore<R> as Store>⟧ folder.old folder.new }
-    ensures noted { folder.new.folder.unsynced ≡ folder.old.folder.unsynced }
+    ensures { folder.new.folder.unsynced ≡ folder.old.folder.unsynced }
 {
     if is_refused(path_outcomes) {
         return None;
@@ -197,8 +195,7 @@ fn access_refusal_of<R: Files<File = File> + AllocGlobal + Clone + Drop>(
     folder: &mut HostStore<R>,
     path: &PathText,
 ) -> Option<AccessRefusal>
-    ensures reads { OnlyReads ⟦<HostStore<R> as Store>⟧ folder.old folder.new }
-    ensures noted { folder.new.folder.unsynced ≡ folder.old.folder.unsynced }
+    ensures { folder.new.folder.unsynced ≡ folder.old.folder.unsynced }
 {
     if ends_in_long_name(path.text()) {
         return Some(AccessRefusal::NameTooLong(file_of(alloc, path)?));
