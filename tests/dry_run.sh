@@ -131,6 +131,7 @@ example_tree() {
   echo 'text of MIT' > "$room/texts/MIT.txt"
   printf 'text without an end' > "$room/texts/Apache-2.0.txt"
   echo 'text of GPL' > "$room/texts/GPL-2.0-only.txt"
+  printf 'A note of\nACME\n' > "$room/texts/notice.txt"
 }
 # The same with what those of amend change, in headers and in a REUSE.toml
 amended_tree() {
@@ -141,7 +142,7 @@ amended_tree() {
     end='\n'
     [[ $path != src/b.py ]] || end='\r\n'
     printf -v header "# %s$end" 'SPDX-FileCopyrightText: 2019 Jane Doe' 'Copyright 2020 John Roe' \
-      'SPDX-FileContributor: Joe Bloggs' '' 'SPDX-License-Identifier: MIT' \
+      'SPDX-FileContributor: Joe Bloggs' '' 'A note of ACME' '' 'SPDX-License-Identifier: MIT' \
       'SPDX-License-Identifier: GPL-2.0'
     printf '%s\nx = 1' "$header" > "$tree/$path"
   done
@@ -157,6 +158,7 @@ mapfile -t examples < <(
 ((${#examples[@]} >= 19)) || fail "docs/REFERENCE.md has ${#examples[@]} examples"
 for example in "${examples[@]}"; do
   if [[ $example == amend* ]]; then amended_tree; else example_tree; fi
+  example=${example// notice.txt / $room/texts/notice.txt }
   eval "call=(${example//~\/license-list-data\/text/$room/texts})"
   call=("${call[@]//#texts/$room/texts}")
   compare
