@@ -259,6 +259,19 @@ changes() {
     program 0 "left $file" amend --replace-license ISC 0BSD a.py script
   done
   has "$ours" script 'x\n# SPDX-License-Identifier: ISC\n'
+
+  row 'a text beside the tags' a.py "$tag\n\nx\n" b.py "$tag\n#\n# A note.\n\nx\n"
+  echo 'A note.' > "$room/note.txt"
+  tool 2 'unrecognized arguments' annotate -l MIT --text=../note.txt a.py
+  program 0 'changed a.py' annotate -l MIT --text ../note.txt a.py b.py
+  has "$ours" a.py "$tag\n#\n# A note.\n\nx\n"
+  program 0 'changed b.py' amend --remove-text ../note.txt a.py b.py
+  for file in a.py b.py; do has "$ours" "$file" "$tag\n\nx\n"; done
+
+  row 'the whole header goes' a.py "$tag\n\nx\n"
+  tool 2 'unrecognized arguments' annotate -l MIT --remove-header a.py
+  program 0 'changed a.py' amend --remove-header a.py
+  has "$ours" a.py 'x\n'
 }
 
 other_words() {
