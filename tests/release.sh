@@ -111,7 +111,7 @@ found() {
 # The tarball in a home folder, of one who may write nothing else
 unpack() {
   mkdir -p ~/.local
-  tar -xzf "$1" --strip-components=1 -C ~/.local
+  tar -xzf "$1" --strip-components=1 --no-overwrite-dir -C ~/.local
   PATH=$HOME/.local/bin:/usr/bin:/bin
   [[ $(command -v reuse-undo) == "$HOME/.local/bin/reuse-undo" ]] || stop 'another program'
   reuse-undo --version
