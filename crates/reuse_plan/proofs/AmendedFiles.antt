@@ -39,7 +39,7 @@ use Rattle.reuse_plan.specs.Annotate.{neighbour_of}
 use Rattle.reuse_plan.specs.Annotated.{IsSameAround, IsStyleOf, HasKind, pair_at}
 use Rattle.reuse_plan.specs.Tables.{is_table}
 use Rattle.reuse_command.specs.Covered.{is_covered}
-use Rattle.reuse_plan.specs.Edit.{Edit}
+use Rattle.reuse_plan.specs.Edit.{Edit, file_then}
 use Rattle.reuse_style.specs.Kinds.{OwnKinds, kind_of_file, kind_unread}
 use Rattle.reuse_style.proofs.RuleLemmas.{kind_if_unread}
 use Rattle.reuse_command.specs.declared.command.FileAmendment.{FileAmendment}
@@ -49,7 +49,7 @@ use Rattle.reuse_command.specs.declared.header_fault.HeaderFault.TheVariants as 
 use Rattle.reuse_command.specs.declared.command.Place.TheVariants as place
 use Rattle.reuse_command.specs.declared.command.Scope.{Scope}
 use Rattle.reuse_command.specs.declared.reply.Refusal.TheVariants as refusals
-use Rattle.reuse_plan.proofs.AnnotatedFiles.{file_then, pair_then, pair, IsEditTo, makes_by, then_here, then_other, apart}
+use Rattle.reuse_plan.proofs.AnnotatedFiles.{pair_then, pair, IsEditTo, makes_by, then_here, then_other, apart}
 use Rattle.reuse_plan.proofs.Annotating.{both_err}
 use Rattle.reuse_plan.proofs.Outcomes.{done}
 use Rattle.reuse_plan.proofs.Results.{err_or, same_Ok}

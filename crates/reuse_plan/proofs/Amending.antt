@@ -91,6 +91,14 @@ module _ (path : List ℕ) (edit : Edit) where
   of_beside (Remove values removal) bytes e =
       of_left (neighbour_of path) bytes (left_beside values removal path bytes) e
 
+  -- the neighbour's edit is one of its bytes
+  pub beside_edit : (amendment : FileAmendment) (bytes : List ℕ)
+      → amend_neighbour amendment path bytes ≡ some_edit edit → EditOf (neighbour_of path) bytes
+  beside_edit amendment bytes e =
+      let few = err_or (nat_lt 4096 (length (neighbour_of path))) (refusals.TooLong path) _ (Some edit) e in
+      let short = err_or (nat_lt LONGEST_FILE (length bytes)) (refusals.TooLong path) _ (Some edit) few.1 in
+      of_beside amendment bytes short.1
+
   of_own_text : (amendment : FileAmendment) (scope : Scope) (own : OwnKinds) (bytes : List ℕ)
       → amend_own_text amendment scope own path bytes ≡ some_edit edit → EditOf path bytes
   of_own_text (Everywhere values) scope own bytes e = of_text path bytes (amended_everywhere values bytes) e
@@ -106,6 +114,15 @@ module _ (path : List ℕ) (edit : Edit) where
       of_style None h = absurd (cc)
       of_style (Some style) h = of_left path bytes (some_text (left_inside values removal style path bytes)) h
 
+  -- the file's is one of its own
+  pub own_edit : (amendment : FileAmendment) (scope : Scope) (own : OwnKinds) (bytes : List ℕ)
+      → amend_inside amendment scope own path bytes ≡ some_edit edit → EditOf path bytes
+  own_edit amendment scope own bytes e =
+      let read = unskipped (is_passed_over amendment scope own path bytes) _ edit e in
+      let short = err_or (nat_lt LONGEST_FILE (length bytes)) (refusals.TooLong path) _ (Some edit) read.1 in
+      let text = unskipped (not (is_text bytes)) _ edit short.1 in
+      of_own_text amendment scope own bytes text.1
+
 module _ (amendment : FileAmendment) (scope : Scope) (own : OwnKinds) (tree : Files) (path : List ℕ)
     (edit : Edit) where
   abbrev Here : Type 0
@@ -115,32 +132,26 @@ module _ (amendment : FileAmendment) (scope : Scope) (own : OwnKinds) (tree : Fi
       → get tree (neighbour_of path) ≡ Some bytes → amend_neighbour amendment path bytes ≡ some_edit edit → Here
   of_neighbour bytes some covered here e =
       let few = err_or (nat_lt 4096 (length (neighbour_of path))) (refusals.TooLong path) _ (Some edit) e in
-      let short = err_or (nat_lt LONGEST_FILE (length bytes)) (refusals.TooLong path) _ (Some edit) few.1 in
-      let one = of_beside path edit amendment bytes short.1 in
       record {
         is_file = some;
         workable = inl covered;
         at = neighbour_of path;
         bytes = bytes;
         here = here;
-        by = one;
+        by = beside_edit path edit amendment bytes e;
         placed = inr (record { same = refl; few = ltb-false 4096 (length (neighbour_of path)) few.0 });
       }
 
   of_inside : (bytes : List ℕ) → get tree path ≡ Some bytes → is_covered path ≡ true
       → amend_inside amendment scope own path bytes ≡ some_edit edit → Here
   of_inside bytes here covered e =
-      let read = unskipped (is_passed_over amendment scope own path bytes) _ edit e in
-      let short = err_or (nat_lt LONGEST_FILE (length bytes)) (refusals.TooLong path) _ (Some edit) read.1 in
-      let text = unskipped (not (is_text bytes)) _ edit short.1 in
-      let one = of_own_text path edit amendment scope own bytes text.1 in
       record {
         is_file = ap is_some here;
         workable = inl covered;
         at = path;
         bytes = bytes;
         here = here;
-        by = one;
+        by = own_edit path edit amendment scope own bytes e;
         placed = inl refl;
       }
 

@@ -43,7 +43,7 @@ use Rattle.reuse_header.specs.Laws.{IsInsertion}
 use Rattle.reuse_plan.specs.Annotations.{Expected}
 use Rattle.reuse_change.specs.Clash.{is_clash}
 use Rattle.reuse_command.specs.Covered.{is_covered}
-use Rattle.reuse_plan.specs.Edit.{Edit}
+use Rattle.reuse_plan.specs.Edit.{Edit, file_then}
 use Rattle.reuse_change.specs.Listing.{is_folder}
 use Rattle.reuse_command.specs.declared.command.Place.TheVariants as place
 use Rattle.reuse_plan.proofs.Annotating.{both_err}
@@ -166,11 +166,6 @@ module _ (scope : Scope) (own : OwnKinds) (tree : Files) (path bytes : List ℕ)
 -- ---- tests
 
 -- ---- what an edit leaves
-
--- what a path holds after what is done at one
-abbrev pub file_then : Files → Option Edit → List ℕ → Option (List ℕ)
-file_then tree None path = get tree path
-file_then tree (Some edit) path = cond (bytes_eq path edit.path) edit.file (get tree path)
 
 abbrev pub pair_then : Files → Option Edit → List ℕ → Pair
 pair_then tree given path = record {

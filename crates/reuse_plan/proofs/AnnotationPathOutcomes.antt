@@ -11,6 +11,7 @@ use Rattle.reuse_plan.specs.Annotate.{edit_neighbour, edit_target, annotated_whe
 use Rattle.reuse_plan.specs.Annotated.{pair_at, IsAnnotated, Annotates, IsSkipped, IsSkippedAt}
 use Rattle.reuse_command.specs.Command.{has_root}
 use Rattle.reuse_change.specs.Listing.{ArePaths, is_folder}
+use Rattle.reuse_plan.specs.Edit.{file_then}
 use Rattle.reuse_plan.specs.Outcome.{Edit, edited, outcome_of, edits_of, is_too_many, annotation_at, annotations_by}
 use Rattle.reuse_plan.specs.TreeStyles.{styles_in}
 use Rattle.reuse_style.specs.Kinds.{OwnKinds}
@@ -22,7 +23,7 @@ use Rattle.reuse_command.specs.declared.command.Scope.{Scope}
 use Rattle.reuse_command.specs.declared.reply.Refusal.{Refusal}
 use Rattle.reuse_command.specs.declared.reply.Refusal.TheVariants as refusals
 use Rattle.reuse_plan.proofs.AnnotatedFiles.{ReplacesBlock, InsertsBlock, ReplacesNeighbour, InsertsNeighbour}
-use Rattle.reuse_plan.proofs.AnnotatedFiles.{annotated_there, pair, file_then, Takes, takes}
+use Rattle.reuse_plan.proofs.AnnotatedFiles.{annotated_there, pair, Takes, takes}
 use Rattle.reuse_plan.proofs.Annotating.{if_not, both_err}
 use Rattle.reuse_plan.proofs.Choosing.{selected_ascend}
 use Rattle.reuse_plan.proofs.Fitting.{is_placed}

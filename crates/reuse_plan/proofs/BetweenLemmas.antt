@@ -18,7 +18,8 @@ use Rattle.reuse_amend.specs.declared.amendments.Amendments.{Amendments}
 use Rattle.reuse_command.specs.declared.header_fault.HeaderFault.TheVariants as faults
 use Rattle.reuse_command.specs.declared.reply.Refusal.TheVariants as refusals
 use Rattle.reuse_plan.specs.Amend.{text_edit}
-use Rattle.reuse_plan.specs.Left.{names_behind, still_names}
+use Rattle.reuse_plan.specs.AmendmentPlan.{names_behind}
+use Rattle.reuse_plan.specs.Left.{still_names}
 use Rattle.reuse_plan.proofs.EditLemmas.{edited_to, refused}
 use Rattle.reuse_plan.proofs.SpliceLemmas.{makes_splice}
 

@@ -1,10 +1,9 @@
 -- What amend leaves at a place, by what it makes of its bytes.
 use Rattle.std.proofs.Common.{◌≡◌, ◌∙◌, ℕ, ◌+◌, ◌-◌, ◌≤◌, Bool, true, false, cond, not, ◌&&◌, nat_lt, List, length, take, drop}
 use Rattle.std.proofs.Common.{◌++◌, length-append, Option, Some, None, Result, Ok, Err, refl, sym, ap, subst, arith}
-use Rattle.std.specs.Option.{option_map_or}
 use Rattle.std.specs.Str.{bytes_eq}
 use Rattle.std.proofs.lemmas.Bool.{and_right}
-use Rattle.reuse_change.specs.Files.{Files}
+use Rattle.reuse_command.specs.Reading.{get, Files}
 use Rattle.reuse_header.specs.Neighbour.{is_text}
 use Rattle.reuse_tags.specs.Left.{leaves_values}
 use Rattle.std.proofs.lemmas.List.{length-take-le, length-drop}
@@ -17,14 +16,18 @@ use Rattle.reuse_header.specs.declared.annotation.Splice.{Splice}
 use Rattle.reuse_header.specs.Amendment.{amendment_answer}
 use Rattle.reuse_text.specs.declared.TheConstants.{LONGEST_FILE}
 use Rattle.reuse_plan.specs.Amend.{amendment_edit}
-use Rattle.reuse_plan.specs.AmendmentPlan.{AnswersAmended, AnswersText, Expected, Fits, IsMadeWithin, amended_by, left_by}
+use Rattle.reuse_plan.specs.AmendmentPlan.{AnswersAmended, AnswersPath, AnswersText, Expected, Fits, IsMadeWithin}
+use Rattle.reuse_plan.specs.AmendmentPlan.{amended_by, inside_by, left_by, names_behind, own_of}
+use Rattle.reuse_plan.specs.Annotate.{neighbour_of}
 use Rattle.reuse_plan.specs.Edit.{Edit}
-use Rattle.reuse_plan.specs.Left.{names_behind, still_names, telling_text}
+use Rattle.reuse_plan.specs.Left.{still_names, still_tells}
 use Rattle.reuse_plan.specs.Tables.{is_table}
 use Rattle.reuse_plan.specs.declared.annotation.Amendment.{Amendment}
 use Rattle.reuse_plan.specs.declared.left.Amended.{Amended}
 use Rattle.reuse_command.specs.declared.reply.Refusal.{Refusal}
+use Rattle.reuse_plan.proofs.Amending.{own_edit}
 use Rattle.reuse_plan.proofs.EditLemmas.{edited_to}
+use Rattle.reuse_plan.proofs.TellingLemmas.{edit_place, own_text_tells}
 
 abbrev answered : Option Splice → Result (Option Splice) AmendHeaderRefusal
 answered splice = Ok splice
@@ -127,22 +130,31 @@ no_text_left a bytes is =
     let front = not (nat_lt LONGEST_FILE (length bytes)) && leaves_values a bytes in
     ap (λ b. front && b) is ∙ and_right front false refl
 
--- what is answered of the text that tells the licensing of a path is answered of the path
+-- what is answered of a path by its edit is answered of it in the tree
 module _ (asked : Amendment) (tree : Files) (path : List ℕ) where
-  pub answers_path : (bytes : List ℕ) (given : Result (Option Edit) Refusal) (result : Result Amended Refusal)
-      → is_table path ≡ false → telling_text tree path ≡ Some bytes → amended_by asked tree path ≡ given
-      → AnswersText asked tree bytes given result
+  pub answers_path : (given : Result (Option Edit) Refusal) (result : Result Amended Refusal)
+      → is_table path ≡ false → amended_by asked tree path ≡ given → AnswersPath asked tree path given result
       → AnswersAmended tree (amended_by asked tree path) (left_by asked tree path) result
-  answers_path bytes given result table telling goes answers =
-      let names = λ (bs : List ℕ). names_behind (values_of asked.amendment.now) bs (amended_by asked tree path) in
-      let left : left_by asked tree path ≡ names_behind (values_of asked.amendment.now) bytes given =
-      ap (λ b. not b && option_map_or names (telling_text tree path) false) table
-      ∙ ap (λ t. option_map_or names t false) telling ∙ ap (names_behind (values_of asked.amendment.now) bytes) goes in
+  answers_path given result table goes answers =
+      let tells = still_tells (values_of asked.amendment.now) tree path in
+      let left : left_by asked tree path ≡ tells given =
+      ap (λ b. not b && tells (amended_by asked tree path)) table ∙ ap tells goes in
       subst (λ g. AnswersAmended tree g (left_by asked tree path) result) (sym goes)
       (subst (λ l. AnswersAmended tree given l result) (sym left) answers)
 
   -- no table is left
   pub no_table_left : is_table path ≡ true → false ≡ left_by asked tree path
-  no_table_left table = sym (ap (λ b. not b && option_map_or
-      (λ (bs : List ℕ). names_behind (values_of asked.amendment.now) bs (amended_by asked tree path))
-      (telling_text tree path) false) table)
+  no_table_left table = sym (ap (λ b. not b
+      && still_tells (values_of asked.amendment.now) tree path (amended_by asked tree path)) table)
+
+  -- what is answered of a file's own text is answered of the path, where it has no neighbour
+  pub own_answers : (bytes : List ℕ) → get tree path ≡ Some bytes → get tree (neighbour_of path) ≡ None
+      → (result : Result Amended Refusal) → AnswersText asked tree bytes (inside_by asked path bytes) result
+      → AnswersPath asked tree path (inside_by asked path bytes) result
+  own_answers bytes here alone (Err refusal) answers = answers
+  own_answers bytes here alone (Ok amended) answers = (
+    answers.0,
+    answers.1 ∙ own_text_tells (values_of asked.amendment.now) tree path bytes here alone (inside_by asked path bytes)
+        (λ edit is. edit_place path path bytes edit
+        (own_edit path edit asked.amendment.now asked.scope.now (own_of asked) bytes is)),
+  )

@@ -45,6 +45,7 @@ pub mod StyleAdding
 pub mod StylesAdding
 pub mod TableLemmas
 pub mod TagLemmas
+pub mod TellingLemmas
 pub mod TextsPut
 pub mod UnusedLemmas
 pub mod OwnFiles

@@ -29,9 +29,9 @@ use Rattle.reuse_command.specs.declared.command.HeaderRemoval.TheVariants.{Texts
 use Rattle.reuse_plan.specs.Amended.{KeepsOfNeighbour, KeepsOutsideBlock, KeepsOutsideRemoved}
 use Rattle.reuse_plan.specs.AmendmentPlan.{ExpectedRemoval}
 use Rattle.reuse_plan.specs.Annotated.{IsSameAround}
-use Rattle.reuse_plan.specs.Edit.{Edit, dropped, edit_between, edit_to}
+use Rattle.reuse_plan.specs.Edit.{Edit, dropped, edit_between, edit_to, file_then}
 use Rattle.reuse_plan.specs.Removed.{neighbour_left, neighbour_removal_of, removal_of, text_left}
-use Rattle.reuse_plan.proofs.AnnotatedFiles.{IsEditTo, file_then, makes_by, then_here, then_other}
+use Rattle.reuse_plan.proofs.AnnotatedFiles.{IsEditTo, makes_by, then_here, then_other}
 use Rattle.reuse_plan.proofs.BetweenLemmas.{between, between_by, between_makes}
 use Rattle.reuse_plan.proofs.EditLemmas.{edited_to}
 use Rattle.reuse_plan.proofs.LeftLemmas.{removed_len}

@@ -1,5 +1,7 @@
 -- What an amendment that is asked for does, by the styles of its tree, for private clauses.
-use Rattle.std.specs.Prelude.{◌≡◌, ℕ, Bool, ◌+◌, ◌-◌, ◌≤◌, List, length, Option, Some, None, Result, Ok, Err}
+use Rattle.std.specs.Prelude.{◌≡◌, ℕ, Bool, true, false, ◌+◌, ◌-◌, ◌≤◌, List, length, Option, Some, None, Result, Ok}
+use Rattle.std.specs.Prelude.{Err}
+use Rattle.std.specs.Option.{option_map_or}
 use Rattle.reuse_toml.specs.declared.toml_change.TomlSplice.{TomlSplice}
 use Rattle.reuse_toml.specs.declared.toml_values.AmendTomlRefusal.{AmendTomlRefusal}
 use Rattle.reuse_header.specs.Annotation as header
@@ -14,11 +16,13 @@ use Rattle.reuse_text.specs.Text.{spliced}
 use Rattle.reuse_style.specs.declared.style.Style.{Style}
 use Rattle.reuse_text.specs.declared.TheConstants.{LONGEST_FILE}
 use Rattle.reuse_change.specs.Files.{Files}
+use Rattle.reuse_change.specs.declared.change.Change.{Change}
+use Rattle.reuse_change.specs.declared.change.Change.TheVariants.{Drop}
 use Rattle.reuse_command.specs.Command.{values_of}
 use Rattle.reuse_plan.specs.Amend.{amended_at, amend_inside, amend_neighbour, amend_table}
 use Rattle.reuse_plan.specs.Amend.{amend_own_text, has_no_style_unread, is_passed_over, style_for}
 use Rattle.reuse_plan.specs.Edit.{Edit}
-use Rattle.reuse_plan.specs.Left.{is_left, names_behind}
+use Rattle.reuse_plan.specs.Left.{is_left, still_names, still_tells}
 use Rattle.reuse_plan.specs.Plan.{IsRefusalOf, MakesEdit}
 use Rattle.reuse_plan.specs.declared.annotation.Amendment.{Amendment}
 use Rattle.reuse_plan.specs.declared.left.Amended.{Amended}
@@ -92,14 +96,35 @@ abbrev pub AnswersAmended : Files → Result (Option Edit) Refusal → Bool → 
 AnswersAmended tree given left (Ok amended) = MakesEdit tree given amended.change × (amended.is_left ≡ left)
 AnswersAmended tree given left (Err refusal) = IsRefusalOf given refusal
 
+-- a text of these bytes behind what is done with it; none where that is refused
+abbrev pub text_behind : List ℕ → Result (Option Edit) Refusal → Option (List ℕ)
+text_behind bytes (Err refusal) = None
+text_behind bytes (Ok None) = Some bytes
+text_behind bytes (Ok (Some edit)) = edit.file
+
+-- it still has a value that the amendments name
+abbrev pub names_behind : Amendments → List ℕ → Result (Option Edit) Refusal → Bool
+names_behind amendments bytes given = option_map_or (still_names amendments) (text_behind bytes given) false
+
 -- so it is of a text of these bytes, in which these values are amended
 abbrev pub AnswersValues : Amendments → Files → List ℕ → Result (Option Edit) Refusal → Result Amended Refusal → Type 0
 AnswersValues values tree bytes given result = AnswersAmended tree given (names_behind values bytes given) result
 
--- so it is of what tells the licensing of a path, which has these bytes
+-- so it is of a text of these bytes, by what is asked for
 abbrev pub AnswersText : Amendment → Files → List ℕ → Result (Option Edit) Refusal → Result Amended Refusal → Type 0
 AnswersText asked tree bytes given result =
     AnswersValues (values_of asked.amendment.now) tree bytes given result
+
+-- so it is of a path, by what tells its licensing then
+abbrev pub AnswersPath : Amendment → Files → List ℕ → Result (Option Edit) Refusal → Result Amended Refusal → Type 0
+AnswersPath asked tree path given result =
+    AnswersAmended tree given (still_tells (values_of asked.amendment.now) tree path given) result
+
+-- a change takes its file away
+abbrev pub takes_away : Option Change → Bool
+takes_away None = false
+takes_away (Some (Drop path old before)) = true
+takes_away (Some other) = false
 
 abbrev pub left_by : Amendment → Files → List ℕ → Bool
 left_by asked tree path = is_left (values_of asked.amendment.now) tree path (amended_by asked tree path)

@@ -1,6 +1,8 @@
 -- What a command does at one path.
 use Rattle.std.specs.Prelude.{ℕ, List, [], ◌++◌, take, drop, Option, Some, None, if◌then◌else◌}
+use Rattle.std.specs.FinMap.{get}
 use Rattle.std.specs.Str.{bytes_eq}
+use Rattle.reuse_change.specs.Files.{Files}
 use Rattle.reuse_text.specs.Difference.{difference_of}
 use Rattle.reuse_text.specs.declared.difference.Difference.{Difference}
 
@@ -10,6 +12,11 @@ pub record Edit : Type 0 where
   pub removed : List ℕ
   pub written : List ℕ
   pub file : Option (List ℕ)
+
+-- what a path holds after what is done at one
+abbrev pub file_then : Files → Option Edit → List ℕ → Option (List ℕ)
+file_then tree None path = get tree path
+file_then tree (Some edit) path = if bytes_eq path edit.path then edit.file else get tree path
 
 -- a file is made
 abbrev pub made : List ℕ → List ℕ → Edit

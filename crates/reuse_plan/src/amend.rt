@@ -7,8 +7,8 @@ ghost use Rattle.reuse_command.specs.Reading.{get, reading_of, tree_of, Files, I
 ghost use Rattle.reuse_header.specs.Amendment.{neighbour_amendment_of};
 ghost use Rattle.reuse_plan.specs.Amend.{amend_beside, amend_block, amendment_edit, has_no_style, style_of_kind};
 ghost use Rattle.reuse_plan.specs.AmendmentPlan.{amended_by, beside_by, has_no_style_by, inside_by, is_passed_over_by};
-ghost use Rattle.reuse_plan.specs.AmendmentPlan.{left_by, own_text_by, style_by, table_by};
-ghost use Rattle.reuse_plan.specs.AmendmentPlan.{AnswersAmended, AnswersText, AnswersValues};
+ghost use Rattle.reuse_plan.specs.AmendmentPlan.{left_by, own_text_by, style_by, table_by, takes_away};
+ghost use Rattle.reuse_plan.specs.AmendmentPlan.{AnswersAmended, AnswersPath, AnswersText, AnswersValues};
 ghost use Rattle.reuse_plan.specs.Annotate.{neighbour_of};
 ghost use Rattle.reuse_plan.specs.Plan.{AnswersEdit};
 ghost use Rattle.reuse_command.specs.Refused.{IsNoFault};
@@ -63,7 +63,7 @@ pub(crate) fn plan_amended<S: Store>(
     }
     let neighbour = neighbour_of(alloc, path)?;
     if is_among(paths, neighbour.as_slice()) {
-        return plan_in_neighbour(alloc, store, path, asked);
+        return plan_with_neighbour(alloc, store, path, asked);
     }
     plan_inside(alloc, store, path, asked)
 }
@@ -156,6 +156,42 @@ fn style_of_kind(kind: Kind<'_>) -> Option<Style<'_>>
         Kind::Style(style) => Some(style),
         Kind::Uncommentable => None,
         Kind::Unknown => None,
+    }
+}
+
+// What is done at a path whose neighbour is there. Where that goes, the file itself tells whether
+// the path is left.
+fn plan_with_neighbour<S: Store>(
+    alloc: Global,
+    store: &mut S,
+    path: &PathText,
+    asked: &Amendment<'_, '_>,
+) -> Result<Amended, Refusal>
+    ensures edit { S.honest store.new → (bytes beside : List ℕ)
+        → get (tree_of (S.files store.old)) path.now ≡ Some bytes
+        → get (tree_of (S.files store.old)) (neighbour_of path.now) ≡ Some beside
+        → AnswersPath asked.now (tree_of (S.files store.old)) path.now (beside_by asked.now path.now beside) result }
+    ensures asks { ReadsAlone S.Store IsOfPlan store.old store.new result }
+{
+    let Amended { change, is_left } = match plan_in_neighbour(alloc, store, path, asked) {
+        Ok(amended) => amended,
+        Err(refusal) => return Err(refusal),
+    };
+    if !takes_away(&change) {
+        return Ok(Amended { change, is_left });
+    }
+    let reading = store.read(alloc, path, LONGEST_FILE)?;
+    let is_left = still_names_read(asked.amendment.values(), &reading);
+    Ok(Amended { change, is_left })
+}
+
+// Whether a change takes its file away.
+fn takes_away(change: &Option<Change>) -> bool
+    ensures { result ≡ takes_away change.now }
+{
+    match change {
+        Some(Change::Drop { .. }) => true,
+        Some(_) | None => false,
     }
 }
 

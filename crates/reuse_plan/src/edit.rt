@@ -12,7 +12,7 @@ ghost use Rattle.reuse_plan.specs.Amend.{amendment_edit, amend_refused_by, table
 ghost use Rattle.reuse_plan.specs.AmendmentPlan as amending;
 ghost use Rattle.reuse_plan.specs.Annotate.{edit_by};
 ghost use Rattle.reuse_plan.specs.HeaderFaults.{refused_by, text_refused_by};
-ghost use Rattle.reuse_plan.specs.Left.{names_behind};
+ghost use Rattle.reuse_plan.specs.AmendmentPlan.{names_behind};
 ghost use Rattle.reuse_plan.specs.Annotations.{Fits, Expected};
 ghost use Rattle.reuse_plan.specs.Edit.{edit_between};
 ghost use Rattle.reuse_plan.specs.Plan.{AnswersEdit, MakesEdit};

@@ -1,5 +1,4 @@
-use Rattle.std.proofs.Common.{◌≡◌, ◌∙◌, List, ℕ, true, Some, IsSome, sym, ap, ap₂, subst, Err}
-use Rattle.std.specs.Option.{option_or}
+use Rattle.std.proofs.Common.{◌≡◌, ◌∙◌, List, ℕ, true, Some, IsSome, sym, ap, subst, Err}
 use Rattle.reuse_command.specs.Reading.{get, tree_of}
 use Rattle.reuse_change.specs.Listing.{is_among}
 use Rattle.reuse_plan.specs.AmendmentPlan.{amended_by, beside_by, inside_by, own_of}
@@ -12,7 +11,7 @@ use Rattle.reuse_command.specs.declared.reply.Refusal.TheVariants as refusals
 use Rattle.reuse_plan.proofs.AmendmentEdits.{uncovered_is, goes_to_neighbour, goes_inside, goes_to_table}
 use Rattle.reuse_plan.proofs.Annotating.{is_absent, some_file}
 use Rattle.reuse_plan.proofs.EditLemmas.{some_bytes}
-use Rattle.reuse_plan.proofs.LeftLemmas.{answers_path, no_table_left}
+use Rattle.reuse_plan.proofs.LeftLemmas.{answers_path, no_table_left, own_answers}
 use Rattle.reuse_plan.proofs.PathPlanning.{is_refusal_of}
 use Rattle.reuse_plan.proofs.TableLemmas.{not_table}
 use Rattle.reuse_plan.proofs.amend.plan_amended.Given.{Over}
@@ -96,10 +95,9 @@ returns-then-is_among-clause-edit g c honest are =
     let beside =
     some_bytes (get tree (neighbour_of path)) (some_file tree (neighbour_of path) c.args.paths.now are.beside among) in
     let is = covered g at are ∙ c.if-not-is_covered.false in
-    answers_path c.args.asked.now tree path beside.0 (beside_by c.args.asked.now path beside.0)
-    c.plan_in_neighbour.result (not_table path is) (ap (λ f. option_or f (get tree path)) beside.1)
-    (goes_to_neighbour c.args.asked.now tree path file.0 beside.0 file.1 is beside.1)
-    (c.plan_in_neighbour.ensures.edit honest beside.0 beside.1)
+    answers_path c.args.asked.now tree path (beside_by c.args.asked.now path beside.0) c.plan_with_neighbour.result
+    (not_table path is) (goes_to_neighbour c.args.asked.now tree path file.0 beside.0 file.1 is beside.1)
+    (c.plan_with_neighbour.ensures.edit honest file.0 beside.0 file.1 beside.1)
 
 pub returns-clause-edit : goal.returns-clause-edit
 returns-clause-edit g c honest are =
@@ -111,7 +109,7 @@ returns-clause-edit g c honest are =
     ∙ ap (is_among c.args.paths.now) (c.as_slice.ensures ∙ c.in_ok-neighbour.ensures)) ∙ c.if-is_among.false in
     let alone = is_absent tree (neighbour_of path) c.args.paths.now are.beside among in
     let is = covered g at are ∙ c.if-not-is_covered.false in
-    answers_path c.args.asked.now tree path file.0 (inside_by c.args.asked.now path file.0) c.plan_inside.result
-    (not_table path is) (ap₂ option_or alone file.1)
-    (goes_inside c.args.asked.now tree path file.0 file.1 is alone)
-    (c.plan_inside.ensures.edit honest file.0 file.1)
+    answers_path c.args.asked.now tree path (inside_by c.args.asked.now path file.0) c.plan_inside.result
+    (not_table path is) (goes_inside c.args.asked.now tree path file.0 file.1 is alone)
+    (own_answers c.args.asked.now tree path file.0 file.1 alone c.plan_inside.result
+    (c.plan_inside.ensures.edit honest file.0 file.1))

@@ -3,7 +3,8 @@ use Rattle.reuse_amend.specs.declared.amendments.Amendments.{Amendments}
 use Rattle.reuse_text.specs.declared.TheConstants.{LONGEST_FILE}
 use Rattle.reuse_change.specs.Files.{tree_of}
 use Rattle.reuse_command.specs.Command.{values_of}
-use Rattle.reuse_plan.specs.Left.{names_behind, still_names}
+use Rattle.reuse_plan.specs.AmendmentPlan.{names_behind}
+use Rattle.reuse_plan.specs.Left.{still_names}
 use Rattle.reuse_plan.proofs.AmendmentEdits.{passed_over_is}
 use Rattle.reuse_store.proofs.TreeLemmas.{read_there}
 use Rattle.reuse_plan.proofs.amend.plan_inside.Goals as goal

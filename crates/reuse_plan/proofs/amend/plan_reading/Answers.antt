@@ -2,8 +2,7 @@ use Rattle.std.proofs.Common.{◌≡◌, ℕ, List, length, Some, true, false, s
 use Rattle.reuse_header.specs.Neighbour.{is_text}
 use Rattle.reuse_header.proofs.NeighbourLemmas.{text-test}
 use Rattle.reuse_command.specs.Command.{values_of}
-use Rattle.reuse_plan.specs.AmendmentPlan.{AnswersText, own_text_by}
-use Rattle.reuse_plan.specs.Left.{names_behind}
+use Rattle.reuse_plan.specs.AmendmentPlan.{AnswersText, names_behind, own_text_by}
 use Rattle.reuse_plan.proofs.AmendmentEdits.{inside_is}
 use Rattle.reuse_plan.proofs.EditLemmas.{short_is}
 use Rattle.reuse_plan.proofs.LeftLemmas.{no_text_left}

@@ -1,7 +1,7 @@
 use Rattle.std.proofs.Common.{◌≡◌, ◌∙◌, ap, arith, false, length, nat_lt, sym, subst}
 use Rattle.std.proofs.lemmas.Bool.Decides.{nat_tests}
 use Rattle.reuse_text.specs.declared.TheConstants.{LONGEST_FILE}
-use Rattle.reuse_plan.specs.Left.{names_behind}
+use Rattle.reuse_plan.specs.AmendmentPlan.{names_behind}
 use Rattle.reuse_plan.specs.Plan.{MakesEdit}
 use Rattle.reuse_plan.proofs.BetweenLemmas.{names_between, text_is}
 use Rattle.reuse_plan.proofs.amend_text.exchange.Goals as goal

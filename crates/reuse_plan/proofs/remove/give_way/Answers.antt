@@ -1,6 +1,7 @@
 use Rattle.std.proofs.Common.{◌≡◌, ◌∙◌, ℕ, List, Option, Some, false, refl, sym, ap, subst}
 use Rattle.reuse_plan.specs.Edit.{dropped, edit_between, edit_to}
-use Rattle.reuse_plan.specs.Left.{names_behind, still_names}
+use Rattle.reuse_plan.specs.AmendmentPlan.{names_behind}
+use Rattle.reuse_plan.specs.Left.{still_names}
 use Rattle.reuse_plan.specs.Plan.{CarriesOutEdit, MakesEdit}
 use Rattle.reuse_plan.proofs.BetweenLemmas.{names_between}
 use Rattle.reuse_plan.proofs.EditLemmas.{edited_to}
