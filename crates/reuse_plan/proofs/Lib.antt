@@ -48,4 +48,5 @@ pub mod TagLemmas
 pub mod TellingLemmas
 pub mod TextsPut
 pub mod UnusedLemmas
+pub mod WholeNeighbours
 pub mod OwnFiles

@@ -1,24 +1,33 @@
 -- What amend makes of a tree, in other words: each file that is gone through, or its neighbour where that is there,
 -- becomes what the rules say of these bytes alone, a table what they say of its values, and all else stays.
 use Rattle.std.specs.Prelude.{◌≡◌, ◌≢◌, ◌⊎◌, ℕ, ◌<◌, ◌≤◌, true, false, List, [], ◌∷◌, ◌++◌, ◌+◌, length, take, drop}
-use Rattle.std.specs.Prelude.{Option, Some, None, is_some, Ok}
-use Rattle.std.specs.List.{Contains}
+use Rattle.std.specs.Prelude.{Option, Some, None, is_some, Ok, not, ◌&&◌, if◌then◌else◌}
+use Rattle.std.specs.List.{Contains, list_any}
+use Rattle.std.specs.Str.{bytes_eq}
 use Rattle.std.specs.Option.{option_map}
 use Rattle.std.specs.FinMap.{get}
 use Rattle.reuse_text.specs.declared.TheConstants.{LONGEST_FILE}
 use Rattle.reuse_text.specs.Text.{TextLine, file_lines, line_bytes, mark_len_of}
 use Rattle.reuse_amend.specs.declared.amendments.Amendments.{Amendments}
+use Rattle.reuse_notice.specs.Contents.{is_nil, free_of}
+use Rattle.reuse_notice.specs.Infos.{info_of, says_nothing}
 use Rattle.reuse_toml.specs.TomlAmending.{toml_amendment_of}
 use Rattle.reuse_toml.specs.TomlLaws.{IsAmendedText, DiffersInStrings}
 use Rattle.reuse_style.specs.Kinds.{OwnKinds}
 use Rattle.reuse_style.specs.declared.style.Style.{Style}
 use Rattle.reuse_style.specs.declared.style.Kind.TheVariants as kind
+use Rattle.reuse_style.specs.Styles.{punctuation_of}
 use Rattle.reuse_header.specs.Amendment.{amended_file, amendment_of, neighbour_amendment_of}
+use Rattle.reuse_header.specs.Annotation.{kind_of_file}
+use Rattle.reuse_header.specs.Comment.{comment_text}
 use Rattle.reuse_header.specs.Header.{HeaderSpan, header_of, span_in}
-use Rattle.reuse_header.specs.Neighbour.{is_text, neighbour_end}
+use Rattle.reuse_header.specs.Neighbour.{is_text, neighbour_end, replaced_contents}
+use Rattle.reuse_header.specs.Tagged.{has_tag}
+use Rattle.reuse_header.specs.Writing.{neighbour_marks}
 use Rattle.reuse_tags.specs.Everywhere.{amended_everywhere, kept_bytes}
 use Rattle.reuse_tags.specs.Placed.{IsChangedInValues}
 use Rattle.reuse_change.specs.Files.{Files}
+use Rattle.reuse_words.specs.FileLaws.{IsUntaggedComment}
 use Rattle.reuse_words.specs.Removal.{gap_behind}
 use Rattle.reuse_plan.specs.Amend.{amended_table}
 use Rattle.reuse_plan.specs.Removed.{removal_of, text_left, neighbour_removal_of, neighbour_left}
@@ -74,13 +83,27 @@ pub record IsNeighbourWritten (values : Amendments) (beside made : List ℕ) : T
   pub by_rules : amended_file beside (neighbour_amendment_of values beside) ≡ Ok made
   pub keeps : (made ≡ beside) ⊎ IsSameAround (mark_len_of beside) (neighbour_end beside) beside made
 
--- what is left of a neighbour is as it was, or each byte outside its block stays; nothing but its byte order mark would
--- stay where it is removed
-abbrev pub KeepsOfNeighbour : List ℕ → Option (List ℕ) → Type 0
-KeepsOfNeighbour beside None =
-    IsSameAround (mark_len_of beside) (neighbour_end beside) beside (take (mark_len_of beside) beside)
-KeepsOfNeighbour beside (Some made) =
-    (made ≡ beside) ⊎ IsSameAround (mark_len_of beside) (neighbour_end beside) beside made
+-- of a neighbour that becomes this text: none where nothing but its byte order mark would stay of more
+abbrev pub left_unless_emptied : List ℕ → List ℕ → Option (List ℕ)
+left_unless_emptied beside made =
+    if bytes_eq made (take (mark_len_of beside) beside) && not (bytes_eq made beside) then None else Some made
+
+-- a text is a comment of what a neighbour says without a tag, and none of that has one
+pub record IsUntaggedBeside (beside text : List ℕ) : Type 0 where
+  pub text_is : text ≡ comment_text neighbour_marks (kind_of_file beside) (free_of [] (replaced_contents true beside))
+  pub no_tag : list_any (has_tag []) (free_of [] (replaced_contents true beside)) ≡ false
+
+-- What is left of a neighbour. It is as it was, or each byte outside its block stays. Where its tags are removed, it is
+-- as it was if it has none, and else a comment without a tag takes the place of its block.
+abbrev pub KeepsOfNeighbour : HeaderRemoval → List ℕ → Option (List ℕ) → Type 0
+KeepsOfNeighbour (Texts texts) beside left =
+    (left ≡ Some beside)
+    ⊎ ((made : List ℕ) × IsSameAround (mark_len_of beside) (neighbour_end beside) beside made
+    × (left ≡ left_unless_emptied beside made))
+KeepsOfNeighbour Header beside left =
+    ((says_nothing (info_of [] (replaced_contents true beside)) ≡ true) × (left ≡ Some beside))
+    ⊎ ((text : List ℕ) × IsUntaggedBeside beside text × (left ≡ left_unless_emptied beside
+    (take (mark_len_of beside) beside ++ text ++ drop (neighbour_end beside) beside)))
 
 -- the rules make one text of what a neighbour says by the values, and leave this of that text
 pub record IsLeftOfNeighbour (values : Amendments) (removal : HeaderRemoval) (beside : List ℕ)
@@ -88,7 +111,7 @@ pub record IsLeftOfNeighbour (values : Amendments) (removal : HeaderRemoval) (be
   pub amended : List ℕ
   pub by_values : IsNeighbourWritten values beside amended
   pub by_rules : neighbour_left amended (neighbour_removal_of removal amended) ≡ Ok left
-  pub keeps : KeepsOfNeighbour amended left
+  pub keeps : KeepsOfNeighbour removal amended left
 
 -- the rules leave this of a neighbour, which is removed only where something is taken out
 abbrev pub BecomesNeighbour : FileAmendment → List ℕ → Option (List ℕ) → Type 0
@@ -116,14 +139,24 @@ pub record IsBlockAmended (values : Amendments) (scope : Scope) (own : OwnKinds)
   pub by_rules : amended_file bytes (amendment_of style values bytes) ≡ Ok made
   pub keeps : (made ≡ bytes) ⊎ KeepsOutsideBlock style bytes made
 
--- what taking something out of a header keeps: each byte outside its block; where the block goes, an empty line behind it
--- may go, too
-abbrev pub KeepsOutsideRemoved : HeaderRemoval → Style → List ℕ → List ℕ → Type 0
-KeepsOutsideRemoved (Texts texts) style old new = KeepsOutsideBlock style old new
-KeepsOutsideRemoved Header style old new =
-    KeepsOutsideBlock style old new
-    ⊎ ((block : HeaderSpan) × (option_map (span_in old) (header_of style old) ≡ Some block)
+-- The tags of a header block are removed. Where there is more in it, a comment of that without a tag takes its place;
+-- else it goes, and an empty line behind it may go, too.
+abbrev pub IsUntagged : Style → List ℕ → HeaderSpan → List ℕ → Type 0
+IsUntagged style old block new =
+    ((is_nil (free_of (punctuation_of style) block.contents) ≡ false)
+    × ((text : List ℕ) × IsUntaggedComment style old block text
+    × (new ≡ take block.start old ++ text ++ drop block.end old)))
+    ⊎ ((is_nil (free_of (punctuation_of style) block.contents) ≡ true)
     × (new ≡ take block.start old ++ drop (block.end + gap_behind (drop block.end old)) old))
+
+-- what taking something out of a header keeps: all, or each byte outside its block; a header is removed exactly where
+-- there is a block
+abbrev pub KeepsOutsideRemoved : HeaderRemoval → Style → List ℕ → List ℕ → Type 0
+KeepsOutsideRemoved (Texts texts) style old new = (new ≡ old) ⊎ KeepsOutsideBlock style old new
+KeepsOutsideRemoved Header style old new =
+    ((option_map (span_in old) (header_of style old) ≡ None) × (new ≡ old))
+    ⊎ ((block : HeaderSpan) × (option_map (span_in old) (header_of style old) ≡ Some block)
+    × IsUntagged style old block new)
 
 -- the rules make one text of a file's bytes by the values, and leave this of that text
 pub record IsLeftOfBlock (values : Amendments) (removal : HeaderRemoval) (scope : Scope) (own : OwnKinds)
@@ -131,7 +164,7 @@ pub record IsLeftOfBlock (values : Amendments) (removal : HeaderRemoval) (scope 
   pub amended : List ℕ
   pub by_values : IsBlockAmended values scope own path bytes amended
   pub by_rules : text_left amended (removal_of removal by_values.style amended) ≡ Ok made
-  pub keeps : (made ≡ amended) ⊎ KeepsOutsideRemoved removal by_values.style amended made
+  pub keeps : KeepsOutsideRemoved removal by_values.style amended made
 
 -- the rules make this of a file itself; one each of whose tags is amended isn't too long
 abbrev pub BecomesFile : FileAmendment → Scope → OwnKinds → List ℕ → List ℕ → List ℕ → Type 0

@@ -151,15 +151,17 @@ pub fn annotations_change_chosen_places_alone()
 /// through has a neighbour, which holds what the rules leave of its own bytes; or, where it has
 /// none, it is text of some style and holds what the rules make of its own bytes in that style; or
 /// it is neither, and stays. Every byte outside the header block stays, but for an empty line behind
-/// a block that goes with its header. Where each tag is amended, it is text, whatever its style, and
-/// every byte outside of the tags' values stays. Each `REUSE.toml` that is gone through is read as
-/// the table that was there with the values of the two keys amended, and differs in strings and
-/// commas alone. Every other path stays as it is. These words leave one tree. No file is made. Where
-/// something is taken out of a header, a neighbour of a file that is gone through may go, and no
-/// other file goes. To take no texts out is to amend the values in headers alone. A run that isn't
-/// refused leaves that tree. It isn't refused exactly where the tree's own styles are good, the root
-/// is given only where folders are gone through, each path that is gone through can be amended by
-/// itself, and one entry holds them all.
+/// a block that goes with its header. A block that is removed goes exactly where nothing in it is
+/// without a tag; else a comment of that, which has no tag, takes its place. Where each tag is
+/// amended, it is text, whatever its style, and every byte outside of the tags' values stays. Each
+/// `REUSE.toml` that is gone through is read as the table that was there with the values of the two
+/// keys amended, and differs in strings and commas alone. Every other path stays as it is. These
+/// words leave one tree. No file is made. Where something is taken out of a header, a neighbour of a
+/// file that is gone through goes exactly where nothing but its byte order mark would be left of
+/// more, and no other file goes. To take no texts out is to amend the values in headers alone. A run
+/// that isn't refused leaves that tree. It isn't refused exactly where the tree's own styles are
+/// good, the root is given only where folders are gone through, each path that is gone through can
+/// be amended by itself, and one entry holds them all.
 pub fn amendments_change_selected_places_alone()
     ensures accepted { (places : List Place) (amendment : FileAmendment) (scope : Scope) (tree : Files)
         → ((after : Files) × (outcome_of (Amend places amendment scope) tree ≡ Ok after))
