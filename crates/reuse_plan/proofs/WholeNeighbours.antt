@@ -31,7 +31,6 @@ use Rattle.reuse_words.specs.Removal.{some_edit}
 use Rattle.reuse_words.specs.declared.removal.NeighbourChange.TheVariants.{Changed, Emptied}
 use Rattle.reuse_words.proofs.FileLawLemmas.{written_some}
 use Rattle.reuse_plan.specs.Amended.{left_unless_emptied}
-use Rattle.reuse_plan.specs.Annotated.{IsSameAround}
 use Rattle.reuse_plan.specs.Removed.{neighbour_left}
 use Rattle.reuse_plan.proofs.LeftLemmas.{removed_len}
 use Rattle.reuse_plan.proofs.Results.{same_Ok}
