@@ -24,15 +24,34 @@ def made_of(tree, path, amendments, style, own):
     return path, tree[path]
 
 
-def outcomes(tree, amendments, style=None, own={}):
-    """For each file that is gone through, in byte order: its path; the path that changes and its
-    bytes, or None, or a refusal; and whether the file is left."""
-    worked = [path for path in tree if is_covered(path) or is_table(path)]
-    for path in sorted(worked, key=str.encode):
+SKIPPED = "skipped"
+
+
+def is_gone_through(path):
+    return is_covered(path) or is_table(path)
+
+
+def outcomes_of(tree, paths, change):
+    """For each of these files, in byte order: its path; the path that changes and its bytes, which
+    are None if it goes, or None, or that the file is skipped, or a refusal; and whether the file is
+    left. `change` answers of a path the path to be written and its bytes, or None for both, and
+    whether the path is left."""
+    for path in sorted(paths, key=str.encode):
         try:
-            place, made = made_of(tree, path, amendments, style, own)
+            place, made, is_left = change(path)
         except Refused as refused:
             yield path, f"{path}: {refused}", False
             continue
-        is_left = not is_table(path) and left.still_names(made, amendments)
-        yield path, (place, made) if made != tree[place] else None, is_left
+        if place is None:
+            yield path, SKIPPED, False
+        else:
+            yield path, (place, made) if made != tree.get(place) else None, is_left
+
+
+def outcomes(tree, amendments, style=None, own={}):
+    """The same of amend, for each file that is gone through."""
+    def change(path):
+        place, made = made_of(tree, path, amendments, style, own)
+        return place, made, not is_table(path) and left.still_names(made, amendments)
+
+    return outcomes_of(tree, filter(is_gone_through, tree), change)

@@ -80,13 +80,15 @@ def call(program, root, *words):
 
 class Expected:
     """What a call is to print, a dry run of it and a check, each with its status; the tree
-    afterwards; and the paths that are left."""
+    afterwards; and the paths that are left. `found` are the outcomes at the tree's paths."""
 
-    def __init__(self, tree, asked, style, own):
+    def __init__(self, tree, found):
         self.tree, self.left = dict(tree), []
         refusals, lines, changed = [], [], []
-        for path, outcome, is_left in outcomes.outcomes(tree, asked, style, own):
-            if isinstance(outcome, str):
+        for path, outcome, is_left in found:
+            if outcome == outcomes.SKIPPED:
+                lines.append(f"skipped {path}\n")
+            elif isinstance(outcome, str):
                 refusals.append(f"reuse-undo: {outcome}\n")
             elif outcome:
                 place, self.tree[outcome[0]] = outcome
@@ -96,6 +98,7 @@ class Expected:
                 lines.append(f"unchanged {path}\n")
             if is_left:
                 self.left.append(path)
+        self.tree = {path: file for path, file in self.tree.items() if file is not None}
         changed.sort(key=str.encode)
         printed = "".join(lines) + "".join(f"would leave {path}\n" for path in self.left)
         self.dry_run = int(bool(refusals)), printed, "".join(refusals)
@@ -120,38 +123,56 @@ def is_settled(asked):
 
 
 def fault_of(program, root, tree, options, own={}):
-    """Makes a dry run, a check, the call, its undo, a redo and the call again on the tree. Names the
-    first difference from what is expected, if there is one, and what became of the call: that it
-    was refused, changed files or changed none, and that it left files."""
+    """Compares a call of amend on the tree, and the same call again. Names the first difference
+    from what is expected, if there is one, and what became of the call: that it was refused,
+    changed files or changed none, and that it left files."""
     asked, style = amendments_of(options)
-    wanted = Expected(tree, asked, style, own)
-    write_tree(root, tree)
+    wanted = Expected(tree, outcomes.outcomes(tree, asked, style, own))
+    again = (0, "nothing changed\n" + wanted.left_lines, ""), wanted.tree
     words = ["amend", *options, "--recursive", "."]
+    fault = fault_of_call(program, root, tree, words, wanted, again if is_settled(asked) else None)
+    return fault, None if fault else became_of(tree, wanted)
+
+
+def became_of(tree, wanted):
+    if wanted.answer[0]:
+        return ["refused"]
+    return ["unchanged" if wanted.tree == tree else "changed"] + (["left"] if wanted.left else [])
+
+
+def fault_of_call(program, root, tree, words, wanted, again):
+    """Makes a dry run, a check, the call, its undo, a redo and the call again on the tree. Names
+    the first difference from what is expected, if there is one. `again` is what the second call is
+    to print and the tree that it makes, or None if it isn't made."""
+    write_tree(root, tree)
     for option, answer in ("--dry-run", wanted.dry_run), ("--check", wanted.check):
         found = call(program, root, *words, option)
         if found != answer:
-            return f"with {option} it answers {found}\nand not {answer}", None
+            return f"with {option} it answers {found}\nand not {answer}"
     if read_tree(root) != tree:
-        return "the dry run changes the tree", None
+        return "the dry run changes the tree"
     found = call(program, root, *words)
     if found != wanted.answer:
-        return f"the call answers {found}\nand not {wanted.answer}", None
-    made = read_tree(root)
-    for path in sorted(set(made) | set(wanted.tree)):
-        if made.get(path) != wanted.tree.get(path):
-            return f"{path} is {made.get(path)}\nand not {wanted.tree.get(path)}", None
-    became = ["left"] if wanted.left else []
-    if wanted.answer[0]:
-        return None, ["refused"]
-    if wanted.tree == tree:
-        return None, ["unchanged"] + became
+        return f"the call answers {found}\nand not {wanted.answer}"
+    fault = difference(root, wanted.tree)
+    if fault or wanted.answer[0] or wanted.tree == tree:
+        return fault
     if call(program, root, "undo")[0] or read_tree(root) != tree:
-        return "undo doesn't give back the tree", None
+        return "undo doesn't give back the tree"
     if call(program, root, "redo")[0] or read_tree(root) != wanted.tree:
-        return "redo doesn't make the step again", None
-    if is_settled(asked):
+        return "redo doesn't make the step again"
+    if again:
         found = call(program, root, *words)
-        again = 0, "nothing changed\n" + wanted.left_lines, ""
-        if found != again or read_tree(root) != wanted.tree:
-            return f"the same call again answers {found}\nand not {again}", None
-    return None, ["changed"] + became
+        if found != again[0]:
+            return f"the same call again answers {found}\nand not {again[0]}"
+        return difference(root, again[1])
+    return None
+
+
+def difference(root, wanted):
+    """The first file that isn't as it is to be."""
+    made = read_tree(root)
+    for path in sorted(set(made) | set(wanted)):
+        if made.get(path) != wanted.get(path):
+            return f"{path} is {made.get(path)}\nand not {wanted.get(path)}"
+    return None

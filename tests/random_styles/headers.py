@@ -2,11 +2,11 @@
 alone. Tags and lines are told in tests/amend. The tags below are data: REUSE-IgnoreStart"""
 import functools
 import os
-import re
 import sys
 
 sys.path.insert(0, os.path.join(os.path.dirname(os.path.abspath(__file__)), "..", "amend"))
 import retelling as tags
+from annotating import Additions, joined, place_behind, put
 
 BLANKS, MARK = tags.BLANKS, tags.MARK
 
@@ -125,43 +125,6 @@ def header_of(file, marks):
 
 # ---- annotate
 
-class Additions:
-    def __init__(self, notices, contributors, licences, form=None, replaces=True, merges=False):
-        self.notices, self.contributors, self.licences = set(notices), set(contributors), set(licences)
-        self.form, self.replaces, self.merges = form, replaces, merges
-
-
-def parts_of(notice):
-    """Prefix, years and holder of a notice; the years are None, or the lowest and the highest."""
-    prefix = tags.prefix_of(notice)
-    value = notice[len(tags.PREFIXES[prefix].encode()):].lstrip(BLANKS)
-    for years in rb"(\d{4}) - (\d{4})", rb"(\d{4})-(\d{4})", rb"(\d{4})":
-        found = re.match(years + rb"[ \t\r](?=.*[^ \t\r])", value, re.S)
-        if found and found[1] <= found[found.lastindex]:
-            return prefix, (found[1], found[found.lastindex]), value[found.end():].strip(BLANKS)
-    return prefix, None, value.strip(BLANKS)
-
-
-def written(prefix, years, holder):
-    text = tags.PREFIXES[prefix].encode() + b" "
-    if years:
-        text += (years[0] if years[0] == years[1] else b" - ".join(years)) + b" "
-    return text + holder
-
-
-def merged(notices, added):
-    """The notices, with those of each holder as one."""
-    result = set()
-    for holder in {parts_of(notice)[2] for notice in notices}:
-        same = {notice for notice in notices if parts_of(notice)[2] == holder}
-        years = [parts_of(notice)[1] for notice in same if parts_of(notice)[1]]
-        span = (min(low for low, _ in years), max(high for _, high in years)) if years else None
-        one = parts_of(min(same & added or same))[0], span, holder
-        is_one = len(same) > 1 and parts_of(written(*one)) == one
-        result |= {written(*one)} if is_one else same
-    return result
-
-
 def block_lines(info, form, marks):
     lead, mark = marks.line_lead, marks.marker
     if form == "multi":
@@ -186,8 +149,7 @@ def place_of(file, marks):
     """Where a new block goes: its place, and whether endings go before it and behind it."""
     lines, places = split(file)
     count = prefix_count([content for content, _ in lines], marks)
-    before = (count > 0) + (count > 0 and not lines[count - 1][1])
-    return places[count], before, count < len(lines) and bool(lines[count][0])
+    return place_behind(lines, places[0], count)
 
 
 def annotated(file, marks, additions):
@@ -197,25 +159,11 @@ def annotated(file, marks, additions):
     form = form or ("multi" if marks.marker is None else "single")
     if (marks.marker if form == "single" else marks.opener) is None:
         raise Refused("no such form")
-    info = tags.Info([], b"")
     replaced = found if additions.replaces else None
-    if replaced:
-        info.free = replaced.info.free
-        info.notices, info.contributors, info.licences = map(set, replaced.info.said())
-    info.notices |= additions.notices
-    info.contributors |= additions.contributors
-    info.licences |= additions.licences
-    if additions.merges:
-        info.notices = merged(info.notices, additions.notices)
+    info = joined(replaced and replaced.info, additions)
     kind = tags.kind_of(split(file)[0])
     text = b"".join(line + kind for line in block_lines(info, form, marks))
-    if replaced:
-        start, front, end, back = replaced.start, b"", replaced.end, b""
-    else:
-        start, before, is_set_off = place_of(file, marks)
-        front, end, back = kind * before, start, kind * is_set_off
-    made = file[:start] + front + text + back + file[end:]
-    start += len(front)
+    made, start = put(file, text, kind, replaced, place_of(file, marks))
     again = header_of(made, marks)
     if not again or (again.start, again.end) != (start, start + len(text)):
         raise Refused("block would not be found again")

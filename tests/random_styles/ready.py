@@ -120,17 +120,10 @@ def state():
 
 def neighbour(old, additions):
     """The neighbour of a file that can't hold a comment."""
-    info = headers.tags.Info(old.splitlines(), b"")
-    info.notices |= additions.notices
-    if additions.merges:
-        info.notices = headers.merged(info.notices, additions.notices)
-    info.licences |= additions.licences
+    said = headers.tags.Info(old.splitlines(), b"") if additions.replaces else None
+    info = headers.joined(said, additions)
     new = headers.tags.block_text(info, None, headers.tags.Style(), b"\n")
-    if additions.replaces:
-        return new
-    alone = headers.tags.Info([], b"")
-    alone.notices, alone.licences = additions.notices, additions.licences
-    return headers.tags.block_text(alone, None, headers.tags.Style(), b"\n") + b"\n" + old
+    return new if additions.replaces else new + b"\n" + old
 
 
 def expected(files, before, additions):
