@@ -2,11 +2,17 @@
 # Adds texts to headers, takes texts out, and removes headers, in several styles and in neighbours.
 # Each call is looked at by a dry run and a check, made, made again, which changes nothing, and
 # taken back byte for byte. Then come texts that are refused, in the order of the faults, and
-# options that don't go together. Ends with status 1 at the first fault.
-# usage: tests/header_texts.sh PROGRAM
+# options that don't go together. Last come random trees and calls, compared with the rules told
+# once more (amend/header_texts.py). Ends with status 1 at the first fault.
+# SEED: the number of the first random tree (1).
+# usage: tests/header_texts.sh PROGRAM [ROUNDS]
+# ROUNDS: how many random trees (300).
 # The tags below are data: REUSE-IgnoreStart
 set -euo pipefail
 . "$(dirname "$0")/common.sh"
+wants python3 python3
+here=$(realpath "$(dirname "$0")")/amend
+export PYTHONDONTWRITEBYTECODE=1
 tree=$room/tree
 texts=$room/texts
 mkdir "$texts"
@@ -258,4 +264,7 @@ headers
 bad_texts
 inputs
 options
-echo "$made calls that change headers are seen, made and taken back, and $refused are refused"
+random=$(python3 "$here/random_header_texts.py" "$program" "$room" "${2:-300}" "${SEED:-1}" 2>&1) ||
+  fail "$random"
+echo "$made calls that change headers are seen, made and taken back, and $refused are refused;" \
+  "random trees: $random"

@@ -26,6 +26,8 @@ YEARS = """2019|2019-2021|2019 - 2021|2024|1999 - 1999|2021-2019|24|2020,|2020 -
 NEW_HOLDERS = HOLDERS + ["Jane */ Doe", "A --> B", "Jane Roe", "Jane Roe", "O'Day", 'J "J" \\ Day']
 FREE = ["A tool.", "", "  indented", "* starred", "Licensed as is", "SPDX-License-Identifier:"]
 BODIES = ["x = 1", "", "# not a header", "// a comment", "/* block */", "text", "\tindented", "é"]
+# What stands behind a header
+GAPS = [[], [], [""], ["", ""], ["", " "], [" "]]
 # Lines that hold a tag, and what may stand round it
 ROUND = ["{}", "x = '{}'", '<a title="{}" />', "<a title='{}'>", "[{}] ::", "/* {} */", "(* {}*)",
          "<!-- {} -->", "1. {}", "é {}", "x = 1  # {}", '"""{}"""', "{} REUSE-IgnoreStart",
@@ -57,10 +59,9 @@ def contents(chance):
     return [text + chance.choice(["", "", "", " ", "\t"]) for text in found]
 
 
-def comment(chance, name):
-    """Lines of a comment, mostly with tags."""
+def comment(chance, name, texts):
+    """Lines of a comment with these contents, mostly."""
     style = retelling.STYLES[name]
-    texts = contents(chance)
     if style.line and (not style.block or chance.random() < 0.5):
         marker, lead = (part.decode() for part in style.line)
         return [(lead if chance.random() < 0.9 else marker) + text for text in texts]
@@ -85,7 +86,7 @@ def body_line(chance):
     return chance.choice(ROUND).format(" ".join(tags))
 
 
-def source(chance, name):
+def source(chance, name, contents):
     lines = []
     if chance.random() < 0.15:
         lines.append("#!/usr/bin/tool")
@@ -97,11 +98,11 @@ def source(chance, name):
     if chance.random() < 0.07:
         lines.append("# " + chance.choice(["REUSE-IgnoreStart", "SPDX-SnippetBegin"]))
     if chance.random() < 0.9:
-        lines += comment(chance, name)
+        lines += comment(chance, name, contents(chance)) + chance.choice(GAPS)
     for _ in range(chance.randint(0, 4)):
         lines.append(body_line(chance))
     if chance.random() < 0.2:
-        lines += comment(chance, name)
+        lines += comment(chance, name, contents(chance))
     return lines
 
 
@@ -114,12 +115,12 @@ def file_of(chance, lines):
     return mark + text.encode()
 
 
-def file_at(chance, path, own):
+def file_at(chance, path, own, contents):
     name = retelling.style_of(path, own)
     if chance.random() < 0.05:
         return b"SPDX-License-Identifier: GPL-2.0\n\0"
     if name in retelling.STYLES:
-        return file_of(chance, source(chance, name))
+        return file_of(chance, source(chance, name, contents))
     return file_of(chance, contents(chance) + [body_line(chance)])
 
 
@@ -184,14 +185,15 @@ def table_of(chance):
     return "\n".join(lines + [""]).replace("\n", end).encode()
 
 
-def tree_of(chance):
+def tree_of(chance, contents=contents):
+    """A tree of files whose comments have contents made by this function, and its own styles."""
     own = {".proto": chance.choice(["c", "python"])} if chance.random() < 0.3 else {}
     tree = {}
     if own:
         text = f'version = 1\n[styles]\n".proto" = "{own[".proto"]}"\n'
         tree[".reuse/styles.toml"] = text.encode()
     for path in chance.sample(FILES, chance.randint(2, 8)):
-        tree[path] = file_at(chance, path, own)
+        tree[path] = file_at(chance, path, own, contents)
         if chance.random() < 0.15:
             tree[path + ".license"] = file_of(chance, contents(chance))
             if chance.random() < 0.05:
@@ -252,4 +254,5 @@ def main():
     print(", ".join(f"{count} {became}" for became, count in tally.items()))
 
 
-main()
+if __name__ == "__main__":
+    main()

@@ -263,7 +263,11 @@ def block_text(info, form, style, end):
     lines += [lead + LICENCE + b" " + text for text in sorted(info.licences)]
     if info.free:
         lines.append(separator)
-    lines += [marker + text for text in info.free]
+    return comment_text(lines + [marker + text for text in info.free], form, style, end)
+
+
+def comment_text(lines, form, style, end):
+    """Written lines as a comment, or as they are in a neighbour."""
     if form == "block":
         if any(style.block[2].strip() in line for line in lines):
             raise Refused("holds the closer")
