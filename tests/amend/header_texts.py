@@ -219,7 +219,9 @@ class Removal(Change):
         name = self.style or style_of(path, self.own)
         if place != path or name in STYLES and is_text(made):
             made = self.changed(made, Reader(name if place == path else None))
-        return place, made, made is not None and left.still_names(made, self.asked)
+        # (where the neighbour goes, the file itself tells)
+        telling = self.tree[path] if made is None else made
+        return place, made, left.still_names(telling, self.asked)
 
     def changed(self, file, reader):
         """The file, or None of a neighbour of which nothing is left."""
