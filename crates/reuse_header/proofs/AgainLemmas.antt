@@ -2,7 +2,7 @@
 use Rattle.std.proofs.Common.{◌≡◌, ℕ, zero, suc, ◌+◌, ◌<◌, ◌≤◌, Bool, true, false, List, [], ◌∷◌, ◌++◌, length}
 use Rattle.std.proofs.Common.{length-append, append_assoc, take, drop, map, length-take, Option, None, Some, refl, sym}
 use Rattle.std.proofs.Common.{ap, subst, ◌∙◌, inl, inr, arith}
-use Rattle.std.specs.Prelude.{◌==◌, ◌&&◌, All, unwrap_or}
+use Rattle.std.specs.Prelude.{◌==◌, ◌&&◌, All}
 use Rattle.std.specs.Option.{option_map, option_map_or, option_to_list}
 use Rattle.std.proofs.lemmas.Bool.{false≢true, eqb-true}
 use Rattle.std.proofs.Math.Seq.{drop-append_seam, take-append_seam}
@@ -17,8 +17,8 @@ use Rattle.reuse_style.specs.declared.marks.Form.TheVariants.{Single, Multi}
 use Rattle.reuse_header.specs.declared.blocks.BlockSize.{BlockSize}
 use Rattle.reuse_style.specs.Marks.{LineForm, BlockForm}
 use Rattle.reuse_style.specs.Styles.{line_comment_of, block_comment_of, punctuation_of}
-use Rattle.reuse_style.proofs.GoodLemmas.{IsGoodLine, IsLineGood, line_good}
-use Rattle.reuse_header.specs.Marks.{LineMarks, marks_of}
+use Rattle.reuse_style.proofs.GoodLemmas.{IsGoodLine}
+use Rattle.reuse_header.specs.Marks.{LineMarks, marks_of_line, marks_of}
 use Rattle.reuse_header.specs.Blocks.{multi_lines, marked_lines, block_of, block_at, contents_of}
 use Rattle.reuse_header.specs.Body.{PlacedLines, is_barrier, open_contents, body_lines}
 use Rattle.reuse_header.specs.Header.{Header, HeaderSpan, lines_inside, span_in, header_of}
@@ -34,6 +34,7 @@ use Rattle.reuse_header.proofs.CountLemmas.{block_at-within}
 use Rattle.reuse_header.proofs.ClosingLemmas.{open_contents-drop}
 use Rattle.reuse_header.proofs.CutLemmas.{before_body}
 use Rattle.reuse_header.proofs.SayableLemmas.{Each, each_both}
+use Rattle.reuse_header.proofs.FormLemmas.{of_line, of_block}
 use Rattle.reuse_header.proofs.MarkLemmas.{whole_mark, no_multi_behind, no_run_behind}
 
 -- ---- where the block stands
@@ -200,43 +201,19 @@ form_single None (suc n) size none e = sym (ap (λ (b : BlockSize). b.form) (sam
 record MarksOfLine (style : Style) (marks : LineMarks) : Type 0 where
   form : LineForm
   has : line_comment_of style ≡ Some form
-  are : ◌≡◌ {A = LineMarks}
-      (record { lead = form.lead; mark = form.marker; first = None; last = None; closer = None }) marks
+  are : marks_of_line form ≡ marks
   good : IsGoodLine (punctuation_of style) form
 
 line_marks : (style : Style) (marks : LineMarks) → marks_of style Single ≡ Some marks → MarksOfLine style marks
-line_marks style marks e = by (line_comment_of style) refl (line_good style) e
-  where
-    by : (o : Option LineForm) → line_comment_of style ≡ o → IsLineGood (punctuation_of style) o
-        → option_map (λ (form : LineForm).
-        record { lead = form.lead; mark = form.marker; first = None; last = None; closer = None }) o ≡ Some marks
-        → MarksOfLine style marks
-    by None is good f = absurd (let none : ⊥ = cc f in none)
-    by (Some form) is good f = record { form = form; has = is; are = cc f; good = good }
+line_marks style marks e = of_line style marks (λ o m. MarksOfLine style m) e
+    (λ form is good. record { form = form; has = is; are = refl; good = good })
 
 opener_of : (style : Style) (marks : LineMarks) → marks_of style Multi ≡ Some marks
     → (form : BlockForm) × (block_comment_of style ≡ Some form) × (marks.first ≡ Some form.opener)
-opener_of style marks e = by (block_comment_of style) refl e
-  where
-    by : (o : Option BlockForm) → block_comment_of style ≡ o
-        → option_map (λ (form : BlockForm). record {
-          lead = form.lead;
-          mark = unwrap_or form.middle [];
-          first = Some form.opener;
-          last = Some form.last_line;
-          closer = Some form.closer;
-        }) o ≡ Some marks
-        → (form : BlockForm) × (block_comment_of style ≡ Some form) × (marks.first ≡ Some form.opener)
-    by None is f = absurd (let none : ⊥ = cc f in none)
-    by (Some form) is f =
-        let same : ◌≡◌ {A = LineMarks} (record {
-          lead = form.lead;
-          mark = unwrap_or form.middle [];
-          first = Some form.opener;
-          last = Some form.last_line;
-          closer = Some form.closer;
-        }) marks = cc f in
-        (form, is, ap (λ (m : LineMarks). m.first) (sym same))
+opener_of style marks e =
+    of_block style marks
+    (λ o m. (form : BlockForm) × (block_comment_of style ≡ Some form) × (m.first ≡ Some form.opener)) e
+    (λ form is good. (form, is, refl))
 
 single_form : (style : Style) (marks : LineMarks) (line : List ℕ) (lines : List (List ℕ)) (size : BlockSize)
     → marks_of style Single ≡ Some marks

@@ -1,6 +1,6 @@
 -- The refusal of a form that a style lacks, and the place of an old block.
 use Rattle.std.proofs.Common.{◌≡◌, ℕ, ◌≤◌, Bool, true, false, List, ◌++◌, length, length-append, Option, None, Some}
-use Rattle.std.proofs.Common.{refl, ap, ◌∙◌, arith}
+use Rattle.std.proofs.Common.{refl, sym, ap, subst, ◌∙◌, arith}
 use Rattle.std.specs.Prelude.{Err, MatchOption}
 use Rattle.std.specs.Option.{option_map}
 use Rattle.reuse_notice.specs.declared.infos.Info.{Info}
@@ -47,6 +47,18 @@ pub found_within : (style : Style) (file : List ℕ) (found : Option Block) → 
     (λ block. IsHeaderBlock style file (block_view block)) → IsWithin file (option_map block_view found)
 found_within style file None split = tt
 found_within style file (Some block) split = block_within style file (block_view block) split
+
+pub block_found_within : (style : Style) (file : List ℕ) (found : Option Block) (block : Block)
+    → MatchOption found (HasNoHeader style file) (λ found. IsHeaderBlock style file (block_view found))
+    → found ≡ Some block → IsWithin file (Some (block_view block))
+block_found_within style file found block split is =
+    subst (λ (o : Option Block). IsWithin file (option_map block_view o)) is (found_within style file found split)
+
+-- what holds of the block that is found, if one is, holds of the file's header block
+pub of_found : (style : Style) (file : List ℕ) (P : Option HeaderSpan → Type 0) (found block : Option Block)
+    → option_map block_view found ≡ option_map (span_in file) (header_of style file) → found ≡ block
+    → P (option_map block_view block) → P (option_map (span_in file) (header_of style file))
+of_found style file P found block is same holds = subst P (ap (option_map block_view) (sym same) ∙ is) holds
 
 kept_within : (file : List ℕ) (replace : Bool) (found : Option HeaderSpan) → IsWithin file found
     → IsWithin file (replaced_block replace found)

@@ -3,7 +3,7 @@ use Rattle.std.proofs.Common.{◌≡◌, ℕ, suc, Bool, true, false, List, [], 
 use Rattle.std.proofs.Common.{append_assoc, map, nat_eq, Option, None, Some, refl, sym, ap, subst, ◌∙◌, inl, inr, arith}
 use Rattle.std.specs.Prelude.{◌&&◌, ◌||◌, ◌==◌, unwrap_or, if◌then◌else◌}
 use Rattle.std.specs.List.{list_all, list_any}
-use Rattle.std.specs.Option.{option_map, option_map_or, option_to_list}
+use Rattle.std.specs.Option.{option_map_or, option_to_list}
 use Rattle.std.proofs.Math.Seq.{drop-length}
 use Rattle.std.proofs.lemmas.Bool.{eqb-true}
 use Rattle.std.proofs.lemmas.List.{append-nil}
@@ -13,9 +13,9 @@ use Rattle.reuse_style.specs.declared.style.Style.{Style}
 use Rattle.reuse_style.specs.declared.marks.Form.{Form}
 use Rattle.reuse_style.specs.declared.marks.Form.TheVariants.{Single, Multi}
 use Rattle.reuse_header.specs.Ends.{is_return}
-use Rattle.reuse_style.specs.Marks.{LineForm, BlockForm}
-use Rattle.reuse_style.specs.Styles.{punctuation_of, line_comment_of, block_comment_of}
-use Rattle.reuse_style.proofs.GoodLemmas.{IsLineGood, IsBlockGood, IsGoodBlock, line_good, block_good}
+use Rattle.reuse_style.specs.Marks.{BlockForm}
+use Rattle.reuse_style.specs.Styles.{punctuation_of, block_comment_of}
+use Rattle.reuse_style.proofs.GoodLemmas.{IsGoodBlock}
 use Rattle.reuse_header.specs.Marks.{LineMarks, marks_of}
 use Rattle.reuse_header.specs.Blocks.{without_returns, without_middle, between_marks, single_content, multi_content}
 use Rattle.reuse_header.specs.Blocks.{contents_from, contents_of}
@@ -26,6 +26,7 @@ use Rattle.reuse_header.proofs.PartLemmas.{IsOfParts, of_middle}
 use Rattle.reuse_header.proofs.MarkLemmas.{IsReader, or_true, first_or, all-weaker, all-front, all-back, all-ended}
 use Rattle.reuse_header.proofs.MarkLemmas.{drop_front-all, drop_front-every, fillings_are_fillers, reads_line}
 use Rattle.reuse_header.proofs.MarkLemmas.{reads_block}
+use Rattle.reuse_header.proofs.FormLemmas.{of_line, of_block}
 
 -- ---- the tag of a content
 
@@ -67,45 +68,18 @@ inner_content style Single line = single_content style line
 inner_content style Multi line =
     without_returns (option_map_or (λ comment. between_marks comment false false line) (block_comment_of style) line)
 
-reads_by : (o : Option LineForm) (punct : List ℕ) (marks : LineMarks) → IsLineGood punct o
-    → option_map (λ (form : LineForm).
-    record { lead = form.lead; mark = form.marker; first = None; last = None; closer = None }) o ≡ Some marks
-    → IsReader punct (λ line. without_returns (drop (option_map_or (λ form. length form.marker) o 0) line)) marks
-reads_by None punct marks good e = absurd (let none : ⊥ = cc e in none)
-reads_by (Some form) punct marks good e =
-    let same : ◌≡◌ {A = LineMarks}
-    (record { lead = form.lead; mark = form.marker; first = None; last = None; closer = None }) marks = cc e in
-    subst (IsReader punct (λ line. without_returns (drop (length form.marker) line))) same
-    (reads_line punct form None None None good)
-
-reads_within : (o : Option BlockForm) (punct : List ℕ) (marks : LineMarks) → IsBlockGood punct o
-    → option_map (λ (form : BlockForm). record {
-      lead = form.lead;
-      mark = unwrap_or form.middle [];
-      first = Some form.opener;
-      last = Some form.last_line;
-      closer = Some form.closer;
-    }) o ≡ Some marks
-    → IsReader punct
-    (λ line. without_returns (option_map_or (λ form. between_marks form false false line) o line)) marks
-unfolding between_marks
-reads_within None punct marks good e = absurd (let none : ⊥ = cc e in none)
-reads_within (Some form) punct marks good e =
-    let same : ◌≡◌ {A = LineMarks} (record {
-      lead = form.lead;
-      mark = unwrap_or form.middle [];
-      first = Some form.opener;
-      last = Some form.last_line;
-      closer = Some form.closer;
-    }) marks = cc e in
-    subst (IsReader punct (λ line. without_returns (without_middle form.middle line))) same
-    (reads_block punct form (Some form.opener) (Some form.last_line) (Some form.closer) good)
-
 pub the_reader : (style : Style) (form : Form) (marks : LineMarks) → marks_of style form ≡ Some marks
     → IsReader (punctuation_of style) (inner_content style form) marks
-unfolding inner_content single_content
-the_reader style Single marks e = reads_by (line_comment_of style) (punctuation_of style) marks (line_good style) e
-the_reader style Multi marks e = reads_within (block_comment_of style) (punctuation_of style) marks (block_good style) e
+unfolding inner_content single_content between_marks
+the_reader style Single marks e =
+    of_line style marks (λ o m. IsReader (punctuation_of style)
+    (λ line. without_returns (drop (option_map_or (λ form. length form.marker) o 0) line)) m) e
+    (λ form is good. reads_line (punctuation_of style) form None None None good)
+the_reader style Multi marks e =
+    of_block style marks (λ o m. IsReader (punctuation_of style)
+    (λ line. without_returns (option_map_or (λ form. between_marks form false false line) o line)) m) e
+    (λ form is good.
+    reads_block (punctuation_of style) form (Some form.opener) (Some form.last_line) (Some form.closer) good)
 
 -- a neighbour's lines
 pub neighbour_reader : IsReader [] (λ line. without_returns line) neighbour_marks
@@ -192,45 +166,20 @@ nothing_read style o is is_first is_last line none =
 the_frame : (style : Style) (form : Form) (marks : LineMarks) → marks_of style form ≡ Some marks
     → Framed style form marks
 unfolding Framed
-the_frame style Single marks e = by (line_comment_of style) e
-  where
-    by : (o : Option LineForm) → option_map (λ (form : LineForm).
-        record { lead = form.lead; mark = form.marker; first = None; last = None; closer = None }) o ≡ Some marks
-        → (marks.first ≡ None) × (marks.last ≡ None)
-    by None f = absurd (let none : ⊥ = cc f in none)
-    by (Some form) f =
-        let same : ◌≡◌ {A = LineMarks}
-        (record { lead = form.lead; mark = form.marker; first = None; last = None; closer = None }) marks = cc f in
-        subst (λ (m : LineMarks). (m.first ≡ None) × (m.last ≡ None)) same (refl, refl)
-the_frame style Multi marks e = by (block_comment_of style) refl (block_good style) e
-  where
-    by : (o : Option BlockForm) → block_comment_of style ≡ o → IsBlockGood (punctuation_of style) o
-        → option_map (λ (form : BlockForm). record {
-          lead = form.lead;
-          mark = unwrap_or form.middle [];
-          first = Some form.opener;
-          last = Some form.last_line;
-          closer = Some form.closer;
-        }) o ≡ Some marks
-        → (first : List ℕ) × (last : List ℕ) × (marks.first ≡ Some first) × (marks.last ≡ Some last)
-        × (multi_content style true false first ≡ None) × (multi_content style false true last ≡ None)
-    by None is good f = absurd (let none : ⊥ = cc f in none)
-    by (Some form) is good f =
-        let same : ◌≡◌ {A = LineMarks} (record {
-          lead = form.lead;
-          mark = unwrap_or form.middle [];
-          first = Some form.opener;
-          last = Some form.last_line;
-          closer = Some form.closer;
-        }) marks = cc f in (
-          form.opener,
-          form.last_line,
-          ap (λ (m : LineMarks). m.first) (sym same),
-          ap (λ (m : LineMarks). m.last) (sym same),
-          nothing_read style (Some form) is true false form.opener (opener_says_nothing (punctuation_of style) form),
-          nothing_read style (Some form) is false true form.last_line
-              (last_says_nothing (punctuation_of style) form good),
-        )
+the_frame style Single marks e =
+    of_line style marks (λ o m. (m.first ≡ None) × (m.last ≡ None)) e (λ form is good. (refl, refl))
+the_frame style Multi marks e =
+    of_block style marks (λ o m. (first : List ℕ) × (last : List ℕ) × (m.first ≡ Some first) × (m.last ≡ Some last)
+    × (multi_content style true false first ≡ None) × (multi_content style false true last ≡ None)) e
+    (λ form is good. (
+      form.opener,
+      form.last_line,
+      refl,
+      refl,
+      nothing_read style (Some form) is true false form.opener (opener_says_nothing (punctuation_of style) form),
+      nothing_read style (Some form) is false true form.last_line
+          (last_says_nothing (punctuation_of style) form good),
+    ))
 
 framed_contents : (style : Style) (first : List ℕ) (lines : List (List ℕ)) (last : List ℕ) (rest : List (List ℕ))
     → multi_content style true false first ≡ None → multi_content style false true last ≡ None

@@ -18,8 +18,7 @@ use Rattle.reuse_style.specs.declared.marks.Form.{Form}
 use Rattle.reuse_style.specs.declared.marks.Form.TheVariants.{Single, Multi}
 use Rattle.reuse_header.specs.declared.annotation.How.{How}
 use Rattle.reuse_header.specs.declared.annotation.HeaderRefusal.{HeaderRefusal}
-use Rattle.reuse_style.specs.Marks.{LineForm, BlockForm}
-use Rattle.reuse_style.specs.Styles.{line_comment_of, block_comment_of, punctuation_of}
+use Rattle.reuse_style.specs.Styles.{punctuation_of}
 use Rattle.reuse_header.specs.Marks.{LineMarks, marks_of}
 use Rattle.reuse_header.specs.Body.{PlacedLines, body_lines, open_contents, place_in}
 use Rattle.reuse_header.specs.Blocks.{block_at}
@@ -43,6 +42,7 @@ use Rattle.reuse_header.proofs.InfoSoundLemmas.{AreLow, AreSound, new_sound, add
 use Rattle.reuse_header.proofs.BlockSoundLemmas.{AreLineMarks, line_marks, AreBlockMarks, block_marks}
 use Rattle.reuse_header.proofs.BlockSoundLemmas.{block_contents_sound}
 use Rattle.reuse_header.proofs.MarkLemmas.{low_punctuation}
+use Rattle.reuse_header.proofs.FormLemmas.{of_line, of_block}
 use Rattle.reuse_header.proofs.MadeTextLemmas.{AreSoundMarks, block_sound, ended_sound, insertion_sound, text_is}
 use Rattle.reuse_header.proofs.MadeTextLemmas.{text_made}
 
@@ -51,47 +51,20 @@ use Rattle.reuse_header.proofs.MadeTextLemmas.{text_made}
 pub marks_sound : (style : Style) (form : Form) (marks : LineMarks) → marks_of style form ≡ Some marks
     → AreSoundMarks marks
 unfolding Each
-marks_sound style Single marks e = by (line_comment_of style) (line_marks style) e
-  where
-    by : (o : Option LineForm) → AreLineMarks o
-        → option_map (λ (comment : LineForm).
-        record { lead = comment.lead; mark = comment.marker; first = None; last = None; closer = None }) o ≡ Some marks
-        → AreSoundMarks marks
-    by None are f = absurd (let none : ⊥ = cc f in none)
-    by (Some comment) are f =
-        let same : ◌≡◌ {A = LineMarks}
-        (record { lead = comment.lead; mark = comment.marker; first = None; last = None; closer = None }) marks =
-        cc f in
-        subst AreSoundMarks same (record { lead = are.1; mark = are.0; first = tt; last = tt })
-marks_sound style Multi marks e = by (block_comment_of style) (block_marks style) e
+marks_sound style Single marks e = of_line style marks (λ o m. AreSoundMarks m) e
+    (λ form is good. let are = subst AreLineMarks is (line_marks style) in
+    record { lead = are.1; mark = are.0; first = tt; last = tt })
+marks_sound style Multi marks e = of_block style marks (λ o m. AreSoundMarks m) e
+    (λ form is good. let are = subst AreBlockMarks is (block_marks style) in record {
+      lead = are.lead;
+      mark = middle_or_none form.middle are.middle;
+      first = (are.opener, tt);
+      last = (are.last_line, tt);
+    })
   where
     middle_or_none : (middle : Option (List ℕ)) → Each IsSound (option_to_list middle) → IsSound (unwrap_or middle [])
     middle_or_none None m = sound_nil
     middle_or_none (Some middle) m = m.0
-
-    by : (o : Option BlockForm) → AreBlockMarks o
-        → option_map (λ (comment : BlockForm). record {
-          lead = comment.lead;
-          mark = unwrap_or comment.middle [];
-          first = Some comment.opener;
-          last = Some comment.last_line;
-          closer = Some comment.closer;
-        }) o ≡ Some marks → AreSoundMarks marks
-    by None are f = absurd (let none : ⊥ = cc f in none)
-    by (Some comment) are f =
-        let same : ◌≡◌ {A = LineMarks} (record {
-          lead = comment.lead;
-          mark = unwrap_or comment.middle [];
-          first = Some comment.opener;
-          last = Some comment.last_line;
-          closer = Some comment.closer;
-        }) marks = cc f in
-        subst AreSoundMarks same (record {
-          lead = are.lead;
-          mark = middle_or_none comment.middle are.middle;
-          first = (are.opener, tt);
-          last = (are.last_line, tt);
-        })
 
 low_among : (punct : List ℕ) → list_all is_low punct ≡ true → (b : ℕ) → list_any (λ p. nat_eq p b) punct ≡ true
     → is_low b ≡ true

@@ -23,14 +23,14 @@ use Rattle.reuse_header.proofs.SpanLemmas.{neighbour_end-within}
 use Rattle.reuse_header.proofs.AmendmentLawLemmas.{amendment_ok, neighbour_amendment_ok}
 use Rattle.reuse_header.proofs.LawLemmas.{annotated_ok, neighbour_ok}
 
-not_over : (m n : ℕ) → nat_lt m n ≡ false → n ≤ m
+pub not_over : (m n : ℕ) → nat_lt m n ≡ false → n ≤ m
 not_over m n h = grind (arith, nat_tests)
 
 -- the edit takes away bytes of the file
-abbrev IsWithin : List ℕ → Edit → Type 0
+abbrev pub IsWithin : List ℕ → Edit → Type 0
 IsWithin file edit = edit.start + edit.old_len ≤ length file
 
-edit_within : (style : Style) (file text : List ℕ) (found : Option HeaderSpan) (replace : Bool)
+pub edit_within : (style : Style) (file text : List ℕ) (found : Option HeaderSpan) (replace : Bool)
     → text_of (lines_of (after_mark file)) ≡ after_mark file → option_map (span_in file) (header_of style file) ≡ found
     → IsWithin file (edit_of style file (replaced_block replace found) text)
 unfolding edit_of
@@ -40,7 +40,7 @@ edit_within style file text (Some span) false law is = omega (arith, body_within
 edit_within style file text (Some span) true law is =
     let h = block_within style file span (span_cuts style file span law is) in omega (arith, h.0, h.1)
 
-neighbour_within : (replace : Bool) (file text : List ℕ) → ((other : List ℕ) → text_of (lines_of other) ≡ other)
+pub neighbour_within : (replace : Bool) (file text : List ℕ) → ((other : List ℕ) → text_of (lines_of other) ≡ other)
     → IsWithin file (neighbour_edit replace file text)
 unfolding neighbour_edit
 neighbour_within true file text joined = let h = neighbour_end-within joined file in omega (arith, h.0, h.1)

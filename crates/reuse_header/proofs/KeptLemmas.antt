@@ -9,12 +9,11 @@ use Rattle.reuse_text.specs.Text.{lines_of, file_lines, after_mark, mark_len_of,
 use Rattle.reuse_notice.specs.declared.adding.Additions.{Additions}
 use Rattle.reuse_style.specs.declared.style.Style.{Style}
 use Rattle.reuse_header.specs.declared.annotation.How.{How}
-use Rattle.reuse_style.specs.Styles.{punctuation_of}
 use Rattle.reuse_header.specs.Body.{PlacedLines, body_lines, place_in}
 use Rattle.reuse_header.specs.Header.{HeaderSpan, span_in, header_of}
 use Rattle.reuse_header.specs.Writing.{new_info, block_text, neighbour_marks}
 use Rattle.reuse_header.specs.Annotation.{Edit, edited, replacement, insertion, is_last_ended, has_lines, begins_full}
-use Rattle.reuse_header.specs.Annotation.{prefix_lines, replaced_block, old_contents, edit_of, kind_of_file}
+use Rattle.reuse_header.specs.Annotation.{prefix_lines, replaced_block, edit_of, kind_of_file}
 use Rattle.reuse_header.specs.Annotation.{annotation_of}
 use Rattle.reuse_header.specs.Neighbour.{neighbour_end, replaced_contents, neighbour_edit, neighbour_annotation_of}
 use Rattle.reuse_header.specs.Laws.{IsInsertion}
@@ -33,6 +32,7 @@ replacement_replaces file text start end low =
     ap (λ (k : ℕ). take start file ++ (text ++ []) ++ drop k file) reaches
     ∙ ap (λ (bytes : List ℕ). take start file ++ bytes ++ drop end file) (append-nil text)
 
+-- a text that is put in takes no byte away
 insertion_inserts : (file text : List ℕ) (prefix rest : PlacedLines) (start : ℕ)
     → IsInsertion file start (insertion prefix rest start (kind_of_file file) text)
 insertion_inserts file text prefix rest start =
@@ -66,39 +66,50 @@ none_replaced false found either = refl
 none_replaced true found (inl e) = absurd (false≢true (sym e))
 none_replaced true found (inr e) = e
 
+-- an edit in the place of the header block
+pub edit_replaces : (style : Style) (file text : List ℕ) (replace : Bool) (edit : Edit) (span : HeaderSpan)
+    → text_of (lines_of (after_mark file)) ≡ after_mark file → replace ≡ true
+    → option_map (span_in file) (header_of style file) ≡ Some span
+    → edit ≡ edit_of style file (replaced_block replace (option_map (span_in file) (header_of style file))) text
+    → Replaces file span.start span.end edit
+edit_replaces style file text replace edit span law replaced is same =
+    let old = ap (replaced_block replace) is ∙ ap (λ (r : Bool). replaced_block r (Some span)) replaced in
+    let within = block_within style file span (span_cuts style file span law is) in
+    subst (Replaces file span.start span.end)
+    (sym (same ∙ ap (λ (o : Option HeaderSpan). edit_of style file o text) old))
+    (span_replaces style file text span within.0)
+
+-- an edit of a file without such a block, or one that leaves it
+pub edit_inserts : (style : Style) (file text : List ℕ) (replace : Bool) (edit : Edit)
+    → (replace ≡ false) ⊎ (header_of style file ≡ None)
+    → edit ≡ edit_of style file (replaced_block replace (option_map (span_in file) (header_of style file))) text
+    → IsInsertion file (place_in file (body_lines style (file_lines file))) edit
+edit_inserts style file text replace edit either same =
+    let found = option_map (span_in file) (header_of style file) in
+    let unfound : (replace ≡ false) ⊎ (found ≡ None) = elim either [
+      | inl add ↦ inl add
+      | inr none ↦ inr (ap (option_map (span_in file)) none)
+    ] in
+    subst (IsInsertion file (place_in file (body_lines style (file_lines file))))
+    (sym (same ∙ ap (λ (o : Option HeaderSpan). edit_of style file o text) (none_replaced replace found unfound)))
+    (prefix_inserts style file text)
+
 pub replacing_keeps_others : (style : Style) (how : How) (additions : Additions) (file : List ℕ) (edit : Edit)
     (span : HeaderSpan) → text_of (lines_of (after_mark file)) ≡ after_mark file
     → how.replace ≡ true → annotation_of style how additions file ≡ Ok edit
     → option_map (span_in file) (header_of style file) ≡ Some span
     → edited file edit ≡ take span.start file ++ edit.text ++ drop span.end file
-replacing_keeps_others style how additions file edit span law yes_replace e is =
-    let w = annotated_ok style how additions file (Some span) edit is e in
-    let some : replaced_block how.replace (Some span) ≡ Some span = rw yes_replace refl in
-    let text = block_text w.0 (kind_of_file file)
-    (new_info (punctuation_of style) (old_contents (replaced_block how.replace (Some span))) how.merge additions) in
-    let same : edit ≡ edit_of style file (Some span) text =
-    w.2.same ∙ ap (λ (old : Option HeaderSpan). edit_of style file old text) some in
-    let within = block_within style file span (span_cuts style file span law is) in
-    subst (λ (x : Edit). Replaces file span.start span.end x) (sym same) (span_replaces style file text span within.0)
+replacing_keeps_others style how additions file edit span law replaced e is =
+    let w = annotated_ok style how additions file (option_map (span_in file) (header_of style file)) edit refl e in
+    edit_replaces style file _ how.replace edit span law replaced is w.2.same
 
 pub inserting_keeps_others : (style : Style) (how : How) (additions : Additions) (file : List ℕ) (edit : Edit)
     → (how.replace ≡ false) ⊎ (header_of style file ≡ None)
     → annotation_of style how additions file ≡ Ok edit
     → IsInsertion file (place_in file (body_lines style (file_lines file))) edit
 inserting_keeps_others style how additions file edit either e =
-    let found = option_map (span_in file) (header_of style file) in
-    let w = annotated_ok style how additions file found edit refl e in
-    let unfound : (how.replace ≡ false) ⊎ (found ≡ None) = elim either [
-      | inl add ↦ inl add
-      | inr none ↦ inr (ap (option_map (span_in file)) none)
-    ] in
-    let unreplaced = none_replaced how.replace found unfound in
-    let text = block_text w.0 (kind_of_file file)
-    (new_info (punctuation_of style) (old_contents (replaced_block how.replace found)) how.merge additions) in
-    let same : edit ≡ edit_of style file None text =
-    w.2.same ∙ ap (λ (old : Option HeaderSpan). edit_of style file old text) unreplaced in
-    subst (IsInsertion file (place_in file (body_lines style (file_lines file)))) (sym same)
-    (prefix_inserts style file text)
+    let w = annotated_ok style how additions file (option_map (span_in file) (header_of style file)) edit refl e in
+    edit_inserts style file _ how.replace edit either w.2.same
 
 -- ---- neighbour files
 

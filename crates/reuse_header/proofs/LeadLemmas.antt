@@ -84,9 +84,6 @@ prefix_not text l StringC = begins_not (codes "Copyright") (drop 9 (prefix_text 
 prefix_not text l StringSymbol = begins_not (codes "Copyright") (drop 9 (prefix_text StringSymbol)) text l.copyright
 prefix_not text l Symbol = begins_not copyright_sign [] text l.sign
 
-leaves_none : (text : List ℕ) → Lacks text → (prefix : Prefix) → leaves_value text prefix ≡ false
-leaves_none text l prefix = let isnt = prefix_not text l prefix in rw isnt refl
-
 find_none : (test : Prefix → Bool) → ((prefix : Prefix) → test prefix ≡ false) → (prefixes : List Prefix)
     → find test prefixes ≡ None
 find_none test none [] = refl
@@ -98,15 +95,23 @@ value_none lead text isnt = rw isnt refl
 neither : {X : Type 0} (one other : Option X) → one ≡ None → other ≡ None → option_or one other ≡ None
 neither one other e f = rw e f
 
+-- a text that begins with no lead of a tag, and with no prefix of a notice, is no tag
+pub unled : (text : List ℕ) → starts_with nat_eq text licence_lead ≡ false
+    → starts_with nat_eq text contributor_lead ≡ false
+    → ((prefix : Prefix) → starts_with nat_eq text (prefix_text prefix) ≡ false) → tag_in text ≡ None
+unled text licence contributor prefixes =
+    neither _ _ (ap (option_map TagText.a_licence) (value_none licence_lead text licence))
+    (neither _ _ (ap (option_map TagText.a_contributor) (value_none contributor_lead text contributor))
+    (let none : prefix_of text ≡ None = find_none (leaves_value text) leaves_none longest_first in rw none refl))
+  where
+    leaves_none : (prefix : Prefix) → leaves_value text prefix ≡ false
+    leaves_none prefix = let isnt = prefixes prefix in rw isnt refl
+
 tagless : (text : List ℕ) → Leadless text → tag_in text ≡ None
 tagless text e =
     let l = lacks text e in
-    neither _ _ (ap (option_map TagText.a_licence)
-    (value_none licence_lead text (begins_not (codes "SPDX-") (drop 5 licence_lead) text l.spdx)))
-    (neither _ _ (ap (option_map TagText.a_contributor)
-    (value_none contributor_lead text (begins_not (codes "SPDX-") (drop 5 contributor_lead) text l.spdx)))
-    (let none : prefix_of text ≡ None = find_none (leaves_value text)
-    (leaves_none text l) longest_first in rw none refl))
+    unled text (begins_not (codes "SPDX-") (drop 5 licence_lead) text l.spdx)
+    (begins_not (codes "SPDX-") (drop 5 contributor_lead) text l.spdx) (prefix_not text l)
 
 untagged : (punct content : List ℕ) → Leadless content → has_tag punct content ≡ false
 unfolding has_tag

@@ -1,6 +1,6 @@
 -- The lines of a written block are contents.
 use Rattle.std.proofs.Common.{◌≡◌, ℕ, Bool, true, false, List, [], ◌∷◌, ◌++◌, map, Option, None, Some, refl, sym, ap}
-use Rattle.std.proofs.Common.{subst, ◌∙◌, inl, inr}
+use Rattle.std.proofs.Common.{◌∙◌, inl, inr}
 use Rattle.std.specs.Prelude.{◌==◌, All, unwrap_or, codes}
 use Rattle.std.specs.List.{list_all}
 use Rattle.std.specs.Option.{option_map, option_to_list}
@@ -18,9 +18,9 @@ use Rattle.reuse_style.specs.declared.marks.Form.{Form}
 use Rattle.reuse_style.specs.declared.marks.Form.TheVariants.{Single, Multi}
 use Rattle.reuse_header.specs.declared.annotation.How.{How}
 use Rattle.reuse_header.specs.Ends.{is_return}
-use Rattle.reuse_style.specs.Marks.{LineForm, BlockForm, is_plain}
-use Rattle.reuse_style.specs.Styles.{line_comment_of, block_comment_of, punctuation_of}
-use Rattle.reuse_style.proofs.GoodLemmas.{IsLineGood, IsBlockGood, AreGoodMiddle, line_good, block_good}
+use Rattle.reuse_style.specs.Marks.{is_plain}
+use Rattle.reuse_style.specs.Styles.{punctuation_of}
+use Rattle.reuse_style.proofs.GoodLemmas.{AreGoodMiddle}
 use Rattle.reuse_header.specs.Marks.{LineMarks, marks_of}
 use Rattle.reuse_header.specs.Blocks.{without_returns}
 use Rattle.reuse_header.specs.Header.{HeaderSpan, span_in, header_of, neighbour_contents}
@@ -42,6 +42,7 @@ use Rattle.reuse_notice.proofs.NoneLemmas.{none_append}
 use Rattle.reuse_header.proofs.FeedLemmas.{is_feed, Feedless, feedless_holds, HasNoFeed, found_feedless}
 use Rattle.reuse_header.proofs.FeedLemmas.{neighbour_feedless, additions_feedless, new_feedless}
 use Rattle.reuse_header.proofs.AgainLemmas.{each-joined, each-set_off}
+use Rattle.reuse_header.proofs.FormLemmas.{of_line, of_block}
 use Rattle.reuse_header.proofs.MarkLemmas.{plain_feedless, plain_ends, lead_plain, all-ended}
 use Rattle.reuse_notice.proofs.BlankLemmas.{drop_end-twice}
 
@@ -127,8 +128,8 @@ unfolding Fit
 plain_fit bytes e = (plain_feedless bytes e, plain_ends bytes e)
 
 -- marks fit whose texts are plain
-record ArePlainMarks (marks : LineMarks) : Type 0 where
-  lead : list_all is_plain marks.lead ≡ true
+pub record ArePlainMarks (marks : LineMarks) : Type 0 where
+  pub lead : list_all is_plain marks.lead ≡ true
   mark : list_all is_plain marks.mark ≡ true
   first : Each (λ line. list_all is_plain line ≡ true) (option_to_list marks.first)
   last : Each (λ line. list_all is_plain line ≡ true) (option_to_list marks.last)
@@ -151,51 +152,25 @@ middle_plain : (middle : Option (List ℕ)) → AreGoodMiddle middle → list_al
 middle_plain None good = refl
 middle_plain (Some middle) good = good.0.plain
 
-marks_fit : (style : Style) (form : Form) (marks : LineMarks) → marks_of style form ≡ Some marks → FitMarks marks
+pub marks_plain : (style : Style) (form : Form) (marks : LineMarks) → marks_of style form ≡ Some marks
+    → ArePlainMarks marks
 unfolding Each
-marks_fit style Single marks e = by (line_comment_of style) (line_good style) e
-  where
-    by : (o : Option LineForm) → IsLineGood (punctuation_of style) o
-        → option_map (λ (form : LineForm).
-        record { lead = form.lead; mark = form.marker; first = None; last = None; closer = None }) o ≡ Some marks
-        → FitMarks marks
-    by None good f = absurd (let none : ⊥ = cc f in none)
-    by (Some form) good f =
-        let same : ◌≡◌ {A = LineMarks}
-        (record { lead = form.lead; mark = form.marker; first = None; last = None; closer = None }) marks = cc f in
-        subst FitMarks same (plain_marks_fit _ (record {
-          lead = lead_plain style form.marker form.lead good.marker.plain good.lead;
-          mark = good.marker.plain;
-          first = tt;
-          last = tt;
-        }))
-marks_fit style Multi marks e = by (block_comment_of style) (block_good style) e
-  where
-    by : (o : Option BlockForm) → IsBlockGood (punctuation_of style) o
-        → option_map (λ (form : BlockForm). record {
-          lead = form.lead;
-          mark = unwrap_or form.middle [];
-          first = Some form.opener;
-          last = Some form.last_line;
-          closer = Some form.closer;
-        }) o ≡ Some marks
-        → FitMarks marks
-    by None good f = absurd (let none : ⊥ = cc f in none)
-    by (Some form) good f =
-        let same : ◌≡◌ {A = LineMarks} (record {
-          lead = form.lead;
-          mark = unwrap_or form.middle [];
-          first = Some form.opener;
-          last = Some form.last_line;
-          closer = Some form.closer;
-        }) marks = cc f in
-        let middle = middle_plain form.middle good.middle in
-        subst FitMarks same (plain_marks_fit _ (record {
-          lead = lead_plain style (unwrap_or form.middle []) form.lead middle good.lead;
-          mark = middle;
-          first = (good.opener.plain, tt);
-          last = (good.last_line.plain, tt);
-        }))
+marks_plain style Single marks e = of_line style marks (λ o m. ArePlainMarks m) e (λ form is good. record {
+  lead = lead_plain style form.marker form.lead good.marker.plain good.lead;
+  mark = good.marker.plain;
+  first = tt;
+  last = tt;
+})
+marks_plain style Multi marks e = of_block style marks (λ o m. ArePlainMarks m) e (λ form is good.
+    let middle = middle_plain form.middle good.middle in record {
+      lead = lead_plain style (unwrap_or form.middle []) form.lead middle good.lead;
+      mark = middle;
+      first = (good.opener.plain, tt);
+      last = (good.last_line.plain, tt);
+    })
+
+marks_fit : (style : Style) (form : Form) (marks : LineMarks) → marks_of style form ≡ Some marks → FitMarks marks
+marks_fit style form marks e = plain_marks_fit marks (marks_plain style form marks e)
 
 neighbour_fit : FitMarks neighbour_marks
 unfolding Fit Each drop_end

@@ -204,20 +204,29 @@ standing_first replace made start end e stands =
     (ap (λ (r : Bool). neighbour_stands r made start end) (sym e) ∙ stands) in
     (eqb-true (mark_len_of made) start both.0, leb-true end (neighbour_end made) both.1)
 
+-- what is made, cut in front of its text, which stands behind the mark
+cut_at_text : (file made : List ℕ) (edit : Edit) → made ≡ edited file edit → edit.start ≡ mark_len_of file
+    → edit.front ≡ [] → mark_len_of made ≡ text_start edit
+    → (made ≡ (take edit.start file ++ edit.front)
+    ++ (edit.text ++ (edit.back ++ drop (edit.start + edit.old_len) file)))
+    × (mark_len_of made ≡ length (take edit.start file ++ edit.front))
+cut_at_text file made edit is start front there =
+    let fits = mark_within file in
+    let n : length (take edit.start file) ≡ edit.start = simp length-take (omega (arith, start, fits)) in
+    let size = length-append (take edit.start file) edit.front in (
+      is ∙ parts_again (take edit.start file) edit.front edit.text edit.back (drop (edit.start + edit.old_len) file),
+      omega (arith, there, n, size),
+    )
+
 -- behind the mark of what is made stands the text
 pub text_behind : (file made : List ℕ) (edit : Edit) → made ≡ edited file edit → edit.start ≡ mark_len_of file
     → edit.front ≡ [] → mark_len_of made ≡ text_start edit
     → after_mark made ≡ edit.text ++ (edit.back ++ drop (edit.start + edit.old_len) file)
 text_behind file made edit is start front there =
-    let fits = mark_within file in
-    let n : length (take edit.start file) ≡ edit.start = simp length-take (omega (arith, start, fits)) in
     let a = take edit.start file ++ edit.front in
-    let d = edit.back ++ drop (edit.start + edit.old_len) file in
-    let size = length-append (take edit.start file) edit.front in
-    let parts : made ≡ a ++ (edit.text ++ d) =
-    is ∙ parts_again (take edit.start file) edit.front edit.text edit.back (drop (edit.start + edit.old_len) file) in
-    let at : mark_len_of made ≡ length a = omega (arith, there, n, size) in
-    ap (λ (k : ℕ). drop k made) at ∙ ap (drop (length a)) parts ∙ drop-append_seam a (edit.text ++ d)
+    let cut = cut_at_text file made edit is start front there in
+    ap (λ (k : ℕ). drop k made) cut.1 ∙ ap (drop (length a)) cut.0
+    ∙ drop-append_seam a (edit.text ++ (edit.back ++ drop (edit.start + edit.old_len) file))
 
 stands_yes : (made : List ℕ) (start end : ℕ) → mark_len_of made ≡ start → neighbour_end made ≡ end
     → neighbour_stands true made start end ≡ true
@@ -339,14 +348,9 @@ edit_again known laws how arguments file edit replace plain is_text_too e =
     let front : edit.front ≡ [] = ap (λ (x : Edit). x.front) same in
     let text_is : edit.text ≡ block_text neighbour_marks kind info = ap (λ (x : Edit). x.text) same in
     let there = standing how.replace made (text_start edit) (text_end edit) replace w.stands in
-    let fits = mark_within file in
-    let n : length (take edit.start file) ≡ edit.start = simp length-take (omega (arith, start, fits)) in
     let a = take edit.start file ++ edit.front in
     let d = edit.back ++ drop (edit.start + edit.old_len) file in
-    let size = length-append (take edit.start file) edit.front in
-    let parts : made ≡ a ++ (edit.text ++ d) =
-    parts_again (take edit.start file) edit.front edit.text edit.back (drop (edit.start + edit.old_len) file) in
-    let at : mark_len_of made ≡ length a = omega (arith, there.0, n, size) in
+    let cut = cut_at_text file made edit refl start front there.0 in
     let reads = ap (λ (r : Bool). info_of [] (replaced_contents r made)) replace
     ∙ neighbour_opened known laws how arguments file edit plain e replace in
     let says = same_info laws [] (replaced_contents how.replace file)
@@ -359,7 +363,7 @@ edit_again known laws how arguments file edit replace plain is_text_too e =
     let whole : text ≡ edit.text = again ∙ sym text_is in
     let long = ap length whole in
     let stays = text_stays made a text d (mark_len_of made) (neighbour_end made - mark_len_of made)
-    (parts ∙ ap (λ (t : List ℕ). a ++ (t ++ d)) (sym whole)) at (omega (arith, there.0, there.1, long)) in
+    (cut.0 ∙ ap (λ (t : List ℕ). a ++ (t ++ d)) (sym whole)) cut.1 (omega (arith, there.0, there.1, long)) in
     let quiet = quiet_edit made text (mark_len_of made) (neighbour_end made) stays in
     let stand = stands_yes made (text_start (replacement (mark_len_of made) (neighbour_end made) text))
     (text_end (replacement (mark_len_of made) (neighbour_end made) text))

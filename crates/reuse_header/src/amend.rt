@@ -1,27 +1,25 @@
 //! The change that amends the licensing information of a file, in the place where it stands.
-ghost use Rattle.std.specs.Prelude.{◌≡◌, ◌≤◌, [], IfOk, Some, true, length};
+ghost use Rattle.std.specs.Prelude.{◌≤◌, [], Some, Ok, true, length};
 ghost use Rattle.reuse_notice.specs.Infos.{info_of};
 ghost use Rattle.reuse_header.specs.Found.{block_view};
-ghost use Rattle.reuse_header.specs.Contents.{contents_left};
 ghost use Rattle.reuse_header.specs.Neighbour.{replaced_contents, neighbour_written};
 ghost use Rattle.reuse_header.specs.Marks.{marks_of};
 ghost use Rattle.reuse_header.specs.Annotation.{written_by};
 ghost use Rattle.reuse_header.specs.Drafts.{IsWithin};
-ghost use Rattle.reuse_header.specs.Amendment.{amended_information, as_amendment, block_amendment, written_if};
+ghost use Rattle.reuse_header.specs.Amendment.{amended_information, block_amendment, written_if};
 ghost use Rattle.reuse_header.specs.Amendment.{amendment_of, neighbour_amendment_of, amendment_answer};
 ghost use Rattle.reuse_header.specs.Amendment.{IsExpectedAmendment};
 
 use crate::amendment::AmendHeaderRefusal;
-use crate::annotate::{collected, write_header};
+use crate::annotate::{read_block, write_header};
 use crate::annotation::{HeaderRefusal, Splice};
-use crate::blocks::Contents;
 use crate::finder::{Block, find};
-use crate::neighbour::{is_text_file, replaced_contents, write_neighbour};
+use crate::neighbour::{is_text_file, read_neighbour, write_neighbour};
 use reuse_amend::{AmendRefusal, Amendments, amend_info};
 use reuse_notice::Info;
 use reuse_style::Style;
 use reuse_text::LONGEST_FILE;
-use std::alloc::{AllocError, Global};
+use std::alloc::Global;
 
 /// The change that amends what the header block of a file says, for a file of at most 16 MiB. None
 /// is the answer where the file has no header block, or where the amendments change nothing that it
@@ -60,19 +58,11 @@ fn amend_block(
     ensures { IsExpectedAmendment (amendment_answer file.now
         (block_amendment style.now amendments.now file.now (block_view block.entry))) result }
 {
-    let info = read_block(alloc, block.contents, style.punctuation())?;
+    let info = read_block(alloc, style, block)?;
     match amend_information(alloc, &info, amendments) {
         Ok(new) => write_new(alloc, file, style, block, new),
         Err(refusal) => Err(refusal),
     }
-}
-
-// What the contents of a block say.
-fn read_block(alloc: Global, contents: Contents, punct: &[u8]) -> Result<Info, AllocError>
-    ensures { IfOk result (λ info. info ≡ info_of punct.now (contents_left contents.entry)) }
-{
-    let contents = collected(alloc, contents)?;
-    Info::read(alloc, contents.as_slice(), punct)
 }
 
 // The change that writes new information, if there is some to be written.
@@ -90,26 +80,7 @@ fn write_new(
 {
     match new {
         None => Ok(None),
-        Some(info) => write_amended(alloc, file, style, block, &info),
-    }
-}
-
-// The change that writes information in the place of a block, in its form.
-fn write_amended(
-    alloc: Global,
-    file: &[u8],
-    style: &Style<'_>,
-    block: Block,
-    info: &Info,
-) -> Result<Option<Splice>, AmendHeaderRefusal>
-    requires within { IsWithin file.now (Some (block_view block)) }
-    requires short { length file.now ≤ LONGEST_FILE }
-    ensures { IsExpectedAmendment (amendment_answer file.now (as_amendment (written_by style.now file.now
-        (Some (block_view block.entry)) info.now (marks_of style.now block.entry.form)))) result }
-{
-    match write_header(alloc, file, style, Some(block), block.form, info) {
-        Ok(splice) => Ok(splice),
-        Err(refusal) => Err(AmendHeaderRefusal::Header(refusal)),
+        Some(info) => Ok(write_header(alloc, file, style, Some(block), block.form, &info)?),
     }
 }
 
@@ -163,31 +134,7 @@ fn write_new_neighbour(
 {
     match new {
         None => Ok(None),
-        Some(info) => write_amended_neighbour(alloc, file, &info),
-    }
-}
-
-// What a neighbour file says.
-fn read_neighbour(alloc: Global, file: &[u8]) -> Result<Info, AllocError>
-    ensures { IfOk result (λ info. info ≡ info_of [] (replaced_contents true file.now)) }
-{
-    let contents = replaced_contents(alloc, file, true)?;
-    Info::read(alloc, contents.as_slice(), b"")
-}
-
-// The change that writes information in the place of a neighbour's block.
-fn write_amended_neighbour(
-    alloc: Global,
-    file: &[u8],
-    info: &Info,
-) -> Result<Option<Splice>, AmendHeaderRefusal>
-    requires { length file.now ≤ LONGEST_FILE }
-    ensures { IsExpectedAmendment
-        (amendment_answer file.now (as_amendment (neighbour_written true file.now info.now))) result }
-{
-    match write_neighbour(alloc, file, true, info) {
-        Ok(splice) => Ok(splice),
-        Err(refusal) => Err(AmendHeaderRefusal::Header(refusal)),
+        Some(info) => Ok(write_neighbour(alloc, file, true, &info)?),
     }
 }
 

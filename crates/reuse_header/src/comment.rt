@@ -1,23 +1,23 @@
 //! A comment of contents in the place of a header block: what is left of one without its tags.
-ghost use Rattle.std.specs.Prelude.{◌≡◌, ◌+◌, ◌-◌, ◌≤◌, [], IfOk, Ok, Some, length};
-ghost use Rattle.reuse_header.specs.Drafts.{IsWithin, Drafts, edit_at};
+ghost use Rattle.std.specs.Prelude.{◌≡◌, ◌-◌, ◌≤◌, [], IfOk, Ok, Some, length};
+ghost use Rattle.reuse_header.specs.Drafts.{IsWithin};
 ghost use Rattle.reuse_header.specs.Found.{block_view};
 ghost use Rattle.reuse_header.specs.Marks.{marks_of};
 ghost use Rattle.reuse_header.specs.MarkViews.{marks_view};
 ghost use Rattle.reuse_header.specs.Splices.{IsExpected, answer_of, splice_at};
-ghost use Rattle.reuse_header.specs.Comment.{comment_text, closes_form, closes_comment, comment_written};
+ghost use Rattle.reuse_header.specs.Comment.{closes_form, closes_comment, comment_written};
 ghost use Rattle.reuse_header.specs.Comment.{neighbour_comment_written};
 
 use crate::annotate::into_splice;
 use crate::annotation::{HeaderRefusal, Splice};
 use crate::closer::line_holds;
-use crate::draft::Draft;
+use crate::draft::{Draft, make_draft};
 use crate::finder::Block;
 use crate::neighbour::NEIGHBOUR_MARKS;
 use crate::place::{Place, neighbour_range};
-use crate::writer::{Format, LineWriter, Marks, marks_of};
+use crate::writer::{BlockText, Marks, marks_of};
 use reuse_style::{Form, Style};
-use reuse_text::{Bytes, LONGEST_FILE, LineKind, line_kind};
+use reuse_text::{Bytes, LONGEST_FILE, line_kind};
 use std::alloc::{AllocError, Global};
 
 /// The change that puts a comment of contents in the place of a header block, in its form, for a
@@ -61,7 +61,8 @@ fn replace_block(
         return Err(HeaderRefusal::HoldsCloser);
     }
     let place = Place::of_range(block.start, block.end);
-    let draft = draft_comment(alloc, file, place, line_kind(file), marks, contents)?;
+    let text = BlockText::Comment(contents);
+    let draft = make_draft(alloc, file, place, line_kind(file), marks, text)?;
     into_splice(alloc, file, draft)
 }
 
@@ -80,14 +81,8 @@ pub fn write_neighbour_comment(
     ensures { IsExpected (answer_of file.now (neighbour_comment_written file.now contents.now)) result }
 {
     let place = neighbour_range(file);
-    let draft = draft_comment(
-        alloc,
-        file,
-        place,
-        line_kind(file),
-        NEIGHBOUR_MARKS,
-        contents,
-    )?;
+    let text = BlockText::Comment(contents);
+    let draft = make_draft(alloc, file, place, line_kind(file), NEIGHBOUR_MARKS, text)?;
     into_splice(alloc, file, draft)
 }
 
@@ -138,38 +133,5 @@ fn closes_form(alloc: Global, marks: Marks<'_>, contents: &[Bytes]) -> Result<bo
     match marks.closer {
         None => Ok(false),
         Some(closer) => line_holds(alloc, closer, marks.mark, b"", contents),
-    }
-}
-
-// The edit that writes a comment into a place, unless it makes the file too long.
-fn draft_comment(
-    alloc: Global,
-    file: &[u8],
-    place: Place,
-    kind: LineKind,
-    marks: Marks<'_>,
-    contents: &[Bytes],
-) -> Result<Draft, HeaderRefusal>
-    requires within { place.start + place.old_len ≤ length file.now }
-    requires short { length file.now ≤ LONGEST_FILE }
-    ensures { Drafts file.now (edit_at place kind (comment_text (marks_view marks.entry) kind contents.now)) result }
-{
-    let room = LONGEST_FILE - (file.len() - place.old_len);
-    let mut writer = LineWriter::new(alloc, Format { kind, room });
-    writer.empty_line_if(place.ends_line)?;
-    writer.empty_line_if(place.empty_before)?;
-    let text_start = place.start + writer.len();
-    writer.comment(marks, contents)?;
-    let text_end = place.start + writer.len();
-    writer.empty_line_if(place.empty_behind)?;
-    match writer.into_text() {
-        None => Err(HeaderRefusal::TooLong),
-        Some(new) => Ok(Draft {
-            start: place.start,
-            old_len: place.old_len,
-            new,
-            text_start,
-            text_end,
-        }),
     }
 }

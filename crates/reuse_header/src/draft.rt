@@ -1,14 +1,13 @@
-//! The edit that writes a header block, before it is seen whether the block would be found again.
+//! The edit that writes a header block or a comment in its place, before it is seen whether the
+//! block would be found again.
 ghost use Rattle.std.specs.Prelude.{◌≡◌, ◌+◌, ◌-◌, ◌^◌, ◌<◌, ◌≤◌, IfOk, length};
 ghost use Rattle.reuse_text.specs.Text.{spliced};
-ghost use Rattle.reuse_header.specs.MarkViews.{marks_view};
-ghost use Rattle.reuse_header.specs.Writing.{block_text};
+ghost use Rattle.reuse_header.specs.MarkViews.{marks_view, whole_text};
 ghost use Rattle.reuse_header.specs.Drafts.{edit_at, Drafts};
 
 use crate::annotation::HeaderRefusal;
 use crate::place::Place;
-use crate::writer::{Format, LineWriter, Marks};
-use reuse_notice::Info;
+use crate::writer::{BlockText, Format, LineWriter, Marks};
 use reuse_text::{Bytes, LONGEST_FILE, LineKind, splice};
 use std::alloc::{AllocError, Global};
 
@@ -33,25 +32,25 @@ impl Draft {
     }
 }
 
-// The edit that writes a block into a place, unless it makes the file too long.
+// The edit that writes a text into a place, unless it makes the file too long.
 pub(crate) fn make_draft(
     alloc: Global,
     file: &[u8],
     place: Place,
     kind: LineKind,
     marks: Marks<'_>,
-    info: &Info,
+    text: BlockText<'_>,
 ) -> Result<Draft, HeaderRefusal>
     requires within { place.start + place.old_len ≤ length file.now }
     requires short { length file.now ≤ LONGEST_FILE }
-    ensures { Drafts file.now (edit_at place kind (block_text (marks_view marks.entry) kind info.now)) result }
+    ensures { Drafts file.now (edit_at place kind (whole_text (marks_view marks.entry) kind text.entry)) result }
 {
     let room = LONGEST_FILE - (file.len() - place.old_len);
     let mut writer = LineWriter::new(alloc, Format { kind, room });
     writer.empty_line_if(place.ends_line)?;
     writer.empty_line_if(place.empty_before)?;
     let text_start = place.start + writer.len();
-    writer.block(marks, info)?;
+    writer.text(marks, text)?;
     let text_end = place.start + writer.len();
     writer.empty_line_if(place.empty_behind)?;
     match writer.into_text() {

@@ -1,5 +1,6 @@
 //! The change that adds licensing information to a neighbour file.
-ghost use Rattle.std.specs.Prelude.{◌≡◌, ◌≤◌, IfOk, length, map};
+ghost use Rattle.std.specs.Prelude.{◌≡◌, ◌≤◌, [], true, IfOk, length, map};
+ghost use Rattle.reuse_notice.specs.Infos.{info_of};
 ghost use Rattle.reuse_header.specs.Open.{open_left};
 ghost use Rattle.reuse_header.specs.Blocks.{without_returns};
 ghost use Rattle.reuse_header.specs.Neighbour.{is_text, neighbour_annotation_of, neighbour_stands, neighbour_written};
@@ -12,7 +13,7 @@ use crate::body::OpenContents;
 use crate::draft::make_draft;
 use crate::place::{neighbour_end, neighbour_place};
 use crate::search::trim_returns;
-use crate::writer::Marks;
+use crate::writer::{BlockText, Marks};
 use reuse_notice::{Additions, Info};
 use reuse_text::{LONGEST_FILE, Lines, is_text, line_kind, mark_len};
 use std::alloc::{AllocError, Global};
@@ -74,7 +75,8 @@ pub fn write_neighbour(
     ensures { IsExpected (answer_of file.now (neighbour_written replace file.now info.now)) result }
 {
     let place = neighbour_place(file, replace);
-    let draft = make_draft(alloc, file, place, line_kind(file), NEIGHBOUR_MARKS, info)?;
+    let text = BlockText::Header(info);
+    let draft = make_draft(alloc, file, place, line_kind(file), NEIGHBOUR_MARKS, text)?;
     let made = draft.made(alloc, file)?;
     if !neighbour_stands(replace, made.as_slice(), draft.text_start, draft.text_end) {
         return Err(HeaderRefusal::Unsettled);
@@ -94,6 +96,14 @@ fn neighbour_stands(replace: bool, file: &[u8], start: usize, end: usize) -> boo
         } else {
             end <= block_end
         }
+}
+
+/// What a neighbour file says.
+pub fn read_neighbour(alloc: Global, file: &[u8]) -> Result<Info, AllocError>
+    ensures { IfOk result (λ info. info ≡ info_of [] (replaced_contents true file.now)) }
+{
+    let contents = replaced_contents(alloc, file, true)?;
+    Info::read(alloc, contents.as_slice(), b"")
 }
 
 /// The contents of a neighbour file's block, if that is replaced, else none.
