@@ -119,7 +119,7 @@ unfolding neighbour_edit
 block_replaces true file text e low = replacement_replaces file text (mark_len_of file) (neighbour_end file) low
 block_replaces false file text e low = absurd (false≢true e)
 
-front_inserts : (replace : Bool) (file text : List ℕ) → replace ≡ false
+pub front_inserts : (replace : Bool) (file text : List ℕ) → replace ≡ false
     → IsInsertion file (mark_len_of file) (neighbour_edit replace file text)
 unfolding neighbour_edit
 front_inserts true file text e = absurd (false≢true (sym e))

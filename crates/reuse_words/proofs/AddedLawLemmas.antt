@@ -1,11 +1,9 @@
 -- The edit that adds information and texts: what it writes, and which bytes stay.
 use Rattle.std.proofs.Common.{◌≡◌, ℕ, ◌+◌, ◌≤◌, Bool, true, false, List, ◌++◌, length, take, drop, Option, None, Some}
-use Rattle.std.proofs.Common.{refl, sym, ap, subst, ◌∙◌, cond, inl, inr, arith}
-use Rattle.std.specs.Prelude.{Result, Ok, Err, nat_lt, not, ◌⊎◌}
+use Rattle.std.proofs.Common.{refl, sym, ap, subst, ◌∙◌, cond}
+use Rattle.std.specs.Prelude.{Result, Ok, Err, ◌⊎◌}
 use Rattle.std.specs.List.{list_any}
 use Rattle.std.specs.Option.{option_map}
-use Rattle.std.proofs.lemmas.Bool.{false≢true}
-use Rattle.std.proofs.lemmas.Bool.Decides.{nat_tests}
 use Rattle.reuse_text.specs.declared.TheConstants.{LONGEST_FILE}
 use Rattle.reuse_text.specs.Text.{text_of, lines_of, file_lines, after_mark}
 use Rattle.reuse_notice.specs.declared.infos.Info.{Info}
@@ -18,14 +16,14 @@ use Rattle.reuse_header.specs.declared.annotation.HeaderRefusal.{HeaderRefusal}
 use Rattle.reuse_header.specs.Marks.{LineMarks, marks_of}
 use Rattle.reuse_header.specs.Header.{HeaderSpan, span_in, header_of}
 use Rattle.reuse_header.specs.Writing.{new_info, block_text}
-use Rattle.reuse_header.specs.Annotation.{Edit, edited, kind_of_file, edit_of, written_by, chosen_form, replaced_block}
-use Rattle.reuse_header.specs.Annotation.{old_contents, insertion, is_last_ended, has_lines, begins_full, prefix_lines}
-use Rattle.reuse_header.specs.Body.{PlacedLines, body_lines, place_in}
+use Rattle.reuse_header.specs.Annotation.{Edit, edited, kind_of_file, written_by, chosen_form, replaced_block}
+use Rattle.reuse_header.specs.Annotation.{old_contents}
+use Rattle.reuse_header.specs.Body.{body_lines, place_in}
 use Rattle.reuse_header.specs.Laws.{IsInsertion}
 use Rattle.reuse_header.specs.Comment.{closes_comment}
-use Rattle.reuse_header.proofs.CutLemmas.{span_cuts, block_within, body_within}
 use Rattle.reuse_header.proofs.LawLemmas.{text_of_edit}
-use Rattle.reuse_header.proofs.KeptLemmas.{Replaces, span_replaces}
+use Rattle.reuse_header.proofs.FittingLemmas.{not_over, edit_within}
+use Rattle.reuse_header.proofs.KeptLemmas.{edit_replaces, edit_inserts}
 use Rattle.reuse_header.proofs.WrittenLemmas.{IsWritten, written_ok}
 use Rattle.reuse_words.specs.declared.refusal.TextHeaderRefusal.{TextHeaderRefusal}
 use Rattle.reuse_words.specs.declared.refusal.TextHeaderRefusal.TheVariants.{BadText, Header}
@@ -45,48 +43,6 @@ added_by_test : (made : Result Edit HeaderRefusal) (edit : Edit) (closes : Bool)
     → cond closes (Err BadText) (header_edit made) ≡ Ok edit → made ≡ Ok edit
 added_by_test made edit true e = absurd (refused BadText edit e)
 added_by_test made edit false e = header_ok made edit e
-
-pub not_over : (m n : ℕ) → nat_lt m n ≡ false → n ≤ m
-not_over m n h = grind (arith, nat_tests)
-
--- an edit lies within the file, in the place of the header block, if that is replaced
-place_within : (style : Style) (file text : List ℕ) (found : Option HeaderSpan) (replace : Bool)
-    → text_of (lines_of (after_mark file)) ≡ after_mark file → option_map (span_in file) (header_of style file) ≡ found
-    → (edit_of style file (replaced_block replace found) text).start
-    + (edit_of style file (replaced_block replace found) text).old_len ≤ length file
-unfolding edit_of
-place_within style file text None true law is = omega (arith, body_within style file law)
-place_within style file text None false law is = omega (arith, body_within style file law)
-place_within style file text (Some span) false law is = omega (arith, body_within style file law)
-place_within style file text (Some span) true law is =
-    let h = block_within style file span (span_cuts style file span law is) in omega (arith, h.0, h.1)
-
--- a text that is put in takes no byte away
-pub insertion_inserts : (file text : List ℕ) (prefix rest : PlacedLines) (start : ℕ)
-    → IsInsertion file start (insertion prefix rest start (kind_of_file file) text)
-insertion_inserts file text prefix rest start =
-    let edit = insertion prefix rest start (kind_of_file file) text in
-    let here : start + 0 ≡ start = omega arith in
-    record {
-      made = ap (λ (k : ℕ). take start file ++ (edit.front ++ (edit.text ++ edit.back)) ++ drop k file) here;
-      takes_nothing = refl;
-      front = (not (is_last_ended prefix), has_lines prefix, refl);
-      back = (begins_full rest, refl);
-    }
-
-prefix_inserts : (style : Style) (file text : List ℕ)
-    → IsInsertion file (place_in file (body_lines style (file_lines file))) (edit_of style file None text)
-unfolding edit_of
-prefix_inserts style file text =
-    let lines = file_lines file in
-    let body = body_lines style lines in
-    insertion_inserts file text (prefix_lines style lines) body (place_in file body)
-
-none_replaced : (replace : Bool) (found : Option HeaderSpan) → (replace ≡ false) ⊎ (found ≡ None)
-    → replaced_block replace found ≡ None
-none_replaced false found either = refl
-none_replaced true found (inl e) = absurd (false≢true (sym e))
-none_replaced true found (inr e) = e
 
 module _ (style : Style) (how : How) (additions : Additions) (texts : List (List (List ℕ))) (file : List ℕ)
     (edit : Edit)
@@ -123,7 +79,7 @@ module _ (style : Style) (how : How) (additions : Additions) (texts : List (List
     };
     fits = record {
       within = subst (λ (x : Edit). x.start + x.old_len ≤ length file) (sym written.2.same)
-          (place_within style file (block_text written.0 (kind_of_file file) info) found how.replace law refl);
+          (edit_within style file (block_text written.0 (kind_of_file file) info) found how.replace law refl);
       short = not_over LONGEST_FILE (length (edited file edit)) written.2.few;
     };
   }
@@ -135,27 +91,11 @@ module _ (style : Style) (how : How) (additions : Additions) (texts : List (List
       → option_map (span_in file) (header_of style file) ≡ Some span
       → edited file edit ≡ take span.start file ++ edit.text ++ drop span.end file
   unfolding found
-  texts_replace span replaced is =
-      let old : replaced_block how.replace found ≡ Some span =
-      ap (λ (f : Option HeaderSpan). replaced_block how.replace f) is
-      ∙ ap (λ (r : Bool). replaced_block r (Some span)) replaced in
-      let text = block_text written.0 (kind_of_file file) info in
-      let same : edit ≡ edit_of style file (Some span) text =
-      written.2.same ∙ ap (λ (o : Option HeaderSpan). edit_of style file o text) old in
-      subst (λ (x : Edit). Replaces file span.start span.end x) (sym same)
-      (span_replaces style file text span (block_within style file span (span_cuts style file span law is)).0)
+  texts_replace span replaced is = edit_replaces style file (block_text written.0 (kind_of_file file) info)
+      how.replace edit span law replaced is written.2.same
 
   pub texts_insert : (how.replace ≡ false) ⊎ (header_of style file ≡ None)
       → IsInsertion file (place_in file (body_lines style (file_lines file))) edit
   unfolding found
-  texts_insert either =
-      let unfound : (how.replace ≡ false) ⊎ (option_map (span_in file) (header_of style file) ≡ None) = elim either [
-        | inl add ↦ inl add
-        | inr none ↦ inr (ap (option_map (span_in file)) none)
-      ] in
-      let text = block_text written.0 (kind_of_file file) info in
-      let same : edit ≡ edit_of style file None text =
-      written.2.same ∙ ap (λ (o : Option HeaderSpan). edit_of style file o text)
-      (none_replaced how.replace (option_map (span_in file) (header_of style file)) unfound) in
-      subst (IsInsertion file (place_in file (body_lines style (file_lines file)))) (sym same)
-      (prefix_inserts style file text)
+  texts_insert either = edit_inserts style file (block_text written.0 (kind_of_file file) info) how.replace edit either
+      written.2.same

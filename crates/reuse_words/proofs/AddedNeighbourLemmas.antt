@@ -1,10 +1,9 @@
 -- The edit that adds information and texts to a neighbour: what it writes, and which bytes stay.
 use Rattle.std.proofs.Common.{◌≡◌, ℕ, ◌+◌, ◌≤◌, Bool, true, false, List, [], ◌++◌, length, take, drop, None, refl}
-use Rattle.std.proofs.Common.{sym, ap, subst, ◌∙◌, cond, arith}
+use Rattle.std.proofs.Common.{sym, ap, subst, ◌∙◌, cond}
 use Rattle.std.specs.Prelude.{Ok, Err, nat_lt}
-use Rattle.std.proofs.lemmas.Bool.{false≢true}
 use Rattle.reuse_text.specs.declared.TheConstants.{LONGEST_FILE}
-use Rattle.reuse_text.specs.Text.{text_of, lines_of, file_lines, mark_len_of}
+use Rattle.reuse_text.specs.Text.{text_of, lines_of, mark_len_of}
 use Rattle.reuse_notice.specs.declared.infos.Info.{Info}
 use Rattle.reuse_notice.specs.declared.adding.Additions.{Additions}
 use Rattle.reuse_header.specs.declared.annotation.How.{How}
@@ -14,32 +13,20 @@ use Rattle.reuse_header.specs.Annotation.{Edit, edited, kind_of_file, text_start
 use Rattle.reuse_header.specs.Neighbour.{is_text, replaced_contents, neighbour_end, neighbour_edit, neighbour_written}
 use Rattle.reuse_header.specs.Neighbour.{neighbour_stands}
 use Rattle.reuse_header.specs.Laws.{IsInsertion}
-use Rattle.reuse_header.proofs.CutLemmas.{mark_within}
 use Rattle.reuse_header.proofs.SpanLemmas.{neighbour_end-within}
-use Rattle.reuse_header.proofs.KeptLemmas.{Replaces, block_replaces}
+use Rattle.reuse_header.proofs.FittingLemmas.{not_over, neighbour_within}
+use Rattle.reuse_header.proofs.KeptLemmas.{Replaces, block_replaces, front_inserts}
 use Rattle.reuse_header.proofs.WrittenLemmas.{settled_ok}
 use Rattle.reuse_words.specs.declared.refusal.TextHeaderRefusal.TheVariants.{Header}
 use Rattle.reuse_words.specs.Information.{info_with}
 use Rattle.reuse_words.specs.Amended.{texts_in}
 use Rattle.reuse_words.specs.Added.{header_edit, neighbour_text_annotation_of}
-use Rattle.reuse_words.proofs.AddedLawLemmas.{refused, header_ok, not_over, insertion_inserts}
+use Rattle.reuse_words.proofs.AddedLawLemmas.{refused, header_ok}
 
 -- information with texts, as a neighbour gets it
 abbrev pub info_beside : How → Additions → List (List (List ℕ)) → List ℕ → Info
 info_beside how additions texts file =
     info_with [] (texts_in None texts) (new_info [] (replaced_contents how.replace file) how.merge additions)
-
-neighbour_within : (replace : Bool) (file text : List ℕ) → ((other : List ℕ) → text_of (lines_of other) ≡ other)
-    → (neighbour_edit replace file text).start + (neighbour_edit replace file text).old_len ≤ length file
-unfolding neighbour_edit
-neighbour_within true file text joined = let h = neighbour_end-within joined file in omega (arith, h.0, h.1)
-neighbour_within false file text joined = omega (arith, mark_within file)
-
-front_inserts : (replace : Bool) (file text : List ℕ) → replace ≡ false
-    → IsInsertion file (mark_len_of file) (neighbour_edit replace file text)
-unfolding neighbour_edit
-front_inserts true file text e = absurd (false≢true (sym e))
-front_inserts false file text e = insertion_inserts file text [] (file_lines file) (mark_len_of file)
 
 -- what an edit is, and how long the file that it makes
 pub record IsBeside (replace : Bool) (file text : List ℕ) (edit : Edit) : Type 0 where

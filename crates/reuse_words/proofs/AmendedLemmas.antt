@@ -32,6 +32,20 @@ something_written file write free new e given answered =
 
 -- ---- a block
 
+-- the free contents that are to be written, by those of the steps on the way
+free_left : (style : Style) (texts : List (List (List ℕ))) (span : HeaderSpan) (info : Info) (gap punct : List ℕ)
+    → info ≡ info_of (punctuation_of style) span.contents → gap ≡ gap_of (marks_of style span.form)
+    → punct ≡ punctuation_of style
+    → free_to_write (info_of (punctuation_of style) span.contents).free (without_texts (punctuation_of style)
+    (map (text_in (gap_of (marks_of style span.form))) texts) (info_of (punctuation_of style) span.contents).free)
+    ≡ free_to_write info.free (without_texts punct (map (text_in gap) texts) info.free)
+free_left style texts span info gap punct says behind signs =
+    ap (λ (i : Info). free_to_write i.free (without_texts (punctuation_of style)
+    (map (text_in (gap_of (marks_of style span.form))) texts) i.free)) (sym says)
+    ∙ ap (λ (g : List ℕ). free_to_write info.free
+    (without_texts (punctuation_of style) (map (text_in g) texts) info.free)) (sym behind)
+    ∙ ap (λ (p : List ℕ). free_to_write info.free (without_texts p (map (text_in gap) texts) info.free)) (sym signs)
+
 pub block_same : (style : Style) (texts : List (List (List ℕ))) (file : List ℕ) (span : HeaderSpan) (info : Info)
     (gap punct : List ℕ)
     → info ≡ info_of (punctuation_of style) span.contents → gap ≡ gap_of (marks_of style span.form)
@@ -43,13 +57,7 @@ block_same style texts file span info gap punct says behind signs none =
     nothing_written file
     (λ free. written_by style file (Some span) (with_free (punctuation_of style)
     (info_of (punctuation_of style) span.contents) free) (marks_of style span.form)) _
-    (ap (λ (i : Info). free_to_write i.free (without_texts (punctuation_of style)
-    (map (text_in (gap_of (marks_of style span.form))) texts) i.free)) (sym says)
-    ∙ ap (λ (g : List ℕ). free_to_write info.free
-    (without_texts (punctuation_of style) (map (text_in g) texts) info.free))
-    (sym behind)
-    ∙ ap (λ (p : List ℕ). free_to_write info.free (without_texts p (map (text_in gap) texts) info.free)) (sym signs)
-    ∙ none)
+    (free_left style texts span info gap punct says behind signs ∙ none)
 
 pub block_other : (style : Style) (texts : List (List (List ℕ))) (file : List ℕ) (span : HeaderSpan) (info : Info)
     (gap punct : List ℕ) (new : List (List ℕ))
@@ -65,13 +73,7 @@ block_other style texts file span info gap punct new says behind signs some give
     something_written file
     (λ free. written_by style file (Some span) (with_free (punctuation_of style)
     (info_of (punctuation_of style) span.contents) free) (marks_of style span.form)) _ new
-    (ap (λ (i : Info). free_to_write i.free (without_texts (punctuation_of style)
-    (map (text_in (gap_of (marks_of style span.form))) texts) i.free)) (sym says)
-    ∙ ap (λ (g : List ℕ). free_to_write info.free
-    (without_texts (punctuation_of style) (map (text_in g) texts) info.free))
-    (sym behind)
-    ∙ ap (λ (p : List ℕ). free_to_write info.free (without_texts p (map (text_in gap) texts) info.free)) (sym signs)
-    ∙ some) given
+    (free_left style texts span info gap punct says behind signs ∙ some) given
     (subst (λ (i : Info). IsExpected (answer_of file (written_by style file (Some span)
     (with_free (punctuation_of style) i new) (marks_of style span.form))) given) says answered)
 

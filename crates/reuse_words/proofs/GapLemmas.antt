@@ -1,9 +1,9 @@
 -- Texts as contents are text where their lines are, and so is information with them.
 use Rattle.std.proofs.Common.{◌≡◌, ℕ, Bool, true, false, cond, List, [], ◌∷◌, ◌++◌, length, map, drop, Option, None}
 use Rattle.std.proofs.Common.{Some, refl}
-use Rattle.std.specs.Prelude.{All, unwrap_or}
+use Rattle.std.specs.Prelude.{All}
 use Rattle.std.specs.List.{list_all}
-use Rattle.std.specs.Option.{is_none, option_map}
+use Rattle.std.specs.Option.{is_none}
 use Rattle.reuse_text.specs.Text.{is_empty}
 use Rattle.reuse_notice.specs.declared.infos.Info.{Info}
 use Rattle.reuse_notice.specs.Tags.{tag_of}
@@ -11,16 +11,14 @@ use Rattle.reuse_notice.specs.Contents.{is_nil, is_blank_content, untagged, free
 use Rattle.reuse_notice.proofs.SoundLemmas.{IsSound, sound_nil, sound_append}
 use Rattle.reuse_style.specs.declared.style.Style.{Style}
 use Rattle.reuse_style.specs.declared.marks.Form.{Form}
-use Rattle.reuse_style.specs.declared.marks.Form.TheVariants.{Single, Multi}
-use Rattle.reuse_style.specs.Marks.{LineForm, BlockForm, is_plain}
-use Rattle.reuse_style.specs.Styles.{line_comment_of, block_comment_of, punctuation_of}
-use Rattle.reuse_style.proofs.GoodLemmas.{IsLineGood, IsBlockGood, AreGoodMiddle, line_good, block_good}
-use Rattle.reuse_header.specs.Marks.{marks_of}
+use Rattle.reuse_style.specs.Marks.{is_plain}
+use Rattle.reuse_header.specs.Marks.{LineMarks, marks_of}
 use Rattle.reuse_header.specs.Neighbour.{is_text}
 use Rattle.reuse_header.proofs.SayableLemmas.{Each, each_of_all, each_both, each_front, each_end}
 use Rattle.reuse_header.proofs.InfoLemmas.{each_filtered}
 use Rattle.reuse_header.proofs.InfoSoundLemmas.{IsSoundInfo}
-use Rattle.reuse_header.proofs.MarkLemmas.{all-back, plain_sound, lead_plain}
+use Rattle.reuse_header.proofs.MarkLemmas.{all-back, plain_sound}
+use Rattle.reuse_header.proofs.LinesLemmas.{marks_plain}
 use Rattle.reuse_header.proofs.MadeTextLemmas.{text_is}
 use Rattle.reuse_words.specs.Runs.{holds_text, separated, with_text}
 use Rattle.reuse_words.specs.Information.{gap_of, set_in, text_in, with_texts, info_with}
@@ -32,31 +30,11 @@ behind_mark mark lead plain =
     plain_sound (drop (length mark) lead) (all-back is_plain (length mark) lead plain)
 
 pub gap_sound : (style : Style) (form : Form) → IsSound (gap_of (marks_of style form))
-gap_sound style Single = by (line_comment_of style) (line_good style)
+gap_sound style form = by (marks_of style form) refl
   where
-    by : (o : Option LineForm) → IsLineGood (punctuation_of style) o → IsSound (gap_of (option_map
-        (λ (comment : LineForm).
-        record { lead = comment.lead; mark = comment.marker; first = None; last = None; closer = None }) o))
-    by None good = sound_nil
-    by (Some form) good = behind_mark form.marker form.lead
-        (lead_plain style form.marker form.lead good.marker.plain good.lead)
-gap_sound style Multi = by (block_comment_of style) (block_good style)
-  where
-    middle_plain : (middle : Option (List ℕ)) → AreGoodMiddle middle → list_all is_plain (unwrap_or middle []) ≡ true
-    middle_plain None good = refl
-    middle_plain (Some middle) good = good.0.plain
-
-    by : (o : Option BlockForm) → IsBlockGood (punctuation_of style) o → IsSound (gap_of (option_map
-        (λ (comment : BlockForm). record {
-          lead = comment.lead;
-          mark = unwrap_or comment.middle [];
-          first = Some comment.opener;
-          last = Some comment.last_line;
-          closer = Some comment.closer;
-        }) o))
-    by None good = sound_nil
-    by (Some form) good = behind_mark (unwrap_or form.middle []) form.lead
-        (lead_plain style (unwrap_or form.middle []) form.lead (middle_plain form.middle good.middle) good.lead)
+    by : (o : Option LineMarks) → marks_of style form ≡ o → IsSound (gap_of o)
+    by None is = sound_nil
+    by (Some marks) is = behind_mark marks.mark marks.lead (marks_plain style form marks is).lead
 
 -- ---- texts
 

@@ -1,21 +1,19 @@
 -- Contents without blank ones at their outer ends hold the texts that they held.
-use Rattle.std.proofs.Common.{◌≡◌, ◌≢◌, ℕ, ◌+◌, Bool, true, false, List, [], ◌∷◌, ◌++◌, length, take, drop, Option}
-use Rattle.std.proofs.Common.{None, Some, refl, sym, ap, subst, ◌∙◌, inl, inr, map, cond, append_assoc}
-use Rattle.std.specs.Prelude.{◌||◌, ◌&&◌, is_some, IfSome}
+use Rattle.std.proofs.Common.{◌≡◌, ◌≢◌, ℕ, ◌+◌, Bool, true, false, List, [], ◌∷◌, ◌++◌, take, drop, Option}
+use Rattle.std.proofs.Common.{None, Some, refl, sym, ap, subst, ◌∙◌, inl, inr, cond, append_assoc}
+use Rattle.std.specs.Prelude.{◌||◌, ◌&&◌, is_some}
 use Rattle.std.specs.Option.{is_none}
 use Rattle.std.specs.List.{list_all, list_any}
-use Rattle.reuse_text.specs.Text.{is_empty}
 use Rattle.reuse_notice.specs.declared.infos.Info.{Info}
 use Rattle.reuse_notice.specs.Tags.{TagText, is_filler, tag_of, drop_front, drop_end, trimmed}
 use Rattle.reuse_notice.specs.Contents.{is_blank_content, free_of}
 use Rattle.reuse_notice.proofs.BlankLemmas.{truth, drop_front-yes, drop_front-no}
 use Rattle.reuse_header.specs.Tagged.{has_tag}
-use Rattle.reuse_words.specs.declared.runs.Run.{Run}
-use Rattle.reuse_words.specs.Words.{spaced_words, words_in, words_of}
-use Rattle.reuse_words.specs.Runs.{first_run, holds_text}
+use Rattle.reuse_words.specs.Words.{spaced_words, words_in}
+use Rattle.reuse_words.specs.Runs.{holds_text}
 use Rattle.reuse_words.specs.Information.{with_texts, info_with}
-use Rattle.reuse_words.proofs.RowLemmas.{RunAt, first_least, first_sound, cut_joined}
-use Rattle.reuse_words.proofs.RunLawLemmas.{run_is, some_least, all_held}
+use Rattle.reuse_words.proofs.RowLemmas.{cut_joined}
+use Rattle.reuse_words.proofs.RunLawLemmas.{held_among, all_held}
 use Rattle.reuse_words.proofs.FreeLemmas.{kept_all}
 
 -- ---- contents with words aren't blank
@@ -93,38 +91,15 @@ module _ {X : Type 0} (test : X → Bool) where
 
 -- ---- texts stay held
 
-trimmed_by : (punct words : List ℕ) (contents : List (List ℕ))
-    → (is_empty words || is_some (cond (is_empty words) None (first_run words (map (words_in punct) contents)))) ≡ true
-    → (is_empty words || is_some (cond (is_empty words) None
-    (first_run words (map (words_in punct) (trimmed (is_blank_content punct) contents))))) ≡ true
-trimmed_by punct [] contents e = refl
-trimmed_by punct (w ∷ words) contents e =
-    by_run (first_run (w ∷ words) (map (words_in punct) contents)) refl e
-  where
-    by_run : (o : Option Run) → first_run (w ∷ words) (map (words_in punct) contents) ≡ o → is_some o ≡ true
-        → is_some (first_run (w ∷ words) (map (words_in punct) (trimmed (is_blank_content punct) contents))) ≡ true
-    by_run None is e = absurd (let none : ⊥ = cc in none)
-    by_run (Some run) is e =
-        let at = subst (λ (o : Option Run). IfSome o (RunAt (words_in punct) (w ∷ words) contents)) is
-        (first_sound (words_in punct) w words contents) in
-        let front = take run.start contents in
-        let here = take run.count (drop run.start contents) in
-        let back = drop (run.start + run.count) contents in
-        let kept = part_kept (is_blank_content punct) front here back at.begins.0 at.begins.1 at.ends.0 at.ends.1
-        at.begins.2 (not_blank punct at.begins.0 at.begins.3) at.ends.2 (not_blank punct at.ends.1 at.ends.3) in
-        let joined : trimmed (is_blank_content punct) contents ≡ kept.0 ++ (here ++ kept.1) =
-        ap (trimmed (is_blank_content punct)) (cut_joined contents run.start run.count) ∙ kept.2 in
-        subst (λ (c : List (List ℕ)). is_some (first_run (w ∷ words) (map (words_in punct) c)) ≡ true) (sym joined)
-        (some_least (first_run (w ∷ words) (map (words_in punct) (kept.0 ++ (here ++ kept.1)))) (length kept.0)
-        (first_least (words_in punct) kept.0 here kept.1 (w ∷ words) at.says at.begins at.ends))
-
 held_trimmed : (punct : List ℕ) (text contents : List (List ℕ)) → holds_text punct text contents ≡ true
     → holds_text punct text (trimmed (is_blank_content punct) contents) ≡ true
-held_trimmed punct text contents e =
-    ap (λ (o : Option Run). is_empty (words_of punct text) || is_some o)
-    (run_is punct text (trimmed (is_blank_content punct) contents))
-    ∙ trimmed_by punct (words_of punct text) contents
-    (sym (ap (λ (o : Option Run). is_empty (words_of punct text) || is_some o) (run_is punct text contents)) ∙ e)
+held_trimmed punct text contents e = held_among punct text contents (trimmed (is_blank_content punct) contents)
+    (λ run at. let front = take run.start contents in
+    let here = take run.count (drop run.start contents) in
+    let back = drop (run.start + run.count) contents in
+    let kept = part_kept (is_blank_content punct) front here back at.begins.0 at.begins.1 at.ends.0 at.ends.1
+    at.begins.2 (not_blank punct at.begins.0 at.begins.3) at.ends.2 (not_blank punct at.ends.1 at.ends.3) in
+    (kept.0, kept.1, ap (trimmed (is_blank_content punct)) (cut_joined contents run.start run.count) ∙ kept.2)) e
 
 -- contents without a tag are free
 is_free : (o : Option TagText) → is_some o ≡ false → is_none o ≡ true

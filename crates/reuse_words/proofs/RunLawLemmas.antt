@@ -136,37 +136,50 @@ unfound_stays punct text contents e = ap (λ (o : Option Run). option_map_or (wi
 
 -- ---- texts stay held
 
-held_more : (punct words : List ℕ) (contents more : List (List ℕ))
+run_kept : (punct words : List ℕ) (contents others : List (List ℕ))
+    → ((run : Run) → RunAt (words_in punct) words contents run → (front : List (List ℕ)) × (back : List (List ℕ))
+    × (others ≡ front ++ (take run.count (drop run.start contents) ++ back)))
     → (is_empty words || is_some (cond (is_empty words) None (first_run words (map (words_in punct) contents)))) ≡ true
-    → (is_empty words || is_some (cond (is_empty words) None
-    (first_run words (map (words_in punct) (contents ++ more))))) ≡ true
-held_more punct [] contents more e = refl
-held_more punct (w ∷ words) contents more e =
+    → (is_empty words || is_some (cond (is_empty words) None (first_run words (map (words_in punct) others)))) ≡ true
+run_kept punct [] contents others stands e = refl
+run_kept punct (w ∷ words) contents others stands e =
     by_run (first_run (w ∷ words) (map (words_in punct) contents)) refl e
   where
     by_run : (o : Option Run) → first_run (w ∷ words) (map (words_in punct) contents) ≡ o → is_some o ≡ true
-        → is_some (first_run (w ∷ words) (map (words_in punct) (contents ++ more))) ≡ true
+        → is_some (first_run (w ∷ words) (map (words_in punct) others)) ≡ true
     by_run None is e = absurd (let none : ⊥ = cc in none)
     by_run (Some run) is e =
         let at = subst (λ (o : Option Run). IfSome o (RunAt (words_in punct) (w ∷ words) contents)) is
         (first_sound (words_in punct) w words contents) in
-        let front = take run.start contents in
         let here = take run.count (drop run.start contents) in
-        let back = drop (run.start + run.count) contents in
-        let joined : contents ++ more ≡ front ++ (here ++ (back ++ more)) =
-        ap (λ (c : List (List ℕ)). c ++ more) (cut_joined contents run.start run.count)
-        ∙ append_assoc front (here ++ back) more
-        ∙ ap (λ (c : List (List ℕ)). front ++ c) (append_assoc here back more) in
-        subst (λ (c : List (List ℕ)). is_some (first_run (w ∷ words) (map (words_in punct) c)) ≡ true) (sym joined)
-        (some_least (first_run (w ∷ words) (map (words_in punct) (front ++ (here ++ (back ++ more))))) (length front)
-        (first_least (words_in punct) front here (back ++ more) (w ∷ words) at.says at.begins at.ends))
+        let there = stands run at in
+        subst (λ (c : List (List ℕ)). is_some (first_run (w ∷ words) (map (words_in punct) c)) ≡ true) (sym there.2)
+        (some_least (first_run (w ∷ words) (map (words_in punct) (there.0 ++ (here ++ there.1)))) (length there.0)
+        (first_least (words_in punct) there.0 here there.1 (w ∷ words) at.says at.begins at.ends))
+
+-- a text that contents hold is held by others in which each run that is the text stands
+pub held_among : (punct : List ℕ) (text contents others : List (List ℕ))
+    → ((run : Run) → RunAt (words_in punct) (words_of punct text) contents run
+    → (front : List (List ℕ)) × (back : List (List ℕ))
+    × (others ≡ front ++ (take run.count (drop run.start contents) ++ back)))
+    → holds_text punct text contents ≡ true → holds_text punct text others ≡ true
+held_among punct text contents others stands e =
+    ap (λ (o : Option Run). is_empty (words_of punct text) || is_some o) (run_is punct text others)
+    ∙ run_kept punct (words_of punct text) contents others stands
+    (sym (ap (λ (o : Option Run). is_empty (words_of punct text) || is_some o) (run_is punct text contents)) ∙ e)
 
 held_append : (punct : List ℕ) (text contents more : List (List ℕ)) → holds_text punct text contents ≡ true
     → holds_text punct text (contents ++ more) ≡ true
-held_append punct text contents more e =
-    ap (λ (o : Option Run). is_empty (words_of punct text) || is_some o) (run_is punct text (contents ++ more))
-    ∙ held_more punct (words_of punct text) contents more
-    (sym (ap (λ (o : Option Run). is_empty (words_of punct text) || is_some o) (run_is punct text contents)) ∙ e)
+held_append punct text contents more e = held_among punct text contents (contents ++ more)
+    (λ run at. let front = take run.start contents in
+    let here = take run.count (drop run.start contents) in
+    let back = drop (run.start + run.count) contents in (
+      front,
+      back ++ more,
+      ap (λ (c : List (List ℕ)). c ++ more) (cut_joined contents run.start run.count)
+          ∙ append_assoc front (here ++ back) more
+          ∙ ap (λ (c : List (List ℕ)). front ++ c) (append_assoc here back more),
+    )) e
 
 held_separated : (punct : List ℕ) (text contents more : List (List ℕ)) → holds_text punct text contents ≡ true
     → holds_text punct text (separated contents ++ more) ≡ true

@@ -1,9 +1,8 @@
 -- A content that is a tag in some style is one with every mark as punctuation, too.
 use Rattle.std.proofs.Common.{◌≡◌, ℕ, zero, suc, ◌<◌, Bool, true, false, nat_eq, List, [], ◌∷◌, length, take, drop}
-use Rattle.std.proofs.Common.{Option, None, is_some, refl, sym, ap, subst, ◌∙◌, inl, inr, arith}
-use Rattle.std.specs.Prelude.{◌||◌, ◌&&◌, not, find}
+use Rattle.std.proofs.Common.{None, is_some, refl, sym, ap, subst, ◌∙◌, inl, inr, arith}
+use Rattle.std.specs.Prelude.{◌||◌, ◌&&◌, not}
 use Rattle.std.specs.List.{starts_with, list_any, list_all}
-use Rattle.std.specs.Option.{option_map, option_or}
 use Rattle.std.specs.Char.{is_ascii_punctuation}
 use Rattle.std.specs.Cmp.Lexicographic.{pointwise}
 use Rattle.std.proofs.lemmas.Bool.Decides.{nat_tests}
@@ -11,14 +10,15 @@ use Rattle.reuse_notice.specs.declared.prefixes.Prefix.{Prefix}
 use Rattle.reuse_notice.specs.declared.prefixes.Prefix.TheVariants.{Spdx, SpdxC, SpdxSymbol, SpdxString, SpdxStringC}
 use Rattle.reuse_notice.specs.declared.prefixes.Prefix.TheVariants.{SpdxStringSymbol, String, StringC, StringSymbol}
 use Rattle.reuse_notice.specs.declared.prefixes.Prefix.TheVariants.{Symbol}
-use Rattle.reuse_notice.specs.Prefixes.{prefix_text, longest_first}
-use Rattle.reuse_notice.specs.Tags.{TagText, is_blank, is_filler, drop_front, drop_end, value_after, licence_lead}
-use Rattle.reuse_notice.specs.Tags.{contributor_lead, leaves_value, prefix_of, tag_in}
+use Rattle.reuse_notice.specs.Prefixes.{prefix_text}
+use Rattle.reuse_notice.specs.Tags.{is_blank, is_filler, drop_front, drop_end, licence_lead}
+use Rattle.reuse_notice.specs.Tags.{contributor_lead, tag_in}
 use Rattle.reuse_notice.proofs.BlankLemmas.{truth, drop_front-yes, drop_front-no, drop_front-nil}
 use Rattle.reuse_style.specs.declared.style.Style.{Style}
 use Rattle.reuse_style.specs.Styles.{punctuation_of}
 use Rattle.reuse_style.proofs.GoodLemmas.{no_punctuation}
 use Rattle.reuse_header.specs.Tagged.{has_tag}
+use Rattle.reuse_header.proofs.LeadLemmas.{unled}
 use Rattle.reuse_words.specs.Texts.{every_mark}
 
 -- ---- every mark
@@ -109,28 +109,10 @@ prefix_not b bytes l StringC = starts_not 67 b (drop 1 (prefix_text StringC)) by
 prefix_not b bytes l StringSymbol = starts_not 67 b (drop 1 (prefix_text StringSymbol)) bytes l.other
 prefix_not b bytes l Symbol = starts_not 194 b (drop 1 (prefix_text Symbol)) bytes l.sign
 
-leaves_none : (b : ℕ) (bytes : List ℕ) → Apart b → (prefix : Prefix) → leaves_value (b ∷ bytes) prefix ≡ false
-leaves_none b bytes l prefix = let isnt = prefix_not b bytes l prefix in rw isnt refl
-
-find_none : (test : Prefix → Bool) → ((prefix : Prefix) → test prefix ≡ false) → (prefixes : List Prefix)
-    → find test prefixes ≡ None
-find_none test none [] = refl
-find_none test none (prefix ∷ prefixes) = let isnt = none prefix in rw isnt (find_none test none prefixes)
-
-value_none : (lead text : List ℕ) → starts_with nat_eq text lead ≡ false → value_after lead text ≡ None
-value_none lead text isnt = rw isnt refl
-
-neither : {X : Type 0} (one other : Option X) → one ≡ None → other ≡ None → option_or one other ≡ None
-neither one other e f = rw e f
-
 untagged : (b : ℕ) (bytes : List ℕ) → Apart b → tag_in (b ∷ bytes) ≡ None
 untagged b bytes l =
-    neither _ _ (ap (option_map TagText.a_licence)
-    (value_none licence_lead (b ∷ bytes) (starts_not 83 b (drop 1 licence_lead) bytes l.letter)))
-    (neither _ _ (ap (option_map TagText.a_contributor)
-    (value_none contributor_lead (b ∷ bytes) (starts_not 83 b (drop 1 contributor_lead) bytes l.letter)))
-    (let none : prefix_of (b ∷ bytes) ≡ None = find_none (leaves_value (b ∷ bytes))
-    (leaves_none b bytes l) longest_first in rw none refl))
+    unled (b ∷ bytes) (starts_not 83 b (drop 1 licence_lead) bytes l.letter)
+    (starts_not 83 b (drop 1 contributor_lead) bytes l.letter) (prefix_not b bytes l)
 
 -- ---- a tag in a style
 

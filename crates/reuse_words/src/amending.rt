@@ -15,10 +15,11 @@ ghost use Rattle.reuse_words.specs.Amended.{free_to_write, block_without};
 ghost use Rattle.reuse_words.specs.Amended.{without_texts_of, neighbour_without_texts_of};
 
 use crate::information::{gap_of, with_free, without_texts};
-use crate::removal::{NeighbourChange, neighbour_change_of, read_block, read_neighbour};
+use crate::removal::{NeighbourChange, neighbour_change_of};
 use crate::text::HeaderText;
 use reuse_header::{
-    Block, HeaderRefusal, Splice, find, is_text_file, write_header, write_neighbour,
+    Block, HeaderRefusal, Splice, find, is_text_file, read_block, read_neighbour, write_header,
+    write_neighbour,
 };
 use reuse_notice::Info;
 use reuse_style::Style;

@@ -1,24 +1,20 @@
 //! The change that takes the header out of a file: its tags, and the block where it says nothing
 //! else.
-ghost use Rattle.std.specs.Prelude.{◌≡◌, ◌≤◌, [], Some, true, IfOk, length};
-ghost use Rattle.reuse_notice.specs.Infos.{info_of};
+ghost use Rattle.std.specs.Prelude.{◌≡◌, ◌≤◌, Some, length};
 ghost use Rattle.reuse_header.specs.Drafts.{IsWithin};
 ghost use Rattle.reuse_header.specs.Found.{block_view};
-ghost use Rattle.reuse_header.specs.Neighbour.{replaced_contents};
 ghost use Rattle.reuse_header.specs.Splices.{IsExpected};
-ghost use Rattle.reuse_style.specs.Styles.{punctuation_of};
 ghost use Rattle.reuse_words.specs.Removal.{empty_line_len, gap_behind, block_untagged, untagged_of};
 ghost use Rattle.reuse_words.specs.Removal.{neighbour_untagged_of, neighbour_change_of, edit_answer};
 ghost use Rattle.reuse_words.specs.Removal.{neighbour_answer, leaves_nothing, IsExpectedChange};
 
 use reuse_header::{
-    Block, HeaderRefusal, Splice, find, is_text_file, old_contents, remove_range,
-    replaced_contents, write_comment, write_neighbour_comment,
+    Block, HeaderRefusal, Splice, find, is_text_file, read_block, read_neighbour, remove_range,
+    write_comment, write_neighbour_comment,
 };
-use reuse_notice::Info;
 use reuse_style::Style;
 use reuse_text::{LONGEST_FILE, mark_len};
-use std::alloc::{AllocError, Global};
+use std::alloc::Global;
 
 /// What becomes of a neighbour file.
 #[derive(Debug, Drop)]
@@ -72,15 +68,6 @@ fn untag_block(
         return remove_range(alloc, file, block.start, end);
     }
     write_comment(alloc, file, style, block, info.free())
-}
-
-/// What a header block says.
-pub(crate) fn read_block(alloc: Global, style: &Style<'_>, block: Block) -> Result<Info, AllocError>
-    ensures { IfOk result
-        (λ info. info ≡ info_of (punctuation_of style.now) (block_view block.entry).contents) }
-{
-    let contents = old_contents(alloc, Some(block))?;
-    Info::read(alloc, contents.as_slice(), style.punctuation())
 }
 
 // How many bytes go behind a block that goes: an empty line, where a line that isn't empty follows.
@@ -140,14 +127,6 @@ fn untag_neighbour(alloc: Global, file: &[u8]) -> Result<Option<Splice>, HeaderR
         return Ok(None);
     }
     write_neighbour_comment(alloc, file, info.free())
-}
-
-/// What a neighbour file says.
-pub(crate) fn read_neighbour(alloc: Global, file: &[u8]) -> Result<Info, AllocError>
-    ensures { IfOk result (λ info. info ≡ info_of [] (replaced_contents true file.now)) }
-{
-    let contents = replaced_contents(alloc, file, true)?;
-    Info::read(alloc, contents.as_slice(), b"")
 }
 
 /// What becomes of a neighbour file by a change, if there is one.

@@ -1,29 +1,24 @@
-use Rattle.std.proofs.Common.{◌∙◌, sym, ap, subst, Option, None}
+use Rattle.std.proofs.Common.{◌≡◌, None, Some, refl}
 use Rattle.std.specs.Prelude.{Ok}
-use Rattle.std.specs.Option.{option_map, option_map_or}
-use Rattle.reuse_header.specs.declared.finder.Block.{Block}
-use Rattle.reuse_header.specs.Found.{block_view}
-use Rattle.reuse_header.specs.Header.{HeaderSpan}
-use Rattle.reuse_header.specs.Drafts.{IsWithin}
+use Rattle.std.specs.Option.{option_map_or}
 use Rattle.reuse_header.specs.Splices.{IsExpected}
-use Rattle.reuse_header.proofs.AnnotationLemmas.{found_within}
 use Rattle.reuse_words.specs.Removal.{edit_answer, block_untagged}
+use Rattle.reuse_header.proofs.AnnotationLemmas.{block_found_within, of_found}
 use Rattle.reuse_words.proofs.removal.remove_header.Goals as goal
 
 pub returns-in-None : goal.returns-in-None
 returns-in-None c =
-    ap (λ (o : Option HeaderSpan). edit_answer c.args.file.now
-    (option_map_or (block_untagged c.args.style.now c.args.file.now) o (Ok None)))
-    (sym c.find.ensures.block ∙ ap (λ (o : Option Block). option_map block_view o) c.in-None.is)
+    of_found c.args.style.now c.args.file.now
+    (λ o. edit_answer c.args.file.now (option_map_or (block_untagged c.args.style.now c.args.file.now) o (Ok None)) ≡ Ok None)
+    c.find.result.block None c.find.ensures.block c.in-None.is refl
 
 pub untag_block-requires-clause-within : goal.untag_block-requires-clause-within
 untag_block-requires-clause-within c =
-    subst (λ (o : Option Block). IsWithin c.args.file.now (option_map block_view o)) c.in-Some.is
-    (found_within c.args.style.now c.args.file.now c.find.result.block c.find.ensures.split)
+    block_found_within c.args.style.now c.args.file.now c.find.result.block c.in-Some.block c.find.ensures.split
+    c.in-Some.is
 
 pub returns-in-Some : goal.returns-in-Some
 returns-in-Some c =
-    subst (λ (o : Option HeaderSpan). IsExpected (edit_answer c.args.file.now (option_map_or
-    (block_untagged c.args.style.now c.args.file.now) o (Ok None))) c.untag_block.result)
-    (sym (sym c.find.ensures.block ∙ ap (λ (o : Option Block). option_map block_view o) c.in-Some.is))
-    c.untag_block.ensures
+    of_found c.args.style.now c.args.file.now
+    (λ o. IsExpected (edit_answer c.args.file.now (option_map_or (block_untagged c.args.style.now c.args.file.now) o (Ok None))) c.untag_block.result)
+    c.find.result.block (Some c.in-Some.block) c.find.ensures.block c.in-Some.is c.untag_block.ensures
