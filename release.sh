@@ -1,12 +1,13 @@
 #!/usr/bin/env bash
 # Makes the files of a release in dist/: a tarball that is unpacked into a prefix, a Debian package,
-# and their checksums. The same program and the same repository give the same bytes again.
+# and their checksums. Both have the documents. The same program and the same repository give the
+# same bytes again.
 # usage: ./release.sh             of the program, which ./install.sh proves and builds first
 #        ./release.sh PROGRAM     of a program that was built before, to try the packages
 set -euo pipefail
 shopt -s inherit_errexit
 top=$(cd "$(dirname "$0")" && pwd)
-case ${1:-} in -*) sed -n '4,5s/^# //p' "$0" >&2; exit 2 ;; esac
+case ${1:-} in -*) sed -n '5,6s/^# //p' "$0" >&2; exit 2 ;; esac
 umask 022
 export LC_ALL=C TZ=UTC
 # (the author of the commits)
@@ -130,13 +131,19 @@ changelog() {
     done < <(sed -nE 's/^## \[([0-9.]+)\] - ([0-9-]+)$/\1 \2/p' "$top/CHANGELOG.md") | sed '$d'
 }
 
+# The documents, in the folders in which their links look for each other. $1: the folder of README
+documents() {
+    mkdir -p "$1/docs"
+    install -m 644 "$top"/{README,CHANGELOG,CONTRIBUTING,SECURITY}.md "$1"
+    install -m 644 "$top"/docs/*.md "$top/docs/picture.svg" "$1/docs"
+}
+
 # The tarball's files are as in a prefix.
 tarball() {
     local name=reuse-undo-$version-x86_64-linux doc
     doc=$room/$name/share/doc/reuse-undo
     cp -a "$room/tree/usr" "$room/$name"
-    mkdir -p "$doc"
-    install -m 644 "$top/README.md" "$top/CHANGELOG.md" "$doc"
+    documents "$doc"
     install -m 644 "$top/LICENSES/Apache-2.0.txt" "$doc/LICENSE"
     copyright 'the file LICENSE beside this one' > "$doc/copyright"
     tar -C "$room" --sort=name --mtime="@$epoch" --owner=0 --group=0 --numeric-owner \
@@ -168,14 +175,15 @@ debian_package() {
     local at=$room/package doc
     doc=$at/usr/share/doc/reuse-undo
     cp -a "$room/tree" "$at"
-    mkdir -p "$doc" "$at/DEBIAN" "$at/usr/share/zsh/vendor-completions"
+    documents "$doc"
+    mkdir -p "$at/DEBIAN" "$at/usr/share/zsh/vendor-completions"
     # (where Debian's zsh looks for what packages bring)
     mv "$at/usr/share/zsh/site-functions"/* "$at/usr/share/zsh/vendor-completions"
     rmdir "$at/usr/share/zsh/site-functions"
     copyright /usr/share/common-licenses/Apache-2.0 > "$doc/copyright"
     changelog > "$doc/changelog"
-    install -m 644 "$top/README.md" "$doc"
-    gzip -9n "$doc/changelog" "$doc/README.md" "$at/usr/share/man/man1/reuse-undo.1"
+    # (the other documents stay as they are, since their links name each other)
+    gzip -9n "$doc/changelog" "$at/usr/share/man/man1/reuse-undo.1"
     cd "$at"
     control > DEBIAN/control
     find usr -type f | sort | xargs md5sum > DEBIAN/md5sums

@@ -1,6 +1,7 @@
 #!/usr/bin/env bash
 # Makes a release of the program, twice, in folders and under settings of their own, and compares:
-# each file is the same. Lintian finds no error in the package. Both are then tried where no kit is:
+# each file is the same. The documents are there to which their links lead. Lintian finds no error in
+# the package. Both are then tried where no kit is:
 # in the oldest Debian whose C library has all that the program asks for, made by debootstrap and
 # without a network, the package is installed, used and purged, and the tarball is unpacked into a
 # home folder. That wants root, and is passed over if debootstrap can't run; then the tarball is
@@ -32,8 +33,8 @@ release_in() {
   local at=$1
   shift
   mkdir -p "$at"
-  tar -C "$top" -cf - CHANGELOG.md LICENSES README.md REUSE.toml crates.txt install.sh release.sh \
-    share | tar -C "$at" -xmf -
+  tar -C "$top" -cf - CHANGELOG.md CONTRIBUTING.md LICENSES README.md REUSE.toml SECURITY.md \
+    crates.txt docs install.sh release.sh share | tar -C "$at" -xmf -
   (cd / && env "$@" "$at/release.sh" "$program" > "$room/log" 2>&1) || fail "$(cat "$room/log")"
 }
 
@@ -51,6 +52,30 @@ twice() {
   [[ $(ls "$room/one/dist" | wc -l) == 3 ]] || fail "dist/ has $(ls "$room/one/dist")"
   (cd "$room/one/dist" && sha256sum --quiet -c SHA256SUMS) || fail 'SHA256SUMS is wrong'
   echo 'a release has the same bytes twice'
+}
+
+# What both have beside the program, and that each link of a document leads to a file that is there
+documents() {
+  local at doc it document link links=0
+  mkdir "$room/unpacked"
+  tar -xzf "$tarball" --strip-components=1 -C "$room/unpacked"
+  dpkg-deb -x "$deb" "$room/package"
+  for at in "$room/unpacked" "$room/package/usr"; do
+    doc=$at/share/doc/reuse-undo
+    for it in bin/reuse-undo share/reuse-undo/styles.toml share/doc/reuse-undo/copyright; do
+      [[ -s $at/$it ]] || fail "${at##*/} has no $it"
+    done
+    for document in README.md docs/TUTORIAL.md docs/HOWTO.md docs/REFERENCE.md docs/FROM_REUSE.md; do
+      cmp "$top/$document" "$doc/$document" || fail "${at##*/} has not the same $document"
+    done
+    while IFS=$'\t' read -r document link; do
+      links=$((links + 1))
+      [[ -e $(dirname "$document")/$link ]] || fail "$document: no file for the link $link"
+    done < <(grep -oE '\]\([^)# ]+' "$doc"/*.md "$doc"/docs/*.md | grep -v '](https\?:' |
+      sed -E 's/:\]\(/\t/')
+  done
+  ((links >= 100)) || fail "only $links links"
+  echo "both have the documents, and $links links lead to files"
 }
 
 # What the package says of itself, and what lintian says of it
@@ -200,6 +225,7 @@ elsewhere() {
 }
 
 twice
+documents
 package
 suite=$(oldest)
 why=$(hindrance "$suite")
