@@ -1,7 +1,9 @@
+pub mod Advice
 pub mod FoundNames
 pub mod Lines
 pub mod Names
 pub mod Objects
 pub mod Outputs
+pub mod ReadyLeft
 pub mod RefusalTexts
 pub mod RowLines

@@ -5,10 +5,12 @@
 //! Tested by `dry_run.sh`, `show_and_revert.sh` and `refusals.sh` in `tests/`.
 #![tactic(auto)]
 
+pub mod advice;
 pub mod fault;
 pub mod found_names;
 pub mod lines;
 pub mod names;
 pub mod objects;
 pub mod output;
+pub mod ready_left;
 mod rows;
