@@ -10,6 +10,7 @@ pub mod FileWords
 pub mod Found
 pub mod Globs
 pub mod HeaderTexts
+pub mod LineAdvice
 pub mod LineFaults
 pub mod ListedCommands
 pub mod Places

@@ -7,6 +7,7 @@
 //! `tests/`.
 #![tactic(auto)]
 
+pub mod advice;
 mod amend_options;
 mod arguments;
 mod context;
