@@ -7,6 +7,7 @@ pub mod HonestFiles
 pub mod LeftBySyncs
 pub mod NamedLemmas
 pub mod NotedWrites
+pub mod PathLossLemmas
 pub mod PrunedFolders
 pub mod PutKept
 pub mod PutLemmas
@@ -14,3 +15,4 @@ pub mod ReadLemmas
 pub mod RoundEnds
 pub mod RoundLemmas
 pub mod SeenLemmas
+pub mod SetFiles

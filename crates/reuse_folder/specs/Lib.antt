@@ -5,6 +5,7 @@ pub mod FolderWrites
 pub mod Honesty
 pub mod JournalOwners
 pub mod OwnerChanges
+pub mod PathLosses
 pub mod Reported
 pub mod RolledBack
 pub mod Rounds

@@ -12,4 +12,5 @@ pub mod Session
 pub mod Showing
 pub mod Stops
 pub mod Openings
+pub mod PathLosses
 pub mod SafeCalls

@@ -7,6 +7,7 @@ pub mod FoundNames
 pub mod LineRuns
 pub mod LinesInTurn
 pub mod OneCall
+pub mod PathsFound
 pub mod Recoveries
 pub mod RefusalTexts
 pub mod RunLine

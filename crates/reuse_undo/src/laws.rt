@@ -1,10 +1,18 @@
-//! What the contracts of the program say of lines that follow one another: the function has no
-//! body, and its contract is the law. Nobody calls it.
-ghost use Rattle.std.specs.Prelude.{List};
-ghost use Rattle.reuse_session.specs.session.Stops.{RunState, FilesAt};
+//! What the contracts of the program say of lines that follow one another, and of a loss of power:
+//! what a function's contract says is the law. Nobody calls them.
+ghost use Rattle.std.specs.Prelude.{[], Bool, List, Option};
+ghost use Rattle.reuse_change.specs.Files.{Files};
+ghost use Rattle.reuse_folder.specs.Honesty.{IsCrashState};
+ghost use Rattle.reuse_folder.specs.PathLosses.{SupposesDurableTree};
+ghost use Rattle.reuse_session.specs.session.Machine.{Snapshots};
+ghost use Rattle.reuse_session.specs.session.Stops.{CrashStatesWithin, RunState, FilesAt};
 ghost use Rattle.reuse_undo.specs.run.LinesInTurn.{CarriedLine, HoldsSame, AreInTurn, RunAsModel};
+ghost use Rattle.reuse_undo.specs.run.PathsFound.{IsBeforeAfterOrKept};
 
+use reuse_disk::DiskSystem;
+use reuse_folder::{DiskStore, losses_stay_at_their_paths};
 use reuse_print::output::Sink;
+use reuse_session::loss_laws::losses_leave_files_before_or_after;
 use reuse_store::Store;
 
 /// Lines are carried out one after the other, each on the files that the one before it left, as
@@ -17,3 +25,20 @@ pub fn lines_run_as_the_model<S: Store, O: Sink>()
         → FilesAt (S.files first) start.state start.next → (end : RunState) × RunAsModel O.contents lines start end
         × FilesAt (S.files last) end.state end.next }
 {}
+
+/// A folder is left by a run with stops, and whatever might have been left of its tree at the start
+/// isn't supposed to be durable. What a loss of power leaves has at each path the file of the run's
+/// state, or that of the next one, if a call was interrupted. Only where no barrier was over a path
+/// since the start, it may be what might have been left there at the start.
+pub fn folders_lose_no_file_but_what_was_unsynced<S: DiskSystem + Drop>(folder: &DiskStore<S>)
+    ensures { (state : Snapshots) (next : Option Snapshots) (forgetting : Bool) (initial : List Files) (left : Files)
+        → CrashStatesWithin ⟦<DiskStore<S> as Store>⟧ folder.now state next forgetting
+        → SupposesDurableTree folder.now.calls.start initial folder.now.calls.initial_crash_states
+        → IsCrashState folder.now.calls.start initial folder.now.calls.calls left
+        → (kept : Files) × IsCrashState folder.now.calls.start initial [] kept
+        × IsBeforeAfterOrKept (⟦<DiskStore<S> as Store>⟧.crash_states folder.now) state next folder.now.calls.calls
+        kept left }
+{
+    losses_stay_at_their_paths();
+    losses_leave_files_before_or_after::<DiskStore<S>>();
+}

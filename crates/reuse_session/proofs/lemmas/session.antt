@@ -15,6 +15,7 @@ pub mod KnownCommands
 pub mod LaterSteps
 pub mod LeftByRuns
 pub mod Modelling
+pub mod PathLosses
 pub mod Peeking
 pub mod Previewing
 pub mod ReachedFiles
