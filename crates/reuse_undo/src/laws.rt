@@ -7,7 +7,7 @@ ghost use Rattle.reuse_folder.specs.PathLosses.{SupposesDurableTree};
 ghost use Rattle.reuse_session.specs.session.Machine.{Snapshots};
 ghost use Rattle.reuse_session.specs.session.Stops.{CrashStatesWithin, RunState, FilesAt};
 ghost use Rattle.reuse_undo.specs.run.LinesInTurn.{CarriedLine, HoldsSame, AreInTurn, RunAsModel};
-ghost use Rattle.reuse_undo.specs.run.PathsFound.{IsBeforeAfterOrKept};
+ghost use Rattle.reuse_undo.specs.run.PathsFound.{IsFoundByPaths};
 
 use reuse_disk::DiskSystem;
 use reuse_folder::{DiskStore, losses_stay_at_their_paths};
@@ -26,17 +26,18 @@ pub fn lines_run_as_the_model<S: Store, O: Sink>()
         × FilesAt (S.files last) end.state end.next }
 {}
 
-/// A folder is left by a run with stops, and whatever might have been left of its tree at the start
-/// isn't supposed to be durable. What a loss of power leaves has at each path the file of the run's
-/// state, or that of the next one, if a call was interrupted. Only where no barrier was over a path
-/// since the start, it may be what might have been left there at the start.
-pub fn folders_lose_no_file_but_what_was_unsynced<S: DiskSystem + Drop>(folder: &DiskStore<S>)
+/// A folder was left by a run with stops, and its record supposes that each file of the tree was
+/// durable at the start. Whatever else might really have been left then, what a loss of power leaves
+/// now has at each path the file of the run's state; or that of the next state, if a call was
+/// interrupted. Only a file that the run has not changed may be what might have been left at the
+/// start.
+pub fn folders_lose_no_file_that_a_run_has_changed<S: DiskSystem + Drop>(folder: &DiskStore<S>)
     ensures { (state : Snapshots) (next : Option Snapshots) (forgetting : Bool) (initial : List Files) (left : Files)
         → CrashStatesWithin ⟦<DiskStore<S> as Store>⟧ folder.now state next forgetting
         → SupposesDurableTree folder.now.calls.start initial folder.now.calls.initial_crash_states
         → IsCrashState folder.now.calls.start initial folder.now.calls.calls left
         → (kept : Files) × IsCrashState folder.now.calls.start initial [] kept
-        × IsBeforeAfterOrKept (⟦<DiskStore<S> as Store>⟧.crash_states folder.now) state next folder.now.calls.calls
+        × IsFoundByPaths (⟦<DiskStore<S> as Store>⟧.crash_states folder.now) state next folder.now.calls.start
         kept left }
 {
     losses_stay_at_their_paths();

@@ -7,6 +7,7 @@ pub mod DrawnLemmas
 pub mod DrawnLines
 pub mod FoundInside
 pub mod OneCallLemmas
+pub mod PathsFoundLemmas
 pub mod PreviewedLemmas
 pub mod ModelLemmas
 pub mod RecoveryLemmas

@@ -3,18 +3,16 @@ use Rattle.std.specs.Prelude.{◌≡◌, ◌⊎◌, ℕ, List, Option}
 use Rattle.std.specs.FinMap.{get}
 use Rattle.reuse_change.specs.Files.{Files, tree_of}
 use Rattle.reuse_change.specs.Tree.{undo_folder_of}
-use Rattle.reuse_store.specs.Calls.{Call}
-use Rattle.reuse_folder.specs.PathLosses.{IsNeverSynced}
 use Rattle.reuse_session.specs.session.Machine.{Snapshots}
 use Rattle.reuse_session.specs.session.PathLosses.{IsFileOf}
 
 -- What is left has a journal that may be left where the tree was durable. Each path of its tree has the file of the
--- state, or that of the next one; but where no barrier was over the path, it may have the file that was kept from the
--- start.
-pub record IsBeforeAfterOrKept (MayBe : Files → Type 0) (state : Snapshots) (next : Option Snapshots)
-    (calls : List Call) (kept left : Files) : Type 0 where
+-- state, or that of the next one. But a path at which one of these is the file of the start may have what was kept
+-- there.
+pub record IsFoundByPaths (MayBe : Files → Type 0) (state : Snapshots) (next : Option Snapshots)
+    (start kept left : Files) : Type 0 where
   pub other : Files
   pub may : MayBe other
   pub journal : undo_folder_of left ≡ undo_folder_of other
   pub each : (path : List ℕ) → IsFileOf state next path (get (tree_of left) path)
-      ⊎ ((get (tree_of left) path ≡ get (tree_of kept) path) × IsNeverSynced path calls)
+      ⊎ ((get (tree_of left) path ≡ get (tree_of kept) path) × IsFileOf state next path (get (tree_of start) path))
