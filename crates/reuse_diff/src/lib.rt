@@ -10,7 +10,7 @@ ghost use Rattle.std.specs.Option.{option_copied};
 ghost use Rattle.std.specs.Io.KnownBytes.{Appends};
 ghost use Rattle.reuse_change.specs.Change.{path_of};
 ghost use Rattle.reuse_diff.specs.DiffText.{head_text, title_text, both_text, mode_text, names_text, side_text};
-ghost use Rattle.reuse_diff.specs.DiffText.{end_text, binary_text, old_binary_text, new_binary_text, is_binary};
+ghost use Rattle.reuse_diff.specs.DiffText.{end_text, binary_text, is_binary};
 ghost use Rattle.reuse_diff.specs.DiffText.{is_either_binary, part_before, part_after, same_side, IsDiff, IsBody};
 ghost use Rattle.reuse_diff.specs.DiffText.{IsTextBody, IsRange, IsRangeBody, IsRangeLines, IsRecord};
 ghost use Rattle.reuse_diff.specs.Hunks.{hunk_text};
@@ -282,27 +282,12 @@ fn print_binary<W: Write>(out: &mut W, input: DiffInput<'_>) -> io::Result<()>
     ensures { OnOk result (Appends (W.contents out.old) (W.contents out.new)
         (binary_text input.entry.path.now (option_copied input.entry.before) (option_copied input.entry.after))) }
 {
-    print_old_binary(out, input)?;
-    print_new_binary(out, input)?;
-    Ok(())
-}
-
-fn print_old_binary<W: Write>(out: &mut W, input: DiffInput<'_>) -> io::Result<()>
-    ensures { OnOk result (Appends (W.contents out.old) (W.contents out.new)
-        (old_binary_text input.entry.path.now (option_copied input.entry.before))) }
-{
     write!(out, "Binary files ")?;
     print_side(out, "a/", input.path, input.before)?;
-    Ok(())
-}
-
-fn print_new_binary<W: Write>(out: &mut W, input: DiffInput<'_>) -> io::Result<()>
-    ensures { OnOk result (Appends (W.contents out.old) (W.contents out.new)
-        (new_binary_text input.entry.path.now (option_copied input.entry.after))) }
-{
     write!(out, " and ")?;
     print_side(out, "b/", input.path, input.after)?;
-    writeln!(out, " differ")
+    writeln!(out, " differ")?;
+    Ok(())
 }
 
 fn print_side<W: Write>(
