@@ -65,20 +65,23 @@ abbrev pub some_paths_text : NameDisplay → List ℕ → List (List ℕ) → Li
 some_paths_text names word [] = codes "nothing changed" ++ 10 ∷ []
 some_paths_text names word (path ∷ paths) = lines_of names word (path ∷ paths)
 
+-- a line for each path that changed, or that there was none, and then one for each that was left
+abbrev pub done_text : NameDisplay → List ℕ → List (List ℕ) → List ℕ → List (List ℕ) → List ℕ
+done_text names word changed left_word left = some_paths_text names word changed ++ lines_of names left_word left
+
 -- what a revert is printed as: the paths at which a step was taken back, and then those that were left
 abbrev pub reverted_text : NameDisplay → Reverted → List ℕ
 reverted_text names reverted =
-    some_paths_text names (codes "changed") reverted.changed ++ lines_of names (codes "skipped") reverted.skipped
+    done_text names (codes "changed") reverted.changed (codes "skipped") reverted.skipped
 
 -- what a run is printed as: the paths that changed, and then those that an amendment left
 abbrev pub changed_text : NameDisplay → List (List ℕ) → List (List ℕ) → List ℕ
-changed_text names paths left =
-    some_paths_text names (codes "changed") paths ++ lines_of names (codes "left") left
+changed_text names paths left = done_text names (codes "changed") paths (codes "left") left
 
 -- what a recovery is printed as: the paths that were rolled back, and then those that were left
 abbrev pub recovered_text : NameDisplay → Recovered → List ℕ
 recovered_text names recovered =
-    some_paths_text names (codes "set back") recovered.changed ++ lines_of names (codes "skipped") recovered.skipped
+    done_text names (codes "set back") recovered.changed (codes "skipped") recovered.skipped
 
 -- what forgetting is printed as: a line for each number, or that there was none
 abbrev pub forgotten_line : ℕ → List ℕ

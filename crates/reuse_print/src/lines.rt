@@ -5,7 +5,7 @@ ghost use Rattle.std.specs.List.{flat_map};
 ghost use Rattle.reuse_print.specs.Lines.{line_of, lines_of, path_outcome_line, path_outcome_lines, would_change};
 ghost use Rattle.reuse_print.specs.Lines.{change_lines, kind_word, path_count, IsResponseText, IsShownText};
 ghost use Rattle.reuse_print.specs.Lines.{forgotten_line, forgotten_text, recovered_text, changed_text, reverted_text};
-ghost use Rattle.reuse_print.specs.Lines.{some_paths_text};
+ghost use Rattle.reuse_print.specs.Lines.{done_text, some_paths_text};
 ghost use Rattle.reuse_shown.specs.JoinedTexts.{AppendsSome};
 
 use crate::rows::{print_row, print_rows};
@@ -139,16 +139,22 @@ fn print_changed<W: Write>(
     ensures { OnOk result
         (Appends (W.contents out.old) (W.contents out.new) (changed_text names paths.now left.now)) }
 {
-    print_some_paths(out, names, "changed", paths)?;
-    print_paths(out, names, "left", left)
+    print_done(out, names, "changed", paths, "left", left)
 }
 
 /// Prints what a revert did: the paths that changed, and then those that were left.
 fn print_reverted<W: Write>(out: &mut W, names: NameDisplay, reverted: &Reverted) -> io::Result<()>
     ensures { OnOk result (Appends (W.contents out.old) (W.contents out.new) (reverted_text names reverted.now)) }
 {
-    print_some_paths(out, names, "changed", reverted.changed.as_slice())?;
-    print_paths(out, names, "skipped", reverted.skipped.as_slice())
+    let changed = reverted.changed.as_slice();
+    print_done(
+        out,
+        names,
+        "changed",
+        changed,
+        "skipped",
+        reverted.skipped.as_slice(),
+    )
 }
 
 /// Prints what a recovery did: the paths that were rolled back, and then those that were left.
@@ -159,8 +165,32 @@ fn print_recovered<W: Write>(
 ) -> io::Result<()>
     ensures { OnOk result (Appends (W.contents out.old) (W.contents out.new) (recovered_text names recovered.now)) }
 {
-    print_some_paths(out, names, "set back", recovered.changed.as_slice())?;
-    print_paths(out, names, "skipped", recovered.skipped.as_slice())
+    let changed = recovered.changed.as_slice();
+    print_done(
+        out,
+        names,
+        "set back",
+        changed,
+        "skipped",
+        recovered.skipped.as_slice(),
+    )
+}
+
+/// Prints a line for each path that changed, or that nothing did, and then one for each that was
+/// left.
+fn print_done<W: Write>(
+    out: &mut W,
+    names: NameDisplay,
+    word: &str,
+    changed: &[PathText],
+    left_word: &str,
+    left: &[PathText],
+) -> io::Result<()>
+    ensures { OnOk result (Appends (W.contents out.old) (W.contents out.new)
+        (done_text names word.now changed.now left_word.now left.now)) }
+{
+    print_some_paths(out, names, word, changed)?;
+    print_paths(out, names, left_word, left)
 }
 
 /// Prints a line for each path, or that nothing changed.
