@@ -7,9 +7,10 @@
 //! `folder.sh`, `races.sh`, `syncs.sh`, `owners.sh` and `fail_system_calls.sh` in `tests/`.
 #![tactic(auto)]
 
-ghost use Rattle.std.specs.Prelude.{◌≡◌, ◌≢◌, ◌+◌, [], IfOk, IsErr, MatchResult, OnErr, Some, is_ok, length, min};
+ghost use Rattle.std.specs.Prelude.{◌≡◌, ◌≢◌, ◌⊎◌, ◌+◌, [], IfOk, IsErr, MatchResult, OnErr, Some, is_ok, length, min};
 ghost use Rattle.std.specs.Prelude.{true};
 ghost use Rattle.std.specs.FinMap as map;
+ghost use Rattle.std.specs.List.{Contains};
 ghost use Rattle.reuse_store.specs.Store.{reading_of};
 ghost use Rattle.reuse_folder.specs.FolderReads.{IsReadWith};
 ghost use Rattle.reuse_folder.specs.Barriers.{HasNoted, HaveNoted};
@@ -24,7 +25,7 @@ ghost use Rattle.reuse_disk.specs.Noted.{IsNoted, StayNoted};
 ghost use Rattle.reuse_disk.specs.Synced.{AreAbove, AreSynced, IsSyncedAt};
 ghost use Rattle.reuse_disk.specs.Written.{is_kept};
 ghost use Rattle.reuse_store.specs.Asked.{FailsAsRead, OnlyReads, IsLater, IsPut, IsRemoval, AreWrites};
-ghost use Rattle.reuse_store.specs.Asked.{IsBarrier};
+ghost use Rattle.reuse_store.specs.Asked.{IsBarrier, Leaves};
 ghost use Rattle.reuse_change.specs.Layout.{journal_folder};
 ghost use Rattle.reuse_change.specs.Parts.{joined};
 ghost use Rattle.reuse_store.specs.Calls.{Start};
@@ -90,6 +91,9 @@ impl<R: Files<File = File> + AllocGlobal + Clone + Drop> DiskStore<HostSystem<R>
         ghost start: { Start }
         ensures files { ⟦<HostStore<R> as Store>⟧.files result ≡ start.files }
         ensures honest { AreFiles start.files → ⟦<HostStore<R> as Store>⟧.honest result }
+        // A loss of power leaves no more than what might be left at the start.
+        ensures lost { Leaves ⟦<HostStore<R> as Store>⟧ result
+            (λ left. (left ≡ start.files) ⊎ Contains start.initial_crash_states left) }
         // Syncs are made as it is asked for, and the journal is noted for the first barrier.
         ensures syncs { result.folder.unsynced.syncs ≡ syncs }
         ensures noted { IsNoted result.folder.unsynced journal_folder }

@@ -2,7 +2,11 @@
 use Rattle.std.specs.Prelude.{◌≡◌, ◌⊎◌, ℕ, Bool, false, true, List, Option, None, Some, Result, Ok, Err, string_bytes}
 use Rattle.std.specs.declared.alloc.Global.{Global}
 use Rattle.std.specs.declared.vec.Vec.{Vec}
+use Rattle.std.specs.List.{Contains}
+use Rattle.reuse_change.specs.Files.{AreFiles}
 use Rattle.reuse_change.specs.Layout.{journal_folder}
+use Rattle.reuse_store.specs.Asked.{Leaves}
+use Rattle.reuse_store.specs.Calls.{Start}
 use Rattle.reuse_store.specs.declared.store.Store.{Ghosts}
 use Rattle.reuse_command.specs.declared.command.Command.TheVariants.{AddStyles}
 use Rattle.reuse_command.specs.declared.failure.Failure.TheVariants.{Memory}
@@ -110,6 +114,13 @@ pub record OpensFolder (root : List ℕ) (settings : Settings) (opened : OpenedS
   pub owners : opened.owner_change ≡ settings.owner_change
   pub noted : IsNoted opened.unsynced journal_folder
 
+-- The store holds the files of the start, and is honest if these are files. A loss of power leaves no more of it than
+-- what might be left then.
+pub record HoldsStart {S : Type 0} (store : Ghosts S) (start : Start) (folder : S) : Type 0 where
+  pub files : store.files folder ≡ start.files
+  pub honest : AreFiles start.files → store.honest folder
+  pub lost : Leaves store folder (λ left. (left ≡ start.files) ⊎ Contains start.initial_crash_states left)
+
 -- how the answer is printed
 abbrev pub options_of : Line → RunOptions → PrintOptions
 options_of line run_options = record { format = line.format; names = run_options.names }
@@ -148,16 +159,18 @@ IsNotBegun result = (fault : Fault) × ((fault ≡ faults.InUse) ⊎ (fault ≡ 
     × (result ≡ result_of (Ok (Err fault)))
 
 -- The folder that the line names was locked and opened, and the line carried out there, with texts that were found for
--- it.
+-- it. The folder's files are those of the start.
 pub record RunsOnFolder {S O : Type 0} (store : Ghosts S) (sink : sinks.Ghosts O) (noted : S → Unsynced)
-    (opened : S → OpenedStore) (line : Line) (run_options : RunOptions) (result : RunResult) : Type 0 where
+    (opened : S → OpenedStore) (start : Start) (line : Line) (run_options : RunOptions)
+    (result : RunResult) : Type 0 where
   pub folder : S
   pub texts : List LicenceText
   pub end : S
   pub opens : OpensFolder (string_bytes line.root) run_options.settings (opened folder)
+  pub holds : HoldsStart store start folder
   pub works : WorksUnlessDenied store sink noted line run_options texts folder end result
 
 abbrev pub RunsLine : {S O : Type 0} → Ghosts S → sinks.Ghosts O → (noted : S → Unsynced)
-    → (opened : S → OpenedStore) → Line → RunOptions → RunResult → Type 0
-RunsLine store sink noted opened line run_options result =
-    IsNotBegun result ⊎ RunsOnFolder store sink noted opened line run_options result
+    → (opened : S → OpenedStore) → Start → Line → RunOptions → RunResult → Type 0
+RunsLine store sink noted opened start line run_options result =
+    IsNotBegun result ⊎ RunsOnFolder store sink noted opened start line run_options result

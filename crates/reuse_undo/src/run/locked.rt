@@ -3,11 +3,12 @@
 ghost use Rattle.std.specs.Prelude.{◌≡◌, ◌⊎◌, IfOk, IfErr, string_bytes, false, true};
 ghost use Rattle.reuse_change.specs.Layout.{journal_folder};
 ghost use Rattle.reuse_store.specs.Asked.{OnlyReads};
+ghost use Rattle.reuse_store.specs.Calls.{Start};
 ghost use Rattle.reuse_arguments.specs.Requests.{with_texts};
 ghost use Rattle.reuse_disk.specs.Noted.{IsNoted};
 ghost use Rattle.reuse_print.specs.declared.fault.Fault.TheVariants as faults;
-ghost use Rattle.reuse_undo.specs.run.LineRuns.{AnswersLine, OpensFolder, RunsLine, WorksUnlessDenied};
-ghost use Rattle.reuse_undo.specs.run.LineRuns.{is_listing, options_of};
+ghost use Rattle.reuse_undo.specs.run.LineRuns.{AnswersLine, HoldsStart, OpensFolder, RunsLine};
+ghost use Rattle.reuse_undo.specs.run.LineRuns.{WorksUnlessDenied, is_listing, options_of};
 ghost use Rattle.reuse_undo.specs.run.OneCall.{StaysThenLooks};
 
 use crate::run::access_refusal::AccessRefusal;
@@ -42,19 +43,21 @@ pub struct RunOptions {
     pub settings: Settings,
 }
 
-/// Carries out a line.
+/// Carries out a line. The folder isn't asked for what it holds, so that is unknown: the contract
+/// holds for any files at the start, and for anything else that a loss of power might leave then.
 pub fn run_line<R: Files<File = File> + AllocGlobal + Clock + Env + Print + Eprint + Clone + Drop>(
     rt: &R,
     alloc: Global,
     line: Line,
     run_options: RunOptions,
 ) -> RunResult
+    ghost start: { Start }
     ensures { RunsLine ⟦<HostStore<R> as Store>⟧ ⟦<Printed<'static, R> as Sink>⟧ (λ store. store.folder.unsynced)
         (λ store. record {
           root = string_bytes store.folder.open_folders.root_path;
           unsynced = store.folder.unsynced;
           owner_change = store.folder.ownership.owner_change;
-        }) line run_options result }
+        }) start line run_options result }
 {
     match tools_for(rt, alloc, &line, run_options) {
         Ok(tools) => {
@@ -84,6 +87,7 @@ fn tools_for<R: Files<File = File> + AllocGlobal + Clock + Eprint + Clone + Drop
     line: &Line,
     run_options: RunOptions,
 ) -> Result<(HostStore<R>, LicenceTexts, Progress<R>), Fault>
+    ghost start: { Start }
     ensures opens { IfOk result
         (λ tools. OpensFolder (string_bytes line.now.root) run_options.settings
         (record {
@@ -91,6 +95,7 @@ fn tools_for<R: Files<File = File> + AllocGlobal + Clock + Eprint + Clone + Drop
           unsynced = tools.0.folder.unsynced;
           owner_change = tools.0.folder.ownership.owner_change;
         })) }
+    ensures holds { IfOk result (λ tools. HoldsStart ⟦<HostStore<R> as Store>⟧ start tools.0) }
     ensures fault { IfErr result (λ fault. (fault ≡ faults.InUse) ⊎ (fault ≡ faults.Memory)) }
 {
     let lock = lock_root(rt, alloc, line.root.as_str())?;
@@ -106,6 +111,8 @@ fn folder_at<R: Files<File = File> + AllocGlobal + Clone + Drop>(
     lock: RootLock,
     settings: Settings,
 ) -> Result<HostStore<R>, AllocError>
+    ghost start: { Start }
+    ensures holds { IfOk result (λ folder. HoldsStart ⟦<HostStore<R> as Store>⟧ start folder) }
     ensures syncs { IfOk result (λ folder. folder.folder.unsynced.syncs ≡ settings.syncs) }
     ensures noted { IfOk result (λ folder. IsNoted folder.folder.unsynced journal_folder) }
     ensures owners { IfOk result (λ folder. folder.folder.ownership.owner_change ≡ settings.owner_change) }

@@ -8,6 +8,7 @@ returns-in-Ok g c =
       texts = c.in-Ok.tools.1;
       end = c.work_with-folder.result.0;
       opens = c.in-Ok.ensures.opens;
+      holds = c.in-Ok.ensures.holds;
       works = c.work_with-folder.ensures;
     })
 
