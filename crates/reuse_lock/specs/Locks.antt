@@ -1,10 +1,14 @@
 -- The locks that a run asks for, and what of them it holds.
 use Rattle.std.specs.Prelude.{◌≡◌, ◌≢◌, ◌⊎◌, ℕ, ◌+◌, ◌<◌, List, [], ◌∷◌, ◌++◌, length, Option, IfSome, slice_index}
+use Rattle.std.specs.Prelude.{Bool, true, false, Result, Ok, Err, is_some}
+use Rattle.std.specs.List.{list_any}
+use Rattle.std.specs.declared.fs.TryLockError.{TryLockError}
+use Rattle.std.specs.declared.fs.TryLockError.TheVariants.{Error, WouldBlock}
 use Rattle.reuse_lock.specs.declared.LockedFolders.{LockedFolders}
 use Rattle.reuse_lock.specs.declared.record.LockMode.{LockMode}
 use Rattle.reuse_lock.specs.declared.record.LockMode.TheVariants.{Exclusive, Shared}
 use Rattle.reuse_lock.specs.declared.record.LockAnswer.{LockAnswer}
-use Rattle.reuse_lock.specs.declared.record.LockAnswer.TheVariants.{Granted, HeldByAnother, NoLocks}
+use Rattle.reuse_lock.specs.declared.record.LockAnswer.TheVariants.{Granted, HeldByAnother, NoLocks, NotOpened}
 use Rattle.reuse_lock.specs.LockCall.{LockCall}
 use Rattle.reuse_lock.specs.LockCall.LockCall.{PathCall, TryCall}
 
@@ -51,7 +55,30 @@ opened_in (call ∷ calls) = opened_in calls
 abbrev pub AreOpen : LockedFolders → Type 0
 AreOpen held = length held.folders.items ≡ opened_in (calls_of held)
 
+-- for a folder that was asked for there was no lock to be had at all
+abbrev pub lacks_lock : List LockCall → Bool
+lacks_lock [] = false
+lacks_lock (TryCall folder mode NoLocks ∷ calls) = true
+lacks_lock (call ∷ calls) = lacks_lock calls
+
+-- why that was is known of an open folder, if there was such a one
+abbrev pub AreExplained : LockedFolders → Type 0
+AreExplained held = list_any (λ folder. is_some folder.error) held.folders.items ≡ lacks_lock (calls_of held)
+
 -- ---- for private clauses
+
+-- there is no lock to be had
+abbrev pub has_no_lock : LockAnswer → Bool
+has_no_lock NoLocks = true
+has_no_lock Granted = false
+has_no_lock HeldByAnother = false
+has_no_lock NotOpened = false
+
+-- the call failed, and not since another run holds the lock
+abbrev pub has_error : Result (Unit {0}) TryLockError → Bool
+has_error (Ok done) = false
+has_error (Err WouldBlock) = false
+has_error (Err (Error error)) = true
 
 -- what was asked before was asked
 abbrev pub AreKept : List LockCall → List LockCall → Type 0

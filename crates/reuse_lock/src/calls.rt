@@ -1,9 +1,10 @@
 //! The calls of the system by which a root is locked. Each is noted by the one function here that
 //! makes it: that what is noted is the call that is made is not proved, and has to be read here.
-ghost use Rattle.std.specs.Prelude.{◌≡◌, ◌≢◌, ◌↔◌, ◌∷◌, Err, IsOk, MatchOption};
+ghost use Rattle.std.specs.Prelude.{◌≡◌, ◌≢◌, ◌↔◌, ◌∷◌, Err, IfSome, IsOk, MatchOption, is_some};
 ghost use Rattle.std.specs.Option.{option_map};
 ghost use Rattle.std.specs.Path.{path_buf_bytes};
 ghost use Rattle.reuse_lock.specs.LockCall.LockCall.{PathCall, TryCall};
+ghost use Rattle.reuse_lock.specs.Locks.{has_error, has_no_lock};
 
 use crate::record::{LockAnswer, LockMode, LockRecord};
 use std::alloc::Global;
@@ -39,6 +40,7 @@ fn answer_of(tried: Result<(), TryLockError>) -> LockAnswer
     ensures granted { (result ≡ LockAnswer.Granted) ↔ IsOk tried }
     ensures held { (result ≡ LockAnswer.HeldByAnother) ↔ (tried ≡ Err TryLockError.WouldBlock) }
     ensures opened { result ≢ LockAnswer.NotOpened }
+    ensures no_lock { has_no_lock result ≡ has_error tried }
 {
     match tried {
         Ok(()) => LockAnswer::Granted,
@@ -48,7 +50,9 @@ fn answer_of(tried: Result<(), TryLockError>) -> LockAnswer
 }
 
 /// Why the lock couldn't be had at all, as on a file system without locks.
-fn error_of(tried: &Result<(), TryLockError>) -> Option<io::Error> {
+fn error_of(tried: &Result<(), TryLockError>) -> Option<io::Error>
+    ensures { is_some result ≡ has_error tried.now }
+{
     match tried {
         Err(TryLockError::Error(error)) => Some(*error),
         Ok(()) | Err(TryLockError::WouldBlock) => None,
@@ -81,6 +85,7 @@ pub fn try_lock<R: Files<File = File>>(
     ensures noted { noted.new.calls ≡ TryCall path.now mode result.1 ∷ noted.old.calls }
     ensures opened { MatchOption result.0 (result.1 ≡ LockAnswer.NotOpened)
         (λ folder. result.1 ≢ LockAnswer.NotOpened) }
+    ensures error { IfSome result.0 (λ folder. is_some folder.error ≡ has_no_lock result.1) }
 {
     let Some(folder) = open_folder(rt, path).unwrap_or(None) else {
         note_lock(noted, path, mode, LockAnswer::NotOpened);

@@ -2,9 +2,9 @@
 #![tactic(auto)]
 
 ghost use Rattle.std.specs.Prelude.{◌≡◌, ◌↔◌, ◌⊎◌, ◌+◌, List, ℕ, [], length, IfErr, IfOk, IsErr, MatchOption, OnOk};
-ghost use Rattle.std.specs.Prelude.{string_bytes};
-ghost use Rattle.reuse_lock.specs.Locks.{calls_of, folder_of, AreKept, AreOpen, AreLockedAbove, AreLockedAt};
-ghost use Rattle.reuse_lock.specs.Locks.{HasNoSlash, IsAbove, IsCutAtLast, IsGranted, IsLocked};
+ghost use Rattle.std.specs.Prelude.{◌∷◌, ◌++◌, is_some, string_bytes};
+ghost use Rattle.reuse_lock.specs.Locks.{calls_of, folder_of, lacks_lock, AreExplained, AreKept, AreOpen};
+ghost use Rattle.reuse_lock.specs.Locks.{AreLockedAbove, AreLockedAt, HasNoSlash, IsAbove, IsCutAtLast, IsGranted, IsLocked};
 ghost use Rattle.reuse_lock.specs.declared.fault.LockFault.TheVariants.{InUse, Memory};
 
 mod calls;
@@ -31,6 +31,7 @@ pub struct RootLock {
     held: LockedFolders,
     ghost locked: { ∥ IsLocked (string_bytes root) (calls_of held) ∥₁ },
     ghost open: { AreOpen held },
+    ghost explained: { AreExplained held },
 }
 
 /// The folders that are locked, as far as they could be opened, and what was asked for them.
@@ -46,6 +47,7 @@ impl RootLock {
         ensures root { result.0 ≡ self.root }
         ensures locked { ∥ IsLocked (string_bytes result.0) (calls_of result.1) ∥₁ }
         ensures open { AreOpen result.1 }
+        ensures explained { AreExplained result.1 }
     {
         let RootLock { root, held } = self;
         (root, held)
@@ -57,6 +59,7 @@ impl LockedFolders {
     fn new(alloc: Global) -> LockedFolders
         ensures calls { calls_of result ≡ [] }
         ensures open { AreOpen result }
+        ensures explained { AreExplained result }
     {
         LockedFolders {
             folders: Vec::new(alloc),
@@ -66,8 +69,15 @@ impl LockedFolders {
 
     /// Why a folder couldn't be locked, as on a file system without locks, where one couldn't: then
     /// another run isn't kept out there.
-    pub fn error(&self) -> Option<io::Error> {
-        self.folders.iter().find_map(|folder| folder.error)
+    pub fn error(&self) -> Option<io::Error>
+        ensures { AreExplained self.now → is_some result ≡ lacks_lock (calls_of self.now) }
+    {
+        for folder in &self.folders {
+            if let Some(error) = folder.error {
+                return Some(error);
+            }
+        }
+        None
     }
 }
 
@@ -92,6 +102,7 @@ fn lock_folder<R: Files<File = File>>(
 ) -> Result<(), LockFault>
     ensures granted { OnOk result (IsGranted path.now mode (calls_of held.new)) }
     ensures open { AreOpen held.old → OnOk result (AreOpen held.new) }
+    ensures explained { AreExplained held.old → OnOk result (AreExplained held.new) }
     ensures kept { AreKept (calls_of held.old) (calls_of held.new) }
     ensures fault { IfErr result (λ fault. (fault ≡ InUse) ⊎ (fault ≡ Memory)) }
 {
@@ -107,6 +118,7 @@ fn lock_folder<R: Files<File = File>>(
 fn keep_open(folder: AskedFolder, held: &mut LockedFolders) -> Result<(), LockFault>
     ensures same { calls_of held.new ≡ calls_of held.old }
     ensures open { OnOk result (length held.new.folders.items ≡ length held.old.folders.items + 1) }
+    ensures last { OnOk result (held.new.folders.items ≡ held.old.folders.items ++ folder ∷ []) }
     ensures fault { IfErr result (λ fault. fault ≡ Memory) }
 {
     match held.folders.push(folder) {
@@ -140,6 +152,7 @@ fn lock_at_slashes<R: Files<File = File>>(
 ) -> Result<(), LockFault>
     ensures locked { OnOk result (AreLockedAt path.now (calls_of held.new)) }
     ensures open { AreOpen held.old → OnOk result (AreOpen held.new) }
+    ensures explained { AreExplained held.old → OnOk result (AreExplained held.new) }
     ensures kept { AreKept (calls_of held.old) (calls_of held.new) }
     ensures fault { IfErr result (λ fault. (fault ≡ InUse) ⊎ (fault ≡ Memory)) }
 {
@@ -161,6 +174,7 @@ fn lock_above<R: Files<File = File>>(
     ensures locked { OnOk result
         ((folder : List ℕ) → IsAbove path.now folder → IsGranted folder LockMode.Shared (calls_of held.new)) }
     ensures open { AreOpen held.old → OnOk result (AreOpen held.new) }
+    ensures explained { AreExplained held.old → OnOk result (AreExplained held.new) }
     ensures kept { AreKept (calls_of held.old) (calls_of held.new) }
     ensures fault { IfErr result (λ fault. (fault ≡ InUse) ⊎ (fault ≡ Memory)) }
 {
@@ -179,6 +193,7 @@ fn lock_above_root<R: Files<File = File> + AllocGlobal>(
 ) -> Result<(), LockFault>
     ensures locked { OnOk result (AreLockedAbove root.now (calls_of held.new)) }
     ensures open { AreOpen held.old → OnOk result (AreOpen held.new) }
+    ensures explained { AreExplained held.old → OnOk result (AreExplained held.new) }
     ensures fault { IfErr result (λ fault. (fault ≡ InUse) ⊎ (fault ≡ Memory)) }
 {
     match absolute_path(rt, root, &mut held.asked) {
@@ -198,6 +213,7 @@ pub fn lock_root<R: Files<File = File> + AllocGlobal>(
     ensures root { IfOk result (λ lock. string_bytes lock.root ≡ root.now) }
     ensures locked { IfOk result (λ lock. IsLocked root.now (calls_of lock.held)) }
     ensures open { IfOk result (λ lock. AreOpen lock.held) }
+    ensures explained { IfOk result (λ lock. AreExplained lock.held) }
     ensures fault { IfErr result (λ fault. (fault ≡ InUse) ⊎ (fault ≡ Memory)) }
 {
     let mut held = LockedFolders::new(alloc);

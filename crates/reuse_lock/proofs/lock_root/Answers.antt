@@ -11,6 +11,8 @@ invariant_of-result g c =
     record {
       locked = ∣ subst (λ root. IsLocked root after) (sym c.in_ok-from_str.ensures.ok) locked ∣₁;
       «open» = c.in_ok-lock_folder.ensures.«open» (c.in_ok-lock_above_root.ensures.«open» c.new-held.ensures.«open»);
+      explained =
+          c.in_ok-lock_folder.ensures.explained (c.in_ok-lock_above_root.ensures.explained c.new-held.ensures.explained);
     }
 
 pub returns-clause-locked : goal.returns-clause-locked
