@@ -5,7 +5,7 @@ use Rattle.std.specs.List.{drop-map, flat_map, prefix_len, suffix_len}
 use Rattle.std.specs.Str.{bytes_eq}
 use Rattle.std.specs.Borrow.{Bor}
 use Rattle.std.proofs.Math.Seq.{drop-append_seam}
-use Rattle.std.proofs.lemmas.Bool.{cases_Bool}
+use Rattle.std.proofs.lemmas.Bool.{cases_Bool, cases_lt}
 use Rattle.std.proofs.lemmas.Grind.{flat_map-append}
 use Rattle.std.proofs.lemmas.List.{append-nil, length-drop, length-map, length-reverse, length-take, get_or-reverse}
 use Rattle.std.proofs.lemmas.List.{map-append, reverse-append, take-append-drop, take-append-le}
@@ -17,7 +17,7 @@ use Rattle.reuse_diff.specs.declared.hunk.Piece.{Piece}
 use Rattle.reuse_diff.specs.TextLines.{texts_of}
 use Rattle.reuse_diff.specs.Hunks.{stays, is_kept, old_line, new_line, old_lines, new_lines, pieces_with, same_front}
 use Rattle.reuse_diff.specs.Hunks.{same_end, KeepsEnds}
-use Rattle.reuse_diff.proofs.LineLists.{texts_of-at, length-texts_of}
+use Rattle.reuse_diff.proofs.LineLists.{texts_of-at, length-texts_of, above-more, below-more}
 
 -- ---- how many both begin with, line by line
 
@@ -46,7 +46,7 @@ front-stops old new i d low low' differ so =
 
 -- ---- the same of lines as they are lent
 
-pub above-all : (old new : List (Bor (List ℕ))) (i : ℕ) (d : Bor (List ℕ)) → i < length old → i < length new
+above-all : (old new : List (Bor (List ℕ))) (i : ℕ) (d : Bor (List ℕ)) → i < length old → i < length new
     → (get_or old i d).now ≡ (get_or new i d).now
     → same_front (texts_of old) (texts_of new) ≡ i + same_front (drop i (texts_of old)) (drop i (texts_of new))
     → same_front (texts_of old) (texts_of new) ≡ i + 1 + same_front (drop (i + 1) (texts_of old))
@@ -63,6 +63,18 @@ above-stops old new i d low low' differ so =
     front-stops (texts_of old) (texts_of new) i d.now (rw length-texts_of low) (rw length-texts_of low')
     (λ here. differ (sym (texts_of-at old i d) ∙ here ∙ texts_of-at new i d)) so
 
+-- so far both begin with the same lines
+pub record BeginAlike (old new : List (Bor (List ℕ))) (i : ℕ) : Type 0 where
+  pub same : take i (texts_of old) ≡ take i (texts_of new)
+  pub all : same_front (texts_of old) (texts_of new) ≡ i + same_front (drop i (texts_of old)) (drop i (texts_of new))
+
+pub above-on : (old new : List (Bor (List ℕ))) (i : ℕ) (d : Bor (List ℕ)) → i < length old → i < length new
+    → (get_or old i d).now ≡ (get_or new i d).now → BeginAlike old new i → BeginAlike old new (i + 1)
+above-on old new i d low low' here so = record {
+  same = above-more old new i d low low' so.same here;
+  all = above-all old new i d low low' here so.all;
+}
+
 -- one of the two ends there
 front-ends : (old new : List (List ℕ)) (i : ℕ) → (length old ≤ i) ⊎ (length new ≤ i)
     → same_front old new ≡ i + same_front (drop i old) (drop i new) → i ≡ same_front old new
@@ -73,12 +85,21 @@ front-ends old new i (inr late) so =
     let few = common_prefix_len-le bytes_eq (drop i old) (drop i new) in
     omega (arith, few.1, length-drop i new)
 
-pub above-ends : (old new : List (Bor (List ℕ))) (i : ℕ) → (length old ≤ i) ⊎ (length new ≤ i)
+-- the shorter one does
+at_one : (old new : List (Bor (List ℕ))) (i : ℕ) → (length old ≤ length new → length old ≤ i)
+    → (length new < length old → length new ≤ i) → (length old ≤ i) ⊎ (length new ≤ i)
+at_one old new i short long = elim (cases_lt (length new) (length old)) [
+  | inl e ↦ inr (long e)
+  | inr e ↦ inl (short e)
+]
+
+pub above-ends : (old new : List (Bor (List ℕ))) (i : ℕ) → (length old ≤ length new → length old ≤ i)
+    → (length new < length old → length new ≤ i)
     → same_front (texts_of old) (texts_of new) ≡ i + same_front (drop i (texts_of old)) (drop i (texts_of new))
     → i ≡ same_front (texts_of old) (texts_of new)
-above-ends old new i late so =
+above-ends old new i short long so =
     front-ends (texts_of old) (texts_of new) i
-    (elim late [ inl e ↦ inl (rw length-texts_of e) | inr e ↦ inr (rw length-texts_of e) ]) so
+    (elim (at_one old new i short long) [ inl e ↦ inl (rw length-texts_of e) | inr e ↦ inr (rw length-texts_of e) ]) so
 
 -- ---- how many both end with
 
@@ -93,7 +114,7 @@ at_end lines i d low =
 length-back : (lines : List (Bor (List ℕ))) → length (reverse (texts_of lines)) ≡ length lines
 length-back lines = length-reverse (texts_of lines) ∙ length-texts_of lines
 
-pub below-all : (old new : List (Bor (List ℕ))) (i : ℕ) (d : Bor (List ℕ)) → i < length old → i < length new
+below-all : (old new : List (Bor (List ℕ))) (i : ℕ) (d : Bor (List ℕ)) → i < length old → i < length new
     → (get_or old (length old - 1 - i) d).now ≡ (get_or new (length new - 1 - i) d).now
     → same_end (texts_of old) (texts_of new) ≡ i + same_front (drop i (reverse (texts_of old)))
     (drop i (reverse (texts_of new)))
@@ -111,12 +132,27 @@ below-stops old new i d low low' differ so =
     front-stops (reverse (texts_of old)) (reverse (texts_of new)) i d.now (rw length-back low) (rw length-back low')
     (λ here. differ (sym (at_end old i d low) ∙ here ∙ at_end new i d low')) so
 
-pub below-ends : (old new : List (Bor (List ℕ))) (i : ℕ) → (length old ≤ i) ⊎ (length new ≤ i)
+pub below-ends : (old new : List (Bor (List ℕ))) (i : ℕ) → (length old ≤ length new → length old ≤ i)
+    → (length new < length old → length new ≤ i)
     → same_end (texts_of old) (texts_of new) ≡ i + same_front (drop i (reverse (texts_of old)))
     (drop i (reverse (texts_of new))) → i ≡ same_end (texts_of old) (texts_of new)
-below-ends old new i late so =
+below-ends old new i short long so =
     front-ends (reverse (texts_of old)) (reverse (texts_of new)) i
-    (elim late [ inl e ↦ inl (rw length-back e) | inr e ↦ inr (rw length-back e) ]) so
+    (elim (at_one old new i short long) [ inl e ↦ inl (rw length-back e) | inr e ↦ inr (rw length-back e) ]) so
+
+-- so far both end with the same lines
+pub record EndAlike (old new : List (Bor (List ℕ))) (i : ℕ) : Type 0 where
+  pub same : drop (length old - i) (texts_of old) ≡ drop (length new - i) (texts_of new)
+  pub all : same_end (texts_of old) (texts_of new) ≡ i + same_front (drop i (reverse (texts_of old)))
+      (drop i (reverse (texts_of new)))
+
+pub below-on : (old new : List (Bor (List ℕ))) (i : ℕ) (d : Bor (List ℕ)) → i < length old → i < length new
+    → (get_or old (length old - 1 - i) d).now ≡ (get_or new (length new - 1 - i) d).now → EndAlike old new i
+    → EndAlike old new (i + 1)
+below-on old new i d low low' here so = record {
+  same = below-more old new i d low low' so.same here;
+  all = below-all old new i d low low' here so.all;
+}
 
 -- where the lines are those of pieces
 pub end_behind : (old new : List (Bor (List ℕ))) (a b n : ℕ) (olds news : List (List ℕ)) → olds ≡ texts_of old

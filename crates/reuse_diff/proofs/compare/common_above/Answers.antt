@@ -1,18 +1,12 @@
 -- One more line of both is the same.
-use Rattle.std.proofs.Common.{arith, [], inl, inr, length, ◌≤◌, ◌⊎◌}
-use Rattle.std.proofs.lemmas.Bool.{cases_lt}
-use Rattle.reuse_diff.proofs.LineLists.{above-more}
-use Rattle.reuse_diff.proofs.CommonLines.{above-all, above-stops, above-ends}
+use Rattle.std.proofs.Common.{arith, []}
+use Rattle.reuse_diff.proofs.CommonLines.{above-on, above-stops, above-ends}
 use Rattle.reuse_diff.proofs.compare.common_above.Goals as goal
 
 pub loop-count-preserved : goal.loop-count-preserved
 loop-count-preserved c =
-    record {
-      same = above-more c.args.old.now c.args.new.now c.loop-count.count (record { ref_ptr = (0, 0); now = [] })
-          (omega arith) (omega arith) c.loop-count.invariant.same (c.is_same.ensures.0 c.if-not-is_same.false);
-      all = above-all c.args.old.now c.args.new.now c.loop-count.count (record { ref_ptr = (0, 0); now = [] })
-          (omega arith) (omega arith) (c.is_same.ensures.0 c.if-not-is_same.false) c.loop-count.invariant.all;
-    }
+    above-on c.args.old.now c.args.new.now c.loop-count.count (record { ref_ptr = (0, 0); now = [] })
+    (omega arith) (omega arith) (c.is_same.ensures.0 c.if-not-is_same.false) c.loop-count.invariant
 
 pub returns-then-not-is_same-clause-all : goal.returns-then-not-is_same-clause-all
 returns-then-not-is_same-clause-all c =
@@ -22,10 +16,6 @@ returns-then-not-is_same-clause-all c =
 
 pub returns-clause-all : goal.returns-clause-all
 returns-clause-all c =
-    let late : (length c.args.old.now ≤ c.loop-count.count) ⊎ (length c.args.new.now ≤ c.loop-count.count) =
-    elim (cases_lt (length c.args.new.now) (length c.args.old.now)) [
-      | inl e ↦ inr (omega arith)
-      | inr e ↦ inl (omega arith)
-    ] in
-    let all = above-ends c.args.old.now c.args.new.now c.loop-count.count late c.loop-count.invariant.all in
+    let all = above-ends c.args.old.now c.args.new.now c.loop-count.count (λ short. omega arith) (λ long. omega arith)
+    c.loop-count.invariant.all in
     omega arith
