@@ -16,20 +16,20 @@ use Rattle.reuse_header.specs.Neighbour.{is_text}
 use Rattle.reuse_tags.specs.Everywhere.{amended_everywhere}
 use Rattle.reuse_change.specs.Listing.{is_folder}
 use Rattle.reuse_plan.specs.Accepted.{CanNeighbourBeAmended, CanFileBeAmended, CanBeAmended, CanAmend, FitsEntry}
-use Rattle.reuse_plan.specs.Accepted.{CanTableBeAmended, CanCoveredBeAmended, CanTextBeAmended}
-use Rattle.reuse_plan.specs.Accepted.{IsNeighbourAccepted, IsTextAccepted, IsPassedOver}
-use Rattle.reuse_plan.specs.Amend.{style_or_named, style_for, amendment_edit, amend_neighbour, amend_inside}
-use Rattle.reuse_plan.specs.Amend.{amend_covered, amended_where, amended_at, table_edit, table_amendment, amended_table}
-use Rattle.reuse_plan.specs.Amend.{amend_beside, amend_own_text, amend_table, has_no_style_unread, is_passed_over}
-use Rattle.reuse_plan.specs.Amend.{text_edit}
-use Rattle.reuse_plan.specs.AmendmentPlan.{Expected}
-use Rattle.reuse_plan.specs.Annotate.{neighbour_of}
+use Rattle.reuse_plan.specs.Accepted.{CanTableBeAmended, CanCoveredBeAmended, CanTextBeAmended, IsNeighbourAccepted}
+use Rattle.reuse_plan.specs.Accepted.{IsTextAccepted, IsPassedOver}
+use Rattle.reuse_edit.specs.Amend.{style_or_named, style_for, amendment_edit, amend_neighbour, amend_inside}
+use Rattle.reuse_edit.specs.Amend.{amend_covered, amended_where, amended_at, table_edit, table_amendment, amended_table}
+use Rattle.reuse_edit.specs.Amend.{amend_beside, amend_own_text, amend_table, has_no_style_unread, is_passed_over}
+use Rattle.reuse_edit.specs.Amend.{text_edit, remove_block, removal_edit, some_text, amend_block}
+use Rattle.reuse_edit.specs.AmendmentPlan.{Expected}
+use Rattle.reuse_edit.specs.Annotate.{neighbour_of}
 use Rattle.reuse_plan.specs.Annotated.{IsStyleOf}
 use Rattle.reuse_command.specs.Command.{has_root, values_of}
-use Rattle.reuse_plan.specs.Tables.{is_table}
+use Rattle.reuse_edit.specs.Tables.{is_table}
 use Rattle.reuse_command.specs.Covered.{is_covered}
-use Rattle.reuse_plan.specs.Edit.{edit_between}
-use Rattle.reuse_plan.specs.Outcome.{Edit, outcome_of, edits_of}
+use Rattle.reuse_edit.specs.Edit.{edit_between, Edit, edit_to}
+use Rattle.reuse_plan.specs.Outcome.{outcome_of, edits_of}
 use Rattle.reuse_plan.specs.TreeStyles.{styles_in}
 use Rattle.reuse_style.specs.Kinds.{OwnKinds, kind_of_file}
 use Rattle.reuse_plan.specs.Selected.{amended_paths}
@@ -44,19 +44,15 @@ use Rattle.reuse_command.specs.declared.reply.Refusal.{Refusal}
 use Rattle.reuse_command.specs.declared.reply.Refusal.TheVariants as refusals
 use Rattle.reuse_plan.proofs.AcceptedFiles.{IsDone, done_nothing, done_rest, done_by}
 use Rattle.reuse_plan.proofs.AnnotationPathOutcomes.{all_at, root_from_test, test_from_root}
-use Rattle.reuse_plan.proofs.AmendedFiles.{KeepsBlock, KeepsNeighbour, style_reason}
+use Rattle.reuse_plan.proofs.AmendedFiles.{KeepsBlock, KeepsNeighbour, style_reason, reason_unread, unread_reason}
 use Rattle.reuse_plan.proofs.AmendedTrees.{each_done}
-use Rattle.reuse_plan.proofs.Annotating.{both_err}
-use Rattle.reuse_plan.proofs.Outcomes.{edits_of_tree, done, held, tree_comes}
-use Rattle.reuse_plan.proofs.Results.{err_or}
+use Rattle.reuse_edit.proofs.Results.{both_err, err_or}
+use Rattle.reuse_plan.proofs.Outcomes.{edits_of_tree, held, tree_comes}
+use Rattle.reuse_edit.proofs.EditResults.{done}
 use Rattle.reuse_plan.proofs.CommandEdits.{edits_at, amendments_by_names, amendment_edits, of_amendment}
-use Rattle.reuse_plan.proofs.TableLemmas.{not_table}
+use Rattle.reuse_edit.proofs.TableLemmas.{not_table}
 use Rattle.reuse_plan.proofs.LeftParts.{beside_parts, inside_parts, turn_done}
-use Rattle.reuse_plan.specs.Amend.{remove_block, removal_edit, some_text}
-use Rattle.reuse_plan.specs.Edit.{edit_to}
-use Rattle.reuse_plan.specs.Removed.{removal_of, text_left, neighbour_removal_of, neighbour_left}
-use Rattle.reuse_plan.specs.Amend.{amend_block}
-use Rattle.reuse_plan.proofs.AmendedFiles.{reason_unread, unread_reason}
+use Rattle.reuse_edit.specs.Removed.{removal_of, text_left, neighbour_removal_of, neighbour_left}
 
 not_false : (b : Bool) → not b ≡ false → b ≡ true
 not_false true e = refl

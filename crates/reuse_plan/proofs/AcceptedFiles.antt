@@ -15,34 +15,34 @@ use Rattle.reuse_style.specs.declared.style.Kind.{Kind}
 use Rattle.reuse_style.specs.declared.style.Kind.TheVariants as kind
 use Rattle.reuse_style.specs.declared.style.Style.{Style}
 use Rattle.reuse_change.specs.Files.{Files, Clashes}
-use Rattle.reuse_plan.specs.Annotation.{annotated, annotation_of, made_by, neighbour_annotated, neighbour_annotation_of}
+use Rattle.reuse_edit.specs.Annotation.{annotated, annotation_of, made_by, neighbour_annotated, neighbour_annotation_of}
 use Rattle.reuse_plan.specs.Accepted.{IsUnread, HasRoomForNeighbour, RulesAccept, CanBeAnnotated}
-use Rattle.reuse_plan.specs.Annotate.{neighbour_of, neighbour_is_tagged, goes_to_neighbour, target_of}
-use Rattle.reuse_plan.specs.Annotate.{target_of_unknown, target_by_kind, target_by_style, target_by_bytes, edit_by}
-use Rattle.reuse_plan.specs.Annotate.{edit_inside, edit_neighbour, edit_of_neighbour, edit_target, annotated_where}
-use Rattle.reuse_plan.specs.Annotate.{annotated_at}
+use Rattle.reuse_edit.specs.Annotate.{neighbour_of, neighbour_is_tagged, goes_to_neighbour, target_of}
+use Rattle.reuse_edit.specs.Annotate.{target_of_unknown, target_by_kind, target_by_style, target_by_bytes, edit_by}
+use Rattle.reuse_edit.specs.Annotate.{edit_inside, edit_neighbour, edit_of_neighbour, edit_target, annotated_where}
+use Rattle.reuse_edit.specs.Annotate.{annotated_at}
 use Rattle.reuse_plan.specs.Annotated.{Pair, pair_at, HasKind, IsSkipped, IsCommented, IsAccompanied, TakesComment}
 use Rattle.reuse_plan.specs.Annotated.{TakesNeighbour}
-use Rattle.reuse_plan.specs.Annotations.{Expected}
+use Rattle.reuse_edit.specs.Annotations.{Expected}
 use Rattle.reuse_change.specs.Clash.{is_clash}
 use Rattle.reuse_command.specs.Covered.{is_covered}
-use Rattle.reuse_plan.specs.Edit.{Edit}
+use Rattle.reuse_edit.specs.Edit.{Edit}
 use Rattle.reuse_style.specs.Kinds.{OwnKinds, kind_of_file}
 use Rattle.reuse_command.specs.declared.command.Scope.{Scope}
 use Rattle.reuse_command.specs.declared.command.Unknown.{Unknown}
 use Rattle.reuse_command.specs.declared.command.Unknown.TheVariants as unknown
-use Rattle.reuse_plan.specs.declared.target.Target.{Target}
-use Rattle.reuse_plan.specs.declared.target.Target.TheVariants.{Inside, InNeighbour, Nowhere}
+use Rattle.reuse_edit.specs.declared.target.Target.{Target}
+use Rattle.reuse_edit.specs.declared.target.Target.TheVariants.{Inside, InNeighbour, Nowhere}
 use Rattle.reuse_command.specs.declared.reply.Refusal.{Refusal}
 use Rattle.reuse_command.specs.declared.reply.Refusal.TheVariants as refusals
 use Rattle.reuse_plan.proofs.Accepting.{not_clashing, free_of_clash}
 use Rattle.reuse_plan.proofs.AnnotatedFiles.{ReplacesBlock, InsertsBlock, ReplacesNeighbour, InsertsNeighbour}
-use Rattle.reuse_plan.proofs.AnnotatedFiles.{pair_then, annotated_there, Takes, aimed, is_read, no_neighbour, takes}
-use Rattle.reuse_plan.proofs.AnnotatedFiles.{unread}
+use Rattle.reuse_plan.proofs.AnnotatedFiles.{pair_then, annotated_there, Takes, is_read, no_neighbour, takes, unread}
+use Rattle.reuse_edit.proofs.EditedPlaces.{aimed}
 use Rattle.reuse_plan.proofs.OneAnnotation.{no_kind, no_neighbour_too, one_style, comment_not_skipped}
 use Rattle.reuse_plan.proofs.OneAnnotation.{beside_not_skipped, style_or_unknown}
-use Rattle.reuse_plan.proofs.Outcomes.{done}
-use Rattle.reuse_plan.proofs.Results.{err_or}
+use Rattle.reuse_edit.proofs.EditResults.{done}
+use Rattle.reuse_edit.proofs.Results.{err_or}
 
 -- something is done, or nothing has to be
 abbrev pub IsDone : Result (Option Edit) Refusal → Type 0

@@ -11,16 +11,17 @@ use Rattle.reuse_dep5.specs.Conversion.{converted}
 use Rattle.reuse_change.specs.Files.{Files, Clashes}
 use Rattle.reuse_plan.specs.Accepted.{CanBeDownloaded, CanDownload, CanConvert}
 use Rattle.reuse_change.specs.Clash.{is_clash}
-use Rattle.reuse_plan.specs.Conversion.{dep5_path, toml_path, replaced_by, conversion_where, conversion_edits}
-use Rattle.reuse_plan.specs.Downloads.{text_for, refusal_of_found, id_refusal, ids_refusal, licence_edit}
-use Rattle.reuse_plan.specs.Downloads.{unless_refused}
-use Rattle.reuse_plan.specs.Licence.{is_id, licence_path, licence_id}
-use Rattle.reuse_plan.specs.Outcome.{Edit, outcome_of, edits_of}
+use Rattle.reuse_plan.specs.Conversion.{dep5_path, replaced_by, conversion_where, conversion_edits}
+use Rattle.reuse_edit.specs.Tables.{toml_path}
+use Rattle.reuse_edit.specs.Licence.{text_for, is_id, licence_path, licence_id}
+use Rattle.reuse_plan.specs.Downloads.{refusal_of_found, id_refusal, ids_refusal, licence_edit, unless_refused}
+use Rattle.reuse_edit.specs.Edit.{Edit}
+use Rattle.reuse_plan.specs.Outcome.{outcome_of, edits_of}
 use Rattle.reuse_command.specs.declared.command.Command.TheVariants.{ConvertDep5, Download}
 use Rattle.reuse_command.specs.declared.licence.LicenceText.{LicenceText}
 use Rattle.reuse_command.specs.declared.reply.Refusal.TheVariants as refusals
 use Rattle.reuse_plan.proofs.Downloading.{IsMade, none_expected}
-use Rattle.reuse_plan.proofs.LicenceLemmas.{id_of_path}
+use Rattle.reuse_edit.proofs.LicenceLemmas.{id_of_path}
 use Rattle.reuse_plan.proofs.Outcomes.{ok_edits, edits_of_tree, edits_unless, held, tree_comes}
 use Rattle.reuse_plan.proofs.Converting.{both, by_file}
 use Rattle.reuse_store.proofs.Testing.{clashes_keys}

@@ -1,6 +1,7 @@
 -- Where amend isn't refused at a path, its file and the neighbour become what the rules say of them.
 use Rattle.std.proofs.Common.{◌≡◌, ◌⊎◌, inl, inr, ℕ, ◌≤◌, Bool, true, false, cond, not, nat_lt, List, ◌++◌, length}
-use Rattle.std.proofs.Common.{◌&&◌, is_none, take, drop, Option, Some, None, Ok, Err, refl, sym, ap, ap₂, subst, ◌∙◌, Result}
+use Rattle.std.proofs.Common.{◌&&◌, is_none, take, drop, Option, Some, None, Ok, Err, refl, sym, ap, ap₂, subst, ◌∙◌}
+use Rattle.std.proofs.Common.{Result}
 use Rattle.std.specs.Option.{option_map, option_map_or}
 use Rattle.reuse_command.specs.Reading.{get, Files}
 use Rattle.std.proofs.lemmas.Bool.{not-false, false≢true, and_parts, ltb-true, ltb-false}
@@ -21,25 +22,24 @@ use Rattle.reuse_header.specs.Annotation as header
 use Rattle.reuse_header.specs.Header.{HeaderSpan, header_of, span_in}
 use Rattle.reuse_header.specs.Neighbour.{is_text, neighbour_end}
 use Rattle.reuse_tags.specs.Everywhere.{amended_everywhere}
-use Rattle.reuse_plan.proofs.BetweenLemmas.{between, between_by, between_makes}
+use Rattle.reuse_edit.proofs.BetweenLemmas.{between, between_by, between_makes}
 use Rattle.reuse_plan.proofs.TagLemmas.{keeps_values}
 use Rattle.reuse_change.specs.Listing.{is_folder}
 use Rattle.reuse_command.specs.Command.{values_of}
-use Rattle.reuse_plan.specs.Amend.{style_or_named, style_for, amendment_edit, amend_neighbour, amend_beside}
-use Rattle.reuse_plan.specs.Amend.{amend_own_text, is_passed_over, text_edit}
-use Rattle.reuse_plan.specs.Amend.{amend_covered, table_edit, table_amendment, amended_table, amend_table}
-use Rattle.reuse_plan.specs.Amend.{amended_where, amended_at}
+use Rattle.reuse_edit.specs.Amend.{style_or_named, style_for, amendment_edit, amend_neighbour, amend_beside}
+use Rattle.reuse_edit.specs.Amend.{amend_own_text, is_passed_over, text_edit, amend_covered, table_edit}
+use Rattle.reuse_edit.specs.Amend.{table_amendment, amended_table, amend_table, amended_where, amended_at, remove_block}
+use Rattle.reuse_edit.specs.Amend.{amend_block, has_no_style, has_no_style_unread}
 use Rattle.reuse_plan.specs.Amended.{KeepsOutsideBlock, IsNeighbourAmended, IsFileAmended, HasNoPlace, IsTableAmended}
 use Rattle.reuse_plan.specs.Amended.{IsAmended, BecomesNeighbour, BecomesFile, HasNoText}
-use Rattle.reuse_plan.specs.Amend.{remove_block}
 use Rattle.reuse_plan.proofs.RemovedFiles.{left_here, left_other, neighbour_keeps, text_keeps, between_edit}
 use Rattle.reuse_plan.proofs.LeftParts.{beside_parts, inside_parts}
-use Rattle.reuse_plan.specs.AmendmentPlan.{Expected}
-use Rattle.reuse_plan.specs.Annotate.{neighbour_of}
+use Rattle.reuse_edit.specs.AmendmentPlan.{Expected}
+use Rattle.reuse_edit.specs.Annotate.{neighbour_of}
 use Rattle.reuse_plan.specs.Annotated.{IsSameAround, IsStyleOf, HasKind, pair_at}
-use Rattle.reuse_plan.specs.Tables.{is_table}
+use Rattle.reuse_edit.specs.Tables.{is_table}
 use Rattle.reuse_command.specs.Covered.{is_covered}
-use Rattle.reuse_plan.specs.Edit.{Edit, file_then}
+use Rattle.reuse_edit.specs.Edit.{Edit, file_then}
 use Rattle.reuse_style.specs.Kinds.{OwnKinds, kind_of_file, kind_unread}
 use Rattle.reuse_style.proofs.RuleLemmas.{kind_if_unread}
 use Rattle.reuse_command.specs.declared.command.FileAmendment.{FileAmendment}
@@ -49,13 +49,13 @@ use Rattle.reuse_command.specs.declared.header_fault.HeaderFault.TheVariants as 
 use Rattle.reuse_command.specs.declared.command.Place.TheVariants as place
 use Rattle.reuse_command.specs.declared.command.Scope.{Scope}
 use Rattle.reuse_command.specs.declared.reply.Refusal.TheVariants as refusals
-use Rattle.reuse_plan.proofs.AnnotatedFiles.{pair_then, pair, IsEditTo, makes_by, then_here, then_other, apart}
-use Rattle.reuse_plan.proofs.Annotating.{both_err}
-use Rattle.reuse_plan.proofs.Outcomes.{done}
-use Rattle.reuse_plan.proofs.Results.{err_or, same_Ok}
-use Rattle.reuse_plan.proofs.TableLemmas.{table_differs}
+use Rattle.reuse_plan.proofs.AnnotatedFiles.{pair_then, pair}
+use Rattle.reuse_edit.proofs.EditedPlaces.{IsEditTo, makes_by, then_here, then_other}
+use Rattle.reuse_edit.proofs.NeighbourPaths.{apart}
+use Rattle.reuse_edit.proofs.Results.{both_err, err_or, same_Ok}
+use Rattle.reuse_edit.proofs.EditResults.{done}
+use Rattle.reuse_edit.proofs.TableLemmas.{table_differs}
 use Rattle.reuse_plan.specs.Accepted.{HasNoStyleUnread}
-use Rattle.reuse_plan.specs.Amend.{amend_block, has_no_style, has_no_style_unread}
 
 -- ---- what is known of each amendment
 

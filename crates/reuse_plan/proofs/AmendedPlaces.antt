@@ -7,7 +7,7 @@ use Rattle.reuse_change.specs.Listing.{ArePaths}
 use Rattle.reuse_command.specs.Covered.{is_covered}
 use Rattle.reuse_plan.specs.Chosen.{IsNamed, StandsBeneath, IsAskedToAmend}
 use Rattle.reuse_plan.specs.Selected.{amended_paths}
-use Rattle.reuse_plan.specs.Tables.{is_table, is_amendable}
+use Rattle.reuse_edit.specs.Tables.{is_table, is_amendable}
 use Rattle.reuse_command.specs.declared.command.Place.{Place}
 use Rattle.reuse_command.specs.declared.command.Scope.{Scope}
 use Rattle.reuse_plan.proofs.Choosing.{IsChosen, chosen_exactly, paths_ascend}

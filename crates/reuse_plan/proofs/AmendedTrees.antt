@@ -5,13 +5,14 @@ use Rattle.std.proofs.Common.{is_some, Result, Ok, Err, refl, sym, ap, ap₂, su
 use Rattle.reuse_command.specs.Reading.{get, Files}
 use Rattle.std.proofs.lemmas.Bool.{false≢true}
 use Rattle.reuse_notice.proofs.SetLemmas.{In, In-from_contains, Contains-from_in}
-use Rattle.reuse_plan.specs.Amend.{amended_at}
+use Rattle.reuse_edit.specs.Amend.{amended_at}
 use Rattle.reuse_plan.specs.Amended.{IsAmended, Amends, HaveSamePaths, KeepsPaths, IsTableAmended, IsCoveredAmended}
 use Rattle.reuse_plan.specs.Amended.{BecomesNeighbour, IsNeighbourAmended}
-use Rattle.reuse_plan.specs.Annotate.{neighbour_of}
+use Rattle.reuse_edit.specs.Annotate.{neighbour_of}
 use Rattle.reuse_plan.specs.Annotated.{Pair, pair_at}
 use Rattle.reuse_command.specs.Command.{has_root, values_of}
-use Rattle.reuse_plan.specs.Outcome.{Edit, edited, outcome_of, edits_of}
+use Rattle.reuse_edit.specs.Edit.{Edit}
+use Rattle.reuse_plan.specs.Outcome.{edited, outcome_of, edits_of}
 use Rattle.reuse_plan.specs.TreeStyles.{styles_in}
 use Rattle.reuse_style.specs.Kinds.{OwnKinds}
 use Rattle.reuse_plan.specs.Selected.{amended_paths}
@@ -33,7 +34,7 @@ use Rattle.reuse_plan.proofs.PlacedEdits as placed_edits
 use Rattle.reuse_plan.proofs.PlacedEdits.{IsPlaceOf}
 use Rattle.reuse_plan.proofs.Outcomes.{edits_of_tree}
 use Rattle.reuse_plan.proofs.CommandEdits.{edits_at, amendments_by_names, of_amendment}
-use Rattle.reuse_plan.proofs.TableLemmas.{IsWorkable}
+use Rattle.reuse_edit.proofs.TableLemmas.{IsWorkable}
 
 module _ (keeps_block : KeepsBlock) (keeps_neighbour : KeepsNeighbour) (amendment : FileAmendment) (scope : Scope)
     (own : OwnKinds) (tree : Files) where

@@ -1,7 +1,7 @@
 -- Where the licensing information of a file goes and why, and what annotate writes there.
 use Rattle.std.proofs.Common.{◌≡◌, ◌≢◌, ◌⊎◌, inl, inr, ℕ, Bool, true, false, cond, not, ◌&&◌, nat_lt, List, length}
-use Rattle.std.proofs.Common.{Option, Some, None, is_some, Result, Ok, refl, sym, ap₂, subst, ◌∙◌, [], ◌∷◌, ◌++◌, codes}
-use Rattle.std.proofs.Common.{take, drop, Err, ap, arith, length-append, is_none, unwrap_or, bytes_eq, option_map}
+use Rattle.std.proofs.Common.{Option, Some, None, is_some, Result, Ok, refl, sym, ap₂, subst, ◌∙◌, [], ◌∷◌, ◌++◌, take}
+use Rattle.std.proofs.Common.{drop, Err, ap, is_none, unwrap_or, bytes_eq, option_map}
 use Rattle.reuse_command.specs.Reading.{get, Files}
 use Rattle.std.proofs.lemmas.Bool.{false≢true, or_cases, or_parts, and_parts, not-false}
 use Rattle.reuse_style.specs.declared.style.Style.{Style}
@@ -9,12 +9,12 @@ use Rattle.reuse_style.specs.declared.style.Kind.{Kind}
 use Rattle.reuse_style.specs.declared.style.Kind.TheVariants as kind
 use Rattle.reuse_header.specs.Neighbour.{is_text, neighbour_end}
 use Rattle.reuse_text.specs.declared.TheConstants.{LONGEST_FILE}
-use Rattle.reuse_plan.specs.Annotation.{annotation_of, made_by, neighbour_annotation_of}
+use Rattle.reuse_edit.specs.Annotation.{annotation_of, made_by, neighbour_annotation_of}
 use Rattle.reuse_plan.specs.Accepted.{IsUnread}
-use Rattle.reuse_plan.specs.Annotate.{neighbour_of, is_uncommentable, goes_to_neighbour, goes_to_neighbour_unread}
-use Rattle.reuse_plan.specs.Annotate.{target_of_unknown, target_by_kind, target_by_style, target_by_bytes}
-use Rattle.reuse_plan.specs.Annotate.{neighbour_is_tagged, target_of, edit_by, edit_neighbour, edit_target}
-use Rattle.reuse_plan.specs.Annotate.{annotated_where, annotated_at}
+use Rattle.reuse_edit.specs.Annotate.{neighbour_of, is_uncommentable, goes_to_neighbour, goes_to_neighbour_unread}
+use Rattle.reuse_edit.specs.Annotate.{target_of_unknown, target_by_kind, target_by_style, target_by_bytes}
+use Rattle.reuse_edit.specs.Annotate.{neighbour_is_tagged, target_of, edit_by, edit_neighbour, edit_target}
+use Rattle.reuse_edit.specs.Annotate.{annotated_where, annotated_at}
 use Rattle.reuse_plan.specs.Annotated.{pair_at, IsStyleOf, HasKind, TakesComment, TakesNeighbour, IsSameAround}
 use Rattle.reuse_plan.specs.Annotated.{KeepsOthers, block_replaced, part_replaced, Pair, IsCommented, IsAccompanied}
 use Rattle.reuse_plan.specs.Annotated.{IsSkipped, IsAnnotated, file_written}
@@ -23,11 +23,11 @@ use Rattle.reuse_style.proofs.RuleLemmas.{kind_if_unread}
 use Rattle.reuse_command.specs.declared.command.Scope.{Scope}
 use Rattle.reuse_command.specs.declared.command.Unknown.{Unknown}
 use Rattle.reuse_command.specs.declared.command.Unknown.TheVariants as unknown
-use Rattle.reuse_plan.specs.declared.target.Target.{Target}
-use Rattle.reuse_plan.specs.declared.target.Target.TheVariants.{Inside, InNeighbour, Nowhere}
+use Rattle.reuse_edit.specs.declared.target.Target.{Target}
+use Rattle.reuse_edit.specs.declared.target.Target.TheVariants.{Inside, InNeighbour, Nowhere}
 use Rattle.reuse_command.specs.declared.reply.Refusal.{Refusal}
 use Rattle.reuse_command.specs.declared.reply.Refusal.TheVariants as refusals
-use Rattle.reuse_plan.proofs.Results.{same_Ok, err_or, none_from_test}
+use Rattle.reuse_edit.proofs.Results.{same_Ok, err_or, none_from_test, both_err}
 use Rattle.reuse_plan.proofs.OneAnnotation.{no_call, comment_not_skipped, beside_not_skipped}
 use Rattle.std.proofs.lemmas.Slice.Eq.{bytes_eq-Decides}
 use Rattle.std.proofs.lemmas.Option.{same_Some, none-some}
@@ -40,19 +40,14 @@ use Rattle.reuse_header.specs.Annotation as header
 use Rattle.reuse_header.specs.Body.{body_lines, place_in}
 use Rattle.reuse_header.specs.Header.{Header, HeaderSpan, header_of, span_in}
 use Rattle.reuse_header.specs.Laws.{IsInsertion}
-use Rattle.reuse_plan.specs.Annotations.{Expected}
 use Rattle.reuse_change.specs.Clash.{is_clash}
 use Rattle.reuse_command.specs.Covered.{is_covered}
-use Rattle.reuse_plan.specs.Edit.{Edit, file_then}
+use Rattle.reuse_edit.specs.Edit.{Edit, file_then}
 use Rattle.reuse_change.specs.Listing.{is_folder}
 use Rattle.reuse_command.specs.declared.command.Place.TheVariants as place
-use Rattle.reuse_plan.proofs.Annotating.{both_err}
-use Rattle.reuse_plan.proofs.Outcomes.{done}
-
--- ---- why the licensing information of a file goes to the place that is chosen
-
-abbrev pub aimed : Target → Result Target Refusal
-aimed target = Ok target
+use Rattle.reuse_edit.proofs.EditResults.{done}
+use Rattle.reuse_edit.proofs.EditedPlaces.{aimed, IsEditTo, makes_by, then_here, then_other}
+use Rattle.reuse_edit.proofs.NeighbourPaths.{apart}
 
 no_style : (style : Option Style) → is_none style ≡ true → style ≡ None
 no_style None e = refl
@@ -176,48 +171,6 @@ pair_then tree given path = record {
 abbrev pub pair : Option (List ℕ) → Option (List ℕ) → Pair
 pair file neighbour = record { file = file; neighbour = neighbour }
 
--- these bytes are made of those at a place: nothing is done where they are the same
-abbrev pub IsEditTo : List ℕ → List ℕ → List ℕ → Option Edit → Type 0
-IsEditTo at bytes made None = made ≡ bytes
-IsEditTo at bytes made (Some edit) = (edit.path ≡ at) × (edit.file ≡ Some made) × (bytes_eq made bytes ≡ false)
-
-pub makes_by : (path at bytes : List ℕ) (expected : Expected) (given : Option Edit)
-    → edit_by path at bytes expected ≡ Ok given
-    → (edit : header.Edit) × (expected ≡ Ok edit) × IsEditTo at bytes (header.edited bytes edit) given
-makes_by path at bytes (Err refusal) given h = absurd (cc)
-makes_by path at bytes (Ok edit) given h = (edit, refl, of_test (bytes_eq (header.edited bytes edit) bytes) refl h)
-  where
-    it : Edit
-    it = record {
-      path = at;
-      removed = take edit.old_len (drop edit.start bytes);
-      written = header.new_bytes edit;
-      file = Some (header.edited bytes edit);
-    }
-
-    of_test : (b : Bool) → bytes_eq (header.edited bytes edit) bytes ≡ b
-        → cond b (done None) (done (Some it)) ≡ done given → IsEditTo at bytes (header.edited bytes edit) given
-    of_test true e k = subst (IsEditTo at bytes (header.edited bytes edit)) (same_Ok None given k)
-        ((bytes_eq-Decides (header.edited bytes edit) bytes).0 e)
-    of_test false e k = subst (IsEditTo at bytes (header.edited bytes edit)) (same_Ok (Some it) given k) (refl, refl, e)
-
-module _ (tree : Files) (at bytes made : List ℕ) where
-  pub then_here : (given : Option Edit) → IsEditTo at bytes made given → get tree at ≡ Some bytes
-      → file_then tree given at ≡ Some made
-  then_here None makes here = here ∙ ap (λ xs. Some xs) (sym makes)
-  then_here (Some edit) makes here =
-      ap (λ b. cond b edit.file (get tree at)) ((bytes_eq-Decides at edit.path).1 (sym makes.0)) ∙ makes.1
-
-  pub then_other : (given : Option Edit) (path : List ℕ) → IsEditTo at bytes made given → path ≢ at
-      → file_then tree given path ≡ get tree path
-  then_other None path makes other = refl
-  then_other (Some edit) path makes other =
-      ap (λ b. cond b edit.file (get tree path)) (of_test (bytes_eq path edit.path) refl)
-    where
-      of_test : (b : Bool) → bytes_eq path edit.path ≡ b → b ≡ false
-      of_test true e = absurd (other ((bytes_eq-Decides path edit.path).0 e ∙ makes.0))
-      of_test false e = refl
-
 then_made : (tree : Files) (at made : List ℕ) (given : Option Edit) → IsEditTo at [] made given → get tree at ≡ None
     → file_then tree given at ≡ file_written None made
 then_made tree at made None makes here = here ∙ ap (file_written None) (sym makes)
@@ -227,9 +180,6 @@ then_made tree at made (Some edit) makes here = ap (λ b. cond b edit.file (get 
     some_made : (bytes : List ℕ) → bytes_eq bytes [] ≡ false → Some bytes ≡ file_written None bytes
     some_made [] e = absurd (false≢true (sym e))
     some_made (byte ∷ bytes) e = refl
-
-pub apart : (path : List ℕ) → path ≢ neighbour_of path
-apart path same = let size = ap length same in omega (arith, size, length-append path (codes ".license"))
 
 -- ---- bytes that stay
 

@@ -6,13 +6,14 @@ use Rattle.reuse_command.specs.declared.command.HeaderAdditions.{HeaderAdditions
 use Rattle.reuse_notice.proofs.SetLemmas.{In, In-from_contains, Contains-from_in}
 use Rattle.reuse_header.specs.declared.annotation.How.{How}
 use Rattle.reuse_command.specs.Reading.{get, Files}
-use Rattle.reuse_plan.specs.Annotate.{neighbour_of, annotated_at, neighbour_is_tagged, goes_to_neighbour, target_of}
-use Rattle.reuse_plan.specs.Annotate.{edit_neighbour, edit_target, annotated_where}
+use Rattle.reuse_edit.specs.Annotate.{neighbour_of, annotated_at, neighbour_is_tagged, goes_to_neighbour, target_of}
+use Rattle.reuse_edit.specs.Annotate.{edit_neighbour, edit_target, annotated_where}
 use Rattle.reuse_plan.specs.Annotated.{pair_at, IsAnnotated, Annotates, IsSkipped, IsSkippedAt}
 use Rattle.reuse_command.specs.Command.{has_root}
 use Rattle.reuse_change.specs.Listing.{ArePaths, is_folder}
-use Rattle.reuse_plan.specs.Edit.{file_then}
-use Rattle.reuse_plan.specs.Outcome.{Edit, edited, outcome_of, edits_of, is_too_many, annotation_at, annotations_by}
+use Rattle.reuse_edit.specs.Edit.{file_then, Edit}
+use Rattle.reuse_plan.specs.Outcome.{edited, outcome_of, edits_of, is_too_many, annotations_by}
+use Rattle.reuse_edit.specs.AtPath.{annotation_at}
 use Rattle.reuse_plan.specs.TreeStyles.{styles_in}
 use Rattle.reuse_style.specs.Kinds.{OwnKinds}
 use Rattle.reuse_plan.specs.Selected.{selected_paths}
@@ -24,19 +25,20 @@ use Rattle.reuse_command.specs.declared.reply.Refusal.{Refusal}
 use Rattle.reuse_command.specs.declared.reply.Refusal.TheVariants as refusals
 use Rattle.reuse_plan.proofs.AnnotatedFiles.{ReplacesBlock, InsertsBlock, ReplacesNeighbour, InsertsNeighbour}
 use Rattle.reuse_plan.proofs.AnnotatedFiles.{annotated_there, pair, Takes, takes}
-use Rattle.reuse_plan.proofs.Annotating.{if_not, both_err}
+use Rattle.reuse_plan.proofs.Annotating.{if_not}
+use Rattle.reuse_edit.proofs.Results.{both_err, err_or, same_Ok}
 use Rattle.reuse_plan.proofs.Choosing.{selected_ascend}
 use Rattle.reuse_plan.proofs.Fitting.{is_placed}
 use Rattle.reuse_plan.proofs.PlacedEdits as placed_edits
 use Rattle.reuse_plan.proofs.PlacedEdits.{IsPlaceOf, HoldsDone}
-use Rattle.reuse_plan.proofs.TableLemmas.{IsWorkable}
-use Rattle.reuse_plan.proofs.Outcomes.{edits_of_tree, held, tree_comes, done}
+use Rattle.reuse_edit.proofs.TableLemmas.{IsWorkable}
+use Rattle.reuse_plan.proofs.Outcomes.{edits_of_tree, held, tree_comes}
+use Rattle.reuse_edit.proofs.EditResults.{done}
 use Rattle.reuse_plan.proofs.CommandEdits.{edits_at, edits_by_names, of_annotation, annotation_edits}
 use Rattle.std.proofs.lemmas.Bool.{false≢true, and_parts, and_right}
 use Rattle.reuse_plan.specs.Accepted.{CanAnnotate, FitsEntry}
 use Rattle.reuse_plan.proofs.AcceptedFiles.{IsDone, accepted_is_done, done_is_accepted}
-use Rattle.reuse_plan.proofs.Results.{err_or, same_Ok}
-use Rattle.reuse_plan.specs.PathEdits.{or_first, refused_alone}
+use Rattle.reuse_edit.specs.PathEdits.{or_first, refused_alone}
 use Rattle.std.proofs.lemmas.List.Elements.{Contains-append_cases, Contains-append_left}
 use Rattle.std.proofs.lemmas.Option.{same_Some, none-some}
 use Rattle.reuse_style.specs.declared.style.Style.{Style}
@@ -44,15 +46,15 @@ use Rattle.reuse_header.specs.Header.{header_of}
 use Rattle.reuse_text.specs.declared.TheConstants.{LONGEST_FILE}
 use Rattle.reuse_command.specs.Covered.{is_covered}
 use Rattle.reuse_header.specs.declared.harm.Harm.{Harm}
-use Rattle.reuse_plan.specs.Harmed.{harm_in}
+use Rattle.reuse_edit.specs.Harmed.{harm_in}
 use Rattle.reuse_plan.specs.PathOutcomes.{path_outcome_by, path_outcome_of, limit_path_outcomes, path_outcomes_of}
 use Rattle.reuse_plan.specs.PathOutcomes.{left_paths}
 use Rattle.reuse_command.specs.declared.path_outcome.PathOutcome.{PathOutcome}
 use Rattle.reuse_command.specs.declared.path_outcome.PathOutcome.TheVariants as path_outcome
-use Rattle.reuse_plan.specs.declared.target.Target.{Target}
-use Rattle.reuse_plan.specs.declared.target.Target.TheVariants.{Inside, InNeighbour, Nowhere}
+use Rattle.reuse_edit.specs.declared.target.Target.{Target}
+use Rattle.reuse_edit.specs.declared.target.Target.TheVariants.{Inside, InNeighbour, Nowhere}
 use Rattle.reuse_plan.proofs.OneAnnotation.{comment_not_skipped, beside_not_skipped}
-use Rattle.reuse_plan.specs.Skipped.{has_tagged, is_skipped_at, is_skipped_where, is_skipped}
+use Rattle.reuse_edit.specs.Skipped.{has_tagged, is_skipped_at, is_skipped_where, is_skipped}
 
 -- ---- where an annotate isn't refused, each file that is gone through is annotated, and all else stays
 

@@ -2,7 +2,7 @@
 use Rattle.std.proofs.Common.{◌≡◌, ℕ, cond, not, ◌&&◌, nat_lt, List, [], ◌∷◌, length, map, Option, Some, None, is_some}
 use Rattle.std.proofs.Common.{unwrap_or, Result, Ok, Err, refl, subst, sym, ◌∙◌, ◌≢◌, ◌↔◌, inl, inr, Bool, true, false}
 use Rattle.std.proofs.Common.{◌||◌, ◌++◌, ap, ◌+◌, take, drop, ap₂, bytes_eq, ◌⊎◌, arith, length-append}
-use Rattle.reuse_text.specs.Text.{is_empty}
+use Rattle.reuse_text.specs.Text.{is_empty, spliced}
 use Rattle.std.specs.List.{AllByRecursion, cons_option, Contains, list_any, All}
 use Rattle.std.specs.FinMap.{get, empty}
 use Rattle.reuse_notice.specs.Sets.{set_of}
@@ -15,18 +15,19 @@ use Rattle.reuse_header.specs.Header.{header_of}
 use Rattle.reuse_change.specs.Files.{Files}
 use Rattle.reuse_change.specs.declared.change.Change.{Change}
 use Rattle.reuse_text.specs.declared.TheConstants.{LONGEST_FILE}
-use Rattle.reuse_plan.specs.Annotation.{annotation_of, neighbour_annotation_of}
-use Rattle.reuse_plan.specs.Amend.{amended_at}
-use Rattle.reuse_plan.specs.Annotate.{neighbour_of, neighbour_is_tagged, target_of, edit_by, edit_neighbour}
-use Rattle.reuse_plan.specs.Annotate.{edit_target, annotated_where, annotated_at}
-use Rattle.reuse_plan.specs.Annotations.{Expected}
+use Rattle.reuse_edit.specs.Annotation.{annotation_of, neighbour_annotation_of}
+use Rattle.reuse_edit.specs.Amend.{amended_at}
+use Rattle.reuse_edit.specs.Annotate.{neighbour_of, neighbour_is_tagged, target_of, edit_by, edit_neighbour}
+use Rattle.reuse_edit.specs.Annotate.{edit_target, annotated_where, annotated_at}
+use Rattle.reuse_edit.specs.Annotations.{Expected}
 use Rattle.reuse_change.specs.Clash.{is_clash}
 use Rattle.reuse_command.specs.Command.{has_root, HoldsEntry}
-use Rattle.reuse_plan.specs.Conversion.{dep5_path, toml_path, replaced_by, conversion_where, conversion_edits}
+use Rattle.reuse_plan.specs.Conversion.{dep5_path, replaced_by, conversion_where, conversion_edits}
+use Rattle.reuse_edit.specs.Tables.{toml_path}
 use Rattle.reuse_command.specs.Covered.{is_covered}
-use Rattle.reuse_plan.specs.Downloads.{text_for, ids_refusal, licence_edit, download_edits}
-use Rattle.reuse_plan.specs.Edit.{Edit, made, dropped, appended}
-use Rattle.reuse_plan.specs.Licence.{licence_path, licence_id}
+use Rattle.reuse_edit.specs.Licence.{text_for, licence_path, licence_id}
+use Rattle.reuse_plan.specs.Downloads.{ids_refusal, licence_edit, download_edits}
+use Rattle.reuse_edit.specs.Edit.{Edit, made, dropped, appended}
 use Rattle.reuse_change.specs.Listing.{is_folder, is_among}
 use Rattle.reuse_plan.specs.Outcome.{edits_of, with_file, edited, path_edits_of, outcome_of}
 use Rattle.reuse_plan.specs.Reverting.{taken_back_on, taken_back_unless, stands_as_written, is_short, put_back}
@@ -40,17 +41,18 @@ use Rattle.reuse_command.specs.declared.command.Command.TheVariants.{AddStyles}
 use Rattle.reuse_command.specs.declared.command.Place.TheVariants as place
 use Rattle.reuse_command.specs.declared.command.Scope.{Scope}
 use Rattle.reuse_command.specs.declared.licence.LicenceText.{LicenceText}
-use Rattle.reuse_plan.specs.declared.target.Target.{Target}
-use Rattle.reuse_plan.specs.declared.target.Target.TheVariants.{Inside, InNeighbour, Nowhere}
+use Rattle.reuse_edit.specs.declared.target.Target.{Target}
+use Rattle.reuse_edit.specs.declared.target.Target.TheVariants.{Inside, InNeighbour, Nowhere}
 use Rattle.reuse_command.specs.declared.reply.Refusal.{Refusal}
 use Rattle.reuse_command.specs.declared.reply.Refusal.TheVariants as refusals
-use Rattle.reuse_plan.proofs.Amending.{amends_there}
-use Rattle.reuse_plan.proofs.Annotating.{both_err, if_not, all_edits, first_is, no_edits}
+use Rattle.reuse_edit.proofs.Amending.{amends_there}
+use Rattle.reuse_plan.proofs.Annotating.{if_not, all_edits, first_is, no_edits}
+use Rattle.reuse_edit.proofs.Results.{both_err, err_or, same_Ok, none_from_test}
 use Rattle.reuse_plan.proofs.Downloading.{IsMade, are_made}
-use Rattle.reuse_plan.proofs.Outcomes.{edits_unless, some_edit, unskipped, edits_of_tree, same_edit}
+use Rattle.reuse_plan.proofs.Outcomes.{edits_unless, edits_of_tree}
+use Rattle.reuse_edit.proofs.EditResults.{some_edit, unskipped, same_edit}
 use Rattle.reuse_plan.proofs.RevertPlanning.{backs, edits_are, back_on, path_back, untouched_back, and_first}
 use Rattle.reuse_plan.proofs.RevertPlanning.{splice_differs, whole_there}
-use Rattle.reuse_plan.proofs.Results.{err_or, same_Ok, none_from_test}
 use Rattle.reuse_plan.proofs.CommandEdits.{edits_at, edits_by_names, amendments_by_names, stuck_on, of_annotation}
 use Rattle.reuse_plan.proofs.CommandEdits.{of_addition, of_amendment, of_conversion, of_download, of_revert}
 use Rattle.reuse_plan.proofs.StyleAdding.{addition_is, edits_of_lines, IsMadeOfLines, HasLinesBehind}
@@ -62,17 +64,16 @@ use Rattle.std.proofs.lemmas.Slice.Eq.{bytes_eq-Decides}
 use Rattle.reuse_header.specs.declared.harm.Harm.{Harm}
 use Rattle.reuse_plan.specs.PathOutcomes.{path_outcome_by, path_outcome_of, limit_path_outcomes, path_outcomes_of}
 use Rattle.reuse_plan.specs.PathOutcomes.{left_paths}
-use Rattle.reuse_plan.specs.PathEdits.{PathEdit, edits_in}
+use Rattle.reuse_edit.specs.PathEdits.{PathEdit, edits_in}
 use Rattle.reuse_command.specs.declared.path_outcome.PathOutcome.{PathOutcome}
 use Rattle.reuse_command.specs.declared.path_outcome.PathOutcome.TheVariants as path_outcome
-use Rattle.reuse_text.specs.Text.{spliced}
 use Rattle.reuse_change.specs.Change.{path_of, IsProper}
 use Rattle.reuse_change.specs.declared.change.Change.TheVariants.{Make, Drop, Splice}
 use Rattle.std.proofs.lemmas.Option.{none-some, same_Some, cond_some}
 use Rattle.reuse_plan.proofs.Planning.{paths_at, with_same, with_other, edited_other}
-use Rattle.reuse_plan.specs.EditBytes.{TakesAndWrites}
-use Rattle.reuse_plan.proofs.EditLemmas.{take_none, drop_none}
-use Rattle.reuse_plan.proofs.SpliceLemmas.{three_parts}
+use Rattle.reuse_edit.specs.EditBytes.{TakesAndWrites}
+use Rattle.reuse_edit.proofs.EditLemmas.{take_none, drop_none}
+use Rattle.reuse_edit.proofs.SpliceLemmas.{three_parts}
 
 -- ---- what holds of each kind of edit holds of all edits of a command
 

@@ -35,8 +35,9 @@ use Rattle.std.proofs.lemmas.List.Kept.{IsStrictlySortedBy-filter}
 use Rattle.reuse_change.proofs.ListingLemmas.{under_from_test, test_from_under}
 use Rattle.reuse_change.proofs.NeedLemmas.{above_from, above_some}
 use Rattle.reuse_store.proofs.TreeLemmas.{keys_ascend}
-use Rattle.reuse_plan.specs.Annotate.{neighbour_of}
-use Rattle.reuse_plan.specs.Shown.{ShowsEach, ShowsPair, ShowsPlace, folders_for, with_neighbours}
+use Rattle.reuse_edit.specs.Annotate.{neighbour_of}
+use Rattle.reuse_plan.specs.Shown.{ShowsEach, ShowsPlace, folders_for, with_neighbours}
+use Rattle.reuse_edit.specs.Pair.{ShowsPair}
 use Rattle.reuse_plan.specs.declared.select.Listing.TheVariants.{Listed}
 use Rattle.reuse_plan.proofs.ShownLemmas.{asked_one, in_pairs, in_pairs_beside, none_kept, shows_pair}
 

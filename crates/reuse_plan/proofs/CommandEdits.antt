@@ -11,16 +11,18 @@ use Rattle.reuse_header.specs.declared.annotation.How.{How}
 use Rattle.reuse_change.specs.Change.{path_of}
 use Rattle.reuse_change.specs.Files.{Files}
 use Rattle.reuse_change.specs.declared.change.Change.{Change}
-use Rattle.reuse_plan.specs.Amend.{amended_at}
-use Rattle.reuse_plan.specs.Annotate.{annotated_at}
+use Rattle.reuse_edit.specs.Amend.{amended_at}
+use Rattle.reuse_edit.specs.Annotate.{annotated_at}
 use Rattle.reuse_command.specs.Command.{has_root}
 use Rattle.reuse_plan.specs.Conversion.{conversion_edits}
 use Rattle.reuse_plan.specs.Downloads.{id_refusal, ids_refusal, id_refusals, licence_edit, unless_refused, or_else}
 use Rattle.reuse_plan.specs.Downloads.{downloads_at, download_edits}
-use Rattle.reuse_plan.specs.Licence.{licence_path}
-use Rattle.reuse_plan.specs.Outcome.{Edit, annotation_at, amendment_at, annotations_by, amendments_by, edits_of}
-use Rattle.reuse_plan.specs.PathEdits.{PathEdit, refused_with, refused_alone, all_or_none, with_edit, or_first}
-use Rattle.reuse_plan.specs.PathEdits.{edits_in}
+use Rattle.reuse_edit.specs.Licence.{licence_path}
+use Rattle.reuse_edit.specs.Edit.{Edit}
+use Rattle.reuse_edit.specs.AtPath.{annotation_at, amendment_at}
+use Rattle.reuse_plan.specs.Outcome.{annotations_by, amendments_by, edits_of}
+use Rattle.reuse_edit.specs.PathEdits.{PathEdit, refused_with, refused_alone, all_or_none, with_edit, or_first}
+use Rattle.reuse_edit.specs.PathEdits.{edits_in}
 use Rattle.reuse_plan.specs.Reverting.{back_or_refused, reverted_at, taken_back_unless}
 use Rattle.reuse_plan.specs.StyleEdits.{style_edits}
 use Rattle.reuse_plan.specs.TreeStyles.{styles_in}

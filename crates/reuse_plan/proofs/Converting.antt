@@ -17,20 +17,21 @@ use Rattle.reuse_change.specs.Change.{sealed_drop, sealed_make}
 use Rattle.sha2.specs.Sha256.{sha256}
 use Rattle.reuse_text.specs.declared.TheConstants.{LONGEST_FILE}
 use Rattle.reuse_change.specs.Clash.{is_clash, is_clash_of}
-use Rattle.reuse_plan.specs.Edit.{Edit, made, dropped}
-use Rattle.reuse_plan.specs.Conversion.{dep5_path, toml_path, replaced_by, conversion_where, conversion_edits}
+use Rattle.reuse_edit.specs.Edit.{Edit, made, dropped}
+use Rattle.reuse_plan.specs.Conversion.{dep5_path, replaced_by, conversion_where, conversion_edits}
+use Rattle.reuse_edit.specs.Tables.{toml_path}
 use Rattle.reuse_change.specs.Listing.{ArePaths, is_among}
 use Rattle.reuse_command.specs.declared.reply.Refusal.{Refusal}
 use Rattle.reuse_command.specs.declared.reply.Refusal.TheVariants as refusals
 use Rattle.reuse_command.specs.Refused.{dep5_refusal}
 use Rattle.reuse_plan.specs.Shown.{Shows}
-use Rattle.reuse_plan.specs.Plan.{IsRefusalOf, MakesEdits}
+use Rattle.reuse_edit.specs.Answered.{IsRefusalOf, MakesEdits}
 use Rattle.reuse_store.proofs.ReadingLemmas.{absent_is, long_is}
 use Rattle.reuse_store.proofs.Testing.{clashes_keys}
 use Rattle.reuse_store.proofs.TreeLemmas.{among_keys}
 use Rattle.reuse_plan.proofs.Outcomes.{ok_edits, edits_of_tree}
 use Rattle.reuse_plan.proofs.Planning.{AreEdits, with_same, with_other}
-use Rattle.reuse_plan.proofs.Results.{err_or, same_Ok, none_from_test}
+use Rattle.reuse_edit.proofs.Results.{err_or, same_Ok, none_from_test}
 use Rattle.reuse_plan.specs.Outcome.{edited, outcome_of, edits_of}
 use Rattle.reuse_plan.specs.TablePut.{PutsTable}
 use Rattle.reuse_command.specs.declared.command.Command.TheVariants.{ConvertDep5}

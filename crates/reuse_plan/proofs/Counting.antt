@@ -1,7 +1,7 @@
 -- What a call counts while it plans.
-use Rattle.std.proofs.Common.{◌≡◌, ◌∙◌, suc, Bool, true, false, cond, List, [], ◌∷◌, ◌++◌, map, filter_map}
-use Rattle.std.proofs.Common.{Option, None, Some, Result, Ok, Err, OnOk, refl, sym, ap, ap₂, subst, ℕ, ◌+◌, ◌<◌}
-use Rattle.std.proofs.Common.{length, take, get_or, option_to_list}
+use Rattle.std.proofs.Common.{◌≡◌, ◌∙◌, suc, Bool, true, false, cond, List, [], ◌∷◌, ◌++◌, map, filter_map, Option}
+use Rattle.std.proofs.Common.{None, Some, Result, Ok, Err, OnOk, refl, sym, ap, ap₂, subst, ℕ, ◌+◌, ◌<◌, length, take}
+use Rattle.std.proofs.Common.{get_or, option_to_list}
 use Rattle.std.specs.List.{cons_option}
 use Rattle.std.proofs.lemmas.List.{take_more}
 use Rattle.std.proofs.lemmas.List.Elements.{filter_map-append}
@@ -9,25 +9,26 @@ use Rattle.reuse_header.specs.declared.harm.Harm.{Harm}
 use Rattle.reuse_change.specs.Files.{Files}
 use Rattle.reuse_change.specs.declared.change.Change.{Change}
 use Rattle.reuse_plan.specs.Counted.{skipped_count, skipped_planned, harmed, harmed_at, harmed_by, harmed_planned}
-use Rattle.reuse_plan.specs.PathOutcomes.{path_outcome_of, path_outcomes_of, limit_path_outcomes}
-use Rattle.reuse_plan.specs.PathOutcomes.{left_at, left_by, left_paths}
-use Rattle.reuse_plan.specs.Outcome.{Edit, edits_of, path_edits_of, is_too_many}
-use Rattle.reuse_plan.specs.PathEdits.{PathEdit}
-use Rattle.reuse_plan.specs.PathPlans.{ArePlansOf, IsPlanOf, left_planned, left_planned_by}
-use Rattle.reuse_plan.specs.PathPlans.{path_outcome_planned}
+use Rattle.reuse_plan.specs.PathOutcomes.{path_outcome_of, path_outcomes_of, limit_path_outcomes, left_at, left_by}
+use Rattle.reuse_plan.specs.PathOutcomes.{left_paths}
+use Rattle.reuse_edit.specs.Edit.{Edit}
+use Rattle.reuse_plan.specs.Outcome.{edits_of, path_edits_of, is_too_many}
+use Rattle.reuse_edit.specs.PathEdits.{PathEdit}
+use Rattle.reuse_edit.specs.PathPlans.{ArePlansOf, IsPlanOf}
+use Rattle.reuse_plan.specs.Planned.{left_planned, left_planned_by, path_outcome_planned}
 use Rattle.reuse_command.specs.Command.{is_amend}
 use Rattle.reuse_command.specs.declared.command.Command.{Command}
 use Rattle.reuse_command.specs.declared.command.Command.TheVariants.{Amend}
 use Rattle.std.proofs.lemmas.Bool.{false≢true}
 use Rattle.reuse_command.specs.declared.path_outcome.PathOutcome.{PathOutcome}
 use Rattle.reuse_command.specs.declared.path_outcome.PathOutcome.TheVariants as path_outcome
-use Rattle.reuse_plan.specs.Plan.{MakesEdit}
-use Rattle.reuse_plan.specs.declared.path_plan.PathPlan.{PathPlan}
-use Rattle.reuse_plan.specs.declared.path_plan.PathPlan.TheVariants as plan
-use Rattle.reuse_plan.specs.declared.path_plan.Policy.{Policy}
+use Rattle.reuse_edit.specs.Answered.{MakesEdit}
+use Rattle.reuse_edit.specs.declared.path_plan.PathPlan.{PathPlan}
+use Rattle.reuse_edit.specs.declared.path_plan.PathPlan.TheVariants as plan
+use Rattle.reuse_edit.specs.declared.path_plan.Policy.{Policy}
 use Rattle.reuse_command.specs.declared.reply.Refusal.{Refusal}
 use Rattle.reuse_command.specs.declared.reply.Refusal.TheVariants as refusals
-use Rattle.reuse_plan.proofs.Outcomes.{no_edit}
+use Rattle.reuse_edit.proofs.EditResults.{no_edit}
 use Rattle.reuse_plan.proofs.PathPlanning.{of_one, path_outcomes_are}
 
 -- ---- files that are skipped

@@ -14,32 +14,33 @@ use Rattle.reuse_text.specs.declared.TheConstants.{LONGEST_FILE}
 use Rattle.reuse_change.specs.Tree.{is_of_tree}
 use Rattle.reuse_change.specs.declared.change.Change.{Change}
 use Rattle.reuse_change.specs.Clash.{is_clash, is_clash_of}
-use Rattle.reuse_plan.specs.Edit.{Edit}
+use Rattle.reuse_edit.specs.Edit.{Edit}
 use Rattle.reuse_change.specs.Listing.{ArePaths, is_among}
-use Rattle.reuse_plan.specs.Licence.{is_id, licence_path, licence_id}
-use Rattle.reuse_plan.specs.Downloads.{text_for, refusal_of_found, id_refusal, ids_refusal, licence_edit}
-use Rattle.reuse_plan.specs.Downloads.{unless_refused, download_of, download_edits, id_refusals}
+use Rattle.reuse_edit.specs.Licence.{is_id, licence_path, licence_id, text_for}
+use Rattle.reuse_plan.specs.Downloads.{refusal_of_found, id_refusal, ids_refusal, licence_edit, unless_refused}
+use Rattle.reuse_plan.specs.Downloads.{download_of, download_edits, id_refusals}
 use Rattle.reuse_plan.specs.DownloadPlan.{made_at, HasText}
 use Rattle.reuse_plan.specs.Shown.{Shows}
-use Rattle.reuse_plan.specs.Plan.{CarriesOutEdit, MakesEach, MakesEdits, IsRefusalOf}
+use Rattle.reuse_edit.specs.Answered.{CarriesOutEdit, MakesEach, MakesEdits, IsRefusalOf}
 use Rattle.reuse_command.specs.declared.licence.LicenceText.{LicenceText}
 use Rattle.reuse_command.specs.declared.reply.Refusal.{Refusal}
 use Rattle.reuse_command.specs.declared.reply.Refusal.TheVariants as refusals
 use Rattle.reuse_store.proofs.Testing.{clashes_keys}
-use Rattle.reuse_plan.proofs.LicenceLemmas.{name_length, id_of_path, id_bytes, path_is_good, path_of_tree, paths_apart}
+use Rattle.reuse_edit.proofs.LicenceLemmas.{name_length, id_of_path, id_bytes, path_is_good, path_of_tree, paths_apart}
 use Rattle.reuse_store.proofs.TreeLemmas.{among_keys}
 use Rattle.reuse_plan.proofs.Outcomes.{edits_unless}
 use Rattle.reuse_plan.proofs.Planning.{paths_at, IsFit, AreEdits}
-use Rattle.reuse_plan.proofs.Results.{none_from_test}
-use Rattle.reuse_plan.specs.PathEdits.{PathEdit, refused_with, edits_in}
-use Rattle.reuse_plan.specs.PathPlans.{IsPlanOf, EndsWalk}
+use Rattle.reuse_edit.proofs.Results.{none_from_test}
+use Rattle.reuse_edit.specs.PathEdits.{PathEdit, refused_with, edits_in}
+use Rattle.reuse_edit.specs.PathPlans.{IsPlanOf, EndsWalk}
 use Rattle.reuse_command.specs.Answer.{IsNoFailure}
 use Rattle.reuse_command.specs.Refused.{IsRefused}
-use Rattle.reuse_plan.specs.declared.path_plan.PathPlan.{PathPlan}
-use Rattle.reuse_plan.specs.declared.path_plan.Policy.{Policy}
+use Rattle.reuse_edit.specs.declared.path_plan.PathPlan.{PathPlan}
+use Rattle.reuse_edit.specs.declared.path_plan.Policy.{Policy}
 use Rattle.reuse_command.specs.declared.failure.Failure.TheVariants.{Fault, Memory}
 use Rattle.reuse_command.specs.declared.reply.Refusal.TheVariants.{Failed}
-use Rattle.reuse_plan.proofs.PathPlanning.{WalkedSoFar, after_plan, at_refusal, is_refusal_of}
+use Rattle.reuse_plan.proofs.PathPlanning.{WalkedSoFar, after_plan, at_refusal}
+use Rattle.reuse_edit.proofs.PathPlanLemmas.{is_refusal_of}
 
 -- ---- a download: the files that it makes, where no id is refused
 

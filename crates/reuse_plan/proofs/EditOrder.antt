@@ -26,8 +26,10 @@ use Rattle.reuse_change.specs.Entry.{removed_by, written_by, entry_size}
 use Rattle.reuse_command.specs.declared.reply.Refusal.{Refusal}
 use Rattle.reuse_command.specs.declared.reply.Refusal.TheVariants.{TooMany}
 use Rattle.reuse_change.specs.Listing.{ArePaths, is_among}
-use Rattle.reuse_plan.specs.Outcome.{Edit, edited, edit_size, is_too_many, tree_after}
-use Rattle.reuse_plan.specs.Plan.{IsPlan, is_before, CarriesOutEdit, MakesEach, MakesEdits}
+use Rattle.reuse_edit.specs.Edit.{Edit}
+use Rattle.reuse_plan.specs.Outcome.{edited, edit_size, is_too_many, tree_after}
+use Rattle.reuse_plan.specs.Plan.{IsPlan, is_before}
+use Rattle.reuse_edit.specs.Answered.{CarriesOutEdit, MakesEach, MakesEdits}
 use Rattle.reuse_plan.proofs.Planning.{paths_at, edited_other, EachHas, AreDistinct, each_has, IsFit, AreEdits, all_do}
 use Rattle.reuse_plan.proofs.Planning.{same_many, plan_of_edits}
 use Rattle.std.proofs.Math.Seq.{take-append_seam}

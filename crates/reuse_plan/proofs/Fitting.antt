@@ -1,14 +1,13 @@
 -- The edits of an annotation: each at a file of the tree or its neighbour, of distinct paths, none a folder of another.
-use Rattle.std.proofs.Common.{◌≡◌, ◌⊎◌, inl, inr, ℕ, ◌+◌, ◌-◌, ◌≤◌, Bool, true, false, not, ◌||◌, ◌&&◌, ◌==◌}
-use Rattle.std.proofs.Common.{nat_eq, nat_lt, List, [], ◌∷◌, ◌++◌, codes, length, reverse, take, drop, Less, Option}
-use Rattle.std.proofs.Common.{Some, None, IsSome, is_some, Result, Ok, Err, refl, sym, ap, ap₂, subst, ◌∙◌, arith}
-use Rattle.std.proofs.Common.{length-append, length-drop, drop_at, bytes_eq}
+use Rattle.std.proofs.Common.{◌≡◌, ◌⊎◌, inl, inr, ℕ, ◌+◌, ◌-◌, ◌≤◌, Bool, true, false, not, ◌||◌, ◌&&◌, nat_eq, nat_lt}
+use Rattle.std.proofs.Common.{List, [], ◌∷◌, ◌++◌, codes, length, reverse, take, drop, Less, Option, Some, None, IsSome}
+use Rattle.std.proofs.Common.{is_some, Result, Ok, Err, refl, sym, ap, ap₂, subst, ◌∙◌, arith, length-append}
+use Rattle.std.proofs.Common.{length-drop, drop_at, bytes_eq}
 use Rattle.std.specs.Ordering.{nat_cmp}
 use Rattle.std.specs.Cmp.Lexicographic.{slice_cmp, pointwise}
-use Rattle.std.specs.List.{AllByRecursion, IsDistinct, list_any, ends_with, suffix_len, prefix_len}
+use Rattle.std.specs.List.{AllByRecursion, IsDistinct, ends_with, suffix_len, prefix_len}
 use Rattle.std.specs.FinMap.{get}
-use Rattle.std.proofs.lemmas.Bool.{false≢true, false_from_ne_true, not-false, or_cases, or_from, or_parts, or_right}
-use Rattle.std.proofs.lemmas.Bool.{ltb-false}
+use Rattle.std.proofs.lemmas.Bool.{false≢true, false_from_ne_true, not-false, or_cases, or_from, or_parts, ltb-false}
 use Rattle.std.proofs.lemmas.List.{drop-drop, reverse-append}
 use Rattle.std.proofs.lemmas.List.Sums.{suffix_len-le-length}
 use Rattle.std.proofs.lemmas.Map.Keys.{IsDistinct-cons, sorted_head, sorted_tail}
@@ -19,19 +18,20 @@ use Rattle.reuse_style.specs.declared.style.Style.{Style}
 use Rattle.reuse_header.specs.declared.annotation.How.{How}
 use Rattle.reuse_header.specs.Annotation as header
 use Rattle.reuse_header.specs.Header.{header_of}
-use Rattle.reuse_change.specs.Path.{is_path, lies_under, journal_folder}
+use Rattle.reuse_change.specs.Path.{is_path, lies_under}
 use Rattle.reuse_change.specs.Files.{Files, AreFiles}
 use Rattle.reuse_text.specs.declared.TheConstants.{LONGEST_FILE}
-use Rattle.reuse_plan.specs.Annotation.{annotation_of, neighbour_annotation_of}
-use Rattle.reuse_plan.specs.Amend.{amended_at}
-use Rattle.reuse_plan.specs.Annotate.{neighbour_of, neighbour_is_tagged, target_of, edit_by, edit_inside}
-use Rattle.reuse_plan.specs.Annotate.{edit_neighbour, edit_of_neighbour, edit_target, annotated_where, annotated_at}
-use Rattle.reuse_plan.specs.Annotations.{Expected}
+use Rattle.reuse_edit.specs.Annotation.{annotation_of, neighbour_annotation_of}
+use Rattle.reuse_edit.specs.Amend.{amended_at}
+use Rattle.reuse_edit.specs.Annotate.{neighbour_of, neighbour_is_tagged, target_of, edit_by, edit_inside}
+use Rattle.reuse_edit.specs.Annotate.{edit_neighbour, edit_of_neighbour, edit_target, annotated_where, annotated_at}
+use Rattle.reuse_edit.specs.Annotations.{Expected}
 use Rattle.reuse_change.specs.Clash.{is_clash}
 use Rattle.reuse_command.specs.Command.{has_root, HoldsEntry}
-use Rattle.reuse_command.specs.Covered.{last_part, is_in, is_outside, has_stem, is_covered}
+use Rattle.reuse_command.specs.Covered.{last_part, is_outside, has_stem, is_covered}
 use Rattle.reuse_change.specs.Listing.{ArePaths, is_among, is_folder}
-use Rattle.reuse_plan.specs.Outcome.{Edit, edits_of}
+use Rattle.reuse_edit.specs.Edit.{Edit}
+use Rattle.reuse_plan.specs.Outcome.{edits_of}
 use Rattle.reuse_change.specs.Tree.{is_of_tree}
 use Rattle.reuse_plan.specs.TreeStyles.{styles_in}
 use Rattle.reuse_style.specs.Kinds.{OwnKinds}
@@ -41,14 +41,14 @@ use Rattle.reuse_command.specs.declared.command.Command.TheVariants.{Annotate, A
 use Rattle.reuse_command.specs.declared.command.Command.TheVariants.{AddStyles}
 use Rattle.reuse_command.specs.declared.command.Place.TheVariants as place
 use Rattle.reuse_command.specs.declared.command.Scope.{Scope}
-use Rattle.reuse_plan.specs.declared.target.Target.{Target}
-use Rattle.reuse_plan.specs.declared.target.Target.TheVariants.{Inside, InNeighbour, Nowhere}
+use Rattle.reuse_edit.specs.declared.target.Target.{Target}
+use Rattle.reuse_edit.specs.declared.target.Target.TheVariants.{Inside, InNeighbour, Nowhere}
 use Rattle.reuse_command.specs.declared.reply.Refusal.{Refusal}
 use Rattle.reuse_command.specs.declared.reply.Refusal.TheVariants as refusals
 use Rattle.reuse_plan.proofs.AmendedPlaces.{amended_ascend}
-use Rattle.reuse_plan.proofs.Amending.{IsBeside, IsEditOf, AmendsThere, amends_there}
-use Rattle.reuse_plan.proofs.Annotating.{starts_reuse, and_all, inside_of_tree, first_is, no_edits, all_edits}
-use Rattle.reuse_plan.proofs.Annotating.{both_err, if_not}
+use Rattle.reuse_edit.proofs.Amending.{IsBeside, IsEditOf, AmendsThere, amends_there}
+use Rattle.reuse_plan.proofs.Annotating.{inside_of_tree, first_is, no_edits, all_edits, if_not}
+use Rattle.reuse_edit.proofs.Results.{both_err, err_or}
 use Rattle.reuse_plan.proofs.Choosing.{selected_ascend}
 use Rattle.reuse_plan.proofs.Converting.{conversion_fits}
 use Rattle.reuse_plan.proofs.Downloading.{download_fits}
@@ -58,21 +58,13 @@ use Rattle.reuse_change.proofs.NeighbourLemmas.{good_neighbour}
 use Rattle.reuse_plan.proofs.Planning.{paths_at, IsFit, AreEdits, AreDistinct, distinct_of, not_itself}
 use Rattle.reuse_plan.proofs.RevertPlanning.{revert_fits}
 use Rattle.reuse_store.proofs.Testing.{clashes_keys}
-use Rattle.reuse_plan.proofs.Outcomes.{some_edit, same_edit, unskipped}
+use Rattle.reuse_edit.proofs.EditResults.{some_edit, same_edit, unskipped}
 use Rattle.std.proofs.Math.Seq.{take-append_seam}
-use Rattle.reuse_plan.proofs.Results.{err_or}
 use Rattle.reuse_plan.proofs.CommandEdits.{edits_at, edits_by_names, amendments_by_names, of_annotation, of_amendment}
 use Rattle.reuse_plan.proofs.CommandEdits.{of_addition, of_conversion, of_download, of_revert}
 use Rattle.reuse_plan.proofs.StyleAdding.{addition_fits}
-use Rattle.reuse_plan.proofs.TableLemmas.{IsWorkable, workable_within, table_named}
-
--- ---- names of neighbours
-
-abbrev ending : List ℕ
-ending = codes ".license"
-
-abbrev pub is_slash : ℕ → Bool
-is_slash byte = byte == 47
+use Rattle.reuse_edit.proofs.TableLemmas.{IsWorkable, workable_within, table_named}
+use Rattle.reuse_edit.proofs.NeighbourPaths.{ending, is_slash, cut, beside_of_tree}
 
 -- the last bytes of a neighbour's name
 name_ends : (path : List ℕ) → ends_with nat_eq (last_part (path ++ ending)) ending ≡ true
@@ -104,24 +96,6 @@ uncovered_neighbour path =
     (has_stem (codes "LICENSE") name) (has_stem (codes "LICENCE") name) (has_stem (codes "COPYING") name)
     (name_ends path)
 
-heads : (x y : ℕ) (xs ys : List ℕ) → x ∷ xs ≡ y ∷ ys → x ≡ y
-heads x y xs ys e = cc
-
-tails : (x y : ℕ) (xs ys : List ℕ) → x ∷ xs ≡ y ∷ ys → xs ≡ ys
-tails x y xs ys e = cc
-
-pub has_slash : (xs rest : List ℕ) → list_any is_slash (xs ++ 47 ∷ rest) ≡ true
-has_slash [] rest = refl
-has_slash (x ∷ xs) rest = ap (λ b. is_slash x || b) (has_slash xs rest) ∙ or_right (is_slash x) true refl
-
--- a slash of a neighbour's path is one of its file's
-cut : (path folder rest : List ℕ) → path ++ ending ≡ folder ++ 47 ∷ rest → (r : List ℕ) × (path ≡ folder ++ 47 ∷ r)
-cut [] folder rest e = absurd (false≢true (ap (list_any is_slash) e ∙ has_slash folder rest))
-cut (x ∷ path) [] rest e = (path, ap (λ n. n ∷ path) (heads x 47 (path ++ ending) rest e))
-cut (x ∷ path) (y ∷ folder) rest e =
-    let c = cut path folder rest (tails x y (path ++ ending) (folder ++ 47 ∷ rest) e) in
-    (c.0, ap₂ (λ n l. n ∷ l) (heads x y (path ++ ending) (folder ++ 47 ∷ rest) e) c.1)
-
 under_file : (path folder : List ℕ) → lies_under (path ++ ending) folder ≡ true → lies_under path folder ≡ true
 under_file path folder h = let u = under_from_test (path ++ ending) folder h in
     test_from_under path folder (cut path folder u.0 u.1)
@@ -133,31 +107,11 @@ same_file path other e =
     omega (arith, size, length-append path ending, length-append other ending) in
     sym (take-append_seam path ending) ∙ ap₂ take long e ∙ take-append_seam other ending
 
-in_reuse : (path rest : List ℕ) → is_outside path ≡ false → path ++ ending ≡ codes ".reuse" ++ 47 ∷ rest → ⊥
-in_reuse path rest inside e =
-    let c = cut path (codes ".reuse") rest e in
-    false≢true (sym (starts_reuse path inside) ∙ ap (is_in (codes ".reuse")) c.1 ∙ or_right _ true refl)
-
--- its neighbour is of the tree
-neighbour_of_tree : (path : List ℕ) → is_outside path ≡ false → is_of_tree (path ++ ending) ≡ true
-neighbour_of_tree path inside =
-    and_all (bytes_eq (path ++ ending) (codes ".reuse")) (bytes_eq (path ++ ending) journal_folder)
-    (lies_under (path ++ ending) journal_folder)
-    (false_from_ne_true _ (λ e. let size = ap length ((bytes_eq-Decides (path ++ ending) (codes ".reuse")).0 e) in
-    omega (arith, size, length-append path ending)))
-    (false_from_ne_true _
-    (λ e. in_reuse path (codes "undo") inside ((bytes_eq-Decides (path ++ ending) journal_folder).0 e)))
-    (false_from_ne_true _ (λ e. let u = under_from_test (path ++ ending) journal_folder e in
-    in_reuse path (codes "undo" ++ 47 ∷ u.0) inside u.1))
-
 -- ---- the paths that are selected
 
 -- they are of the tree, with their neighbours
 workable_of_tree : (path : List ℕ) → IsWorkable path → is_of_tree path ≡ true
 workable_of_tree path workable = inside_of_tree path (workable_within path workable)
-
-pub beside_of_tree : (path : List ℕ) → IsWorkable path → is_of_tree (path ++ ending) ≡ true
-beside_of_tree path workable = neighbour_of_tree path (workable_within path workable)
 
 -- and none is a neighbour
 pub no_neighbour : (path other : List ℕ) → IsWorkable path → path ≡ other ++ ending → ⊥

@@ -8,11 +8,11 @@ use Rattle.reuse_header.specs.declared.amendment.AmendHeaderRefusal.{AmendHeader
 use Rattle.reuse_header.specs.Amendment.{amended_file, amendment_of, neighbour_amendment_of}
 use Rattle.reuse_command.specs.declared.command.HeaderRemoval.{HeaderRemoval}
 use Rattle.reuse_command.specs.declared.reply.Refusal.{Refusal}
-use Rattle.reuse_plan.specs.Amend.{removal_edit, some_text}
-use Rattle.reuse_plan.specs.Edit.{Edit, edit_between, edit_to}
-use Rattle.reuse_plan.specs.Removed.{amended_or_refused, in_turn, left_beside, left_inside, neighbour_left}
-use Rattle.reuse_plan.specs.Removed.{neighbour_removal_of, or_refused, removal_of, text_left}
-use Rattle.reuse_plan.proofs.EditLemmas.{edited_to}
+use Rattle.reuse_edit.specs.Amend.{removal_edit, some_text}
+use Rattle.reuse_edit.specs.Edit.{Edit, edit_between, edit_to}
+use Rattle.reuse_edit.specs.Removed.{amended_or_refused, in_turn, left_beside, left_inside, neighbour_left}
+use Rattle.reuse_edit.specs.Removed.{neighbour_removal_of, or_refused, removal_of, text_left}
+use Rattle.reuse_edit.proofs.EditLemmas.{edited_to}
 
 -- both steps of a call that isn't refused
 pub parts_of : {A : Type 0} (path : List ℕ) (first : Result (List ℕ) AmendHeaderRefusal)

@@ -23,10 +23,10 @@ use Rattle.reuse_command.specs.declared.command.Place.{Place}
 use Rattle.reuse_command.specs.declared.command.Scope.{Scope}
 use Rattle.reuse_plan.specs.Amended.{Amends, BecomesNeighbour, IsAmended, IsBlockAmended, IsCoveredAmended}
 use Rattle.reuse_plan.specs.Amended.{IsFileAmended, IsLeftOfBlock, IsLeftOfNeighbour, IsNeighbourAmended}
-use Rattle.reuse_plan.specs.AmendmentPlan.{ExpectedRemoval}
+use Rattle.reuse_edit.specs.AmendmentPlan.{ExpectedRemoval}
 use Rattle.reuse_plan.specs.Annotated.{Pair}
-use Rattle.reuse_plan.specs.Removed.{neighbour_left, neighbour_removal_of, removal_of, text_left}
-use Rattle.reuse_plan.proofs.Results.{same_Ok}
+use Rattle.reuse_edit.specs.Removed.{neighbour_left, neighbour_removal_of, removal_of, text_left}
+use Rattle.reuse_edit.proofs.Results.{same_Ok}
 
 -- ---- a header block
 

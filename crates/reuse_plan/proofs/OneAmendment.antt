@@ -14,12 +14,12 @@ use Rattle.reuse_header.specs.Amendment.{amended_file, amendment_of}
 use Rattle.reuse_change.proofs.FileMaps.{same_files}
 use Rattle.reuse_plan.specs.Amended.{IsNeighbourAmended, IsFileAmended, HasNoPlace, IsTableAmended, IsCoveredAmended}
 use Rattle.reuse_plan.specs.Amended.{IsAmended, Amends, HasNoText, BecomesFile, BecomesNeighbour, IsBlockAmended}
-use Rattle.reuse_plan.specs.Removed.{removal_of, text_left, neighbour_removal_of, neighbour_left}
-use Rattle.reuse_plan.specs.Amend.{amended_table}
-use Rattle.reuse_plan.specs.Annotate.{neighbour_of}
+use Rattle.reuse_edit.specs.Removed.{removal_of, text_left, neighbour_removal_of, neighbour_left}
+use Rattle.reuse_edit.specs.Amend.{amended_table}
+use Rattle.reuse_edit.specs.Annotate.{neighbour_of}
 use Rattle.reuse_plan.specs.Annotated.{IsStyleOf, HasKind, Pair}
-use Rattle.reuse_plan.specs.Tables.{is_table}
-use Rattle.reuse_plan.proofs.TableLemmas.{not_table}
+use Rattle.reuse_edit.specs.Tables.{is_table}
+use Rattle.reuse_edit.proofs.TableLemmas.{not_table}
 use Rattle.reuse_command.specs.Command.{values_of}
 use Rattle.reuse_command.specs.Covered.{is_covered}
 use Rattle.reuse_style.specs.Kinds.{OwnKinds}
@@ -29,7 +29,7 @@ use Rattle.reuse_command.specs.declared.command.FileAmendment.TheVariants.{InHea
 use Rattle.reuse_command.specs.declared.command.Place.{Place}
 use Rattle.reuse_command.specs.declared.command.Scope.{Scope}
 use Rattle.reuse_plan.proofs.OneAnnotation.{one_style, Found, Lacking, searched}
-use Rattle.reuse_plan.proofs.Results.{same_Ok}
+use Rattle.reuse_edit.proofs.Results.{same_Ok}
 
 -- ---- one file
 

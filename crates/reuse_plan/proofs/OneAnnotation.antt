@@ -8,10 +8,9 @@ use Rattle.reuse_style.specs.declared.style.Kind.{Kind}
 use Rattle.reuse_style.specs.declared.style.Kind.TheVariants as kind
 use Rattle.reuse_header.specs.Header.{header_of}
 use Rattle.reuse_header.specs.Neighbour.{is_text}
-use Rattle.reuse_plan.specs.Annotation.{annotated, annotation_of, made_by, neighbour_annotated}
-use Rattle.reuse_plan.specs.Annotation.{neighbour_annotation_of}
-use Rattle.reuse_plan.specs.Annotations.{Expected}
-use Rattle.reuse_plan.specs.Annotate.{neighbour_is_tagged, neighbour_of}
+use Rattle.reuse_edit.specs.Annotation.{annotated, annotation_of, made_by, neighbour_annotated, neighbour_annotation_of}
+use Rattle.reuse_edit.specs.Annotations.{Expected}
+use Rattle.reuse_edit.specs.Annotate.{neighbour_is_tagged, neighbour_of}
 use Rattle.reuse_plan.specs.Annotated.{Pair, IsStyleOf, HasKind, TakesComment, TakesNeighbour, IsSkipped, IsCommented}
 use Rattle.reuse_plan.specs.Annotated.{IsAccompanied, IsAnnotated, Annotates, file_written, pair_at, StaysOrIsText}
 use Rattle.reuse_style.specs.Kinds.{OwnKinds, kind_of_file}
@@ -29,7 +28,7 @@ use Rattle.reuse_header.specs.declared.annotation.How.{How}
 use Rattle.reuse_change.proofs.FileMaps.{same_files}
 use Rattle.reuse_plan.specs.Selected.{selected_paths}
 use Rattle.reuse_command.specs.declared.command.Place.{Place}
-use Rattle.reuse_plan.proofs.Results.{same_Ok}
+use Rattle.reuse_edit.proofs.Results.{same_Ok}
 use Rattle.reuse_notice.specs.Plain.{ArePlain, AreUtf8}
 
 -- ---- where the licensing information of a file goes: into one place

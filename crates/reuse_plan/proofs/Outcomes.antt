@@ -1,31 +1,14 @@
 -- The tree that a command gives, and the edits that make it.
-use Rattle.std.proofs.Common.{◌≡◌, ◌+◌, ◌≤◌, Bool, true, false, cond, ◌||◌, nat_lt, List, length, Option, Some, None}
-use Rattle.std.proofs.Common.{Result, Ok, Err, refl, sym, ap, ap₂, subst, ◌∙◌, sum_by}
+use Rattle.std.proofs.Common.{◌≡◌, ◌+◌, ◌≤◌, false, cond, ◌||◌, nat_lt, List, length, Option, Some, None, Result, Ok}
+use Rattle.std.proofs.Common.{Err, refl, sym, ap, ap₂, subst, ◌∙◌, sum_by}
 use Rattle.std.proofs.lemmas.Bool.{le-ltb, ltb-false, or_parts}
 use Rattle.reuse_change.specs.Files.{Files}
 use Rattle.reuse_plan.specs.Downloads.{unless_refused}
-use Rattle.reuse_plan.specs.Outcome.{Edit, edit_count, edit_size, edited, is_too_many, recorded_size, tree_after}
+use Rattle.reuse_edit.specs.Edit.{Edit}
+use Rattle.reuse_plan.specs.Outcome.{edit_count, edit_size, edited, is_too_many, recorded_size, tree_after}
 use Rattle.reuse_command.specs.declared.reply.Refusal.{Refusal}
 use Rattle.reuse_command.specs.declared.reply.Refusal.TheVariants.{TooMany}
-use Rattle.reuse_plan.proofs.Results.{err_or, same_Ok}
-
--- what isn't refused
-abbrev pub done : Option Edit → Result (Option Edit) Refusal
-done given = Ok given
-
-abbrev pub no_edit : Result (Option Edit) Refusal
-no_edit = Ok None
-
-abbrev pub some_edit : Edit → Result (Option Edit) Refusal
-some_edit edit = Ok (Some edit)
-
-pub same_edit : (one other : Edit) → some_edit one ≡ some_edit other → one ≡ other
-same_edit one other e = cc
-
-pub unskipped : (b : Bool) (r : Result (Option Edit) Refusal) (edit : Edit) → cond b no_edit r ≡ some_edit edit
-    → (b ≡ false) × (r ≡ some_edit edit)
-unskipped true r edit e = absurd (cc)
-unskipped false r edit e = (refl, e)
+use Rattle.reuse_edit.proofs.Results.{err_or, same_Ok}
 
 abbrev pub ok_edits : List Edit → Result (List Edit) Refusal
 ok_edits edits = Ok edits

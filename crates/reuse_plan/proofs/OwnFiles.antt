@@ -13,8 +13,8 @@ use Rattle.reuse_style.specs.declared.style_refusal.StylesRefusal.{StylesRefusal
 use Rattle.reuse_style.specs.declared.style_refusal.StylesRefusal.TheVariants as styles
 use Rattle.reuse_command.specs.declared.reply.Refusal.{Refusal}
 use Rattle.reuse_command.specs.declared.reply.Refusal.TheVariants as refusals
-use Rattle.reuse_plan.specs.Plan.{IsRefusalOf}
-use Rattle.reuse_plan.proofs.Annotating.{refusal_passes}
+use Rattle.reuse_edit.specs.Answered.{IsRefusalOf}
+use Rattle.reuse_edit.proofs.AbsentFiles.{refusal_passes}
 use Rattle.reuse_style.specs.Kinds.{OwnKinds}
 use Rattle.reuse_plan.specs.TreeStyles.{own_file, comments_read, styles_given, styles_read, styles_beside, styles_by}
 use Rattle.reuse_plan.specs.TreeStyles.{comments_refusal, styles_refusal}

@@ -10,14 +10,14 @@ use Rattle.std.proofs.lemmas.Map.Keys.{sorted_head, sorted_tail}
 use Rattle.std.proofs.lemmas.Slice.Eq.{bytes_eq-Decides}
 use Rattle.reuse_notice.proofs.SetLemmas.{In}
 use Rattle.reuse_change.specs.Listing.{ArePaths}
-use Rattle.reuse_plan.specs.Annotate.{neighbour_of}
-use Rattle.reuse_plan.specs.Edit.{file_then}
-use Rattle.reuse_plan.specs.Outcome.{Edit, with_file, edited}
+use Rattle.reuse_edit.specs.Annotate.{neighbour_of}
+use Rattle.reuse_edit.specs.Edit.{file_then, Edit}
+use Rattle.reuse_plan.specs.Outcome.{with_file, edited}
 use Rattle.reuse_command.specs.declared.reply.Refusal.{Refusal}
 use Rattle.reuse_plan.proofs.Annotating.{first_is, no_edits}
 use Rattle.reuse_plan.proofs.Fitting.{no_neighbour, same_file}
 use Rattle.reuse_plan.proofs.Planning.{with_same, with_other, not_itself}
-use Rattle.reuse_plan.proofs.TableLemmas.{IsWorkable}
+use Rattle.reuse_edit.proofs.TableLemmas.{IsWorkable}
 use Rattle.reuse_plan.proofs.TextsPut.{pick}
 use Rattle.reuse_plan.proofs.CommandEdits.{edits_at}
 

@@ -26,8 +26,10 @@ use Rattle.reuse_change.specs.Tree.{is_of_tree}
 use Rattle.reuse_change.specs.Entry.{paths_of, touches, fixed_size, change_size, entry_size, AreAllSealed, HasOwnDigest}
 use Rattle.reuse_change.specs.Entry.{IsSmall, IsEntry, AppliesBy, LeadsAll}
 use Rattle.reuse_change.specs.Listing.{ArePaths, is_among}
-use Rattle.reuse_plan.specs.Outcome.{Edit, with_file, edited, edit_size, is_too_many, tree_after}
-use Rattle.reuse_plan.specs.Plan.{IsPlan, CarriesOutEdit, MakesEach}
+use Rattle.reuse_edit.specs.Edit.{Edit}
+use Rattle.reuse_plan.specs.Outcome.{with_file, edited, edit_size, is_too_many, tree_after}
+use Rattle.reuse_plan.specs.Plan.{IsPlan}
+use Rattle.reuse_edit.specs.Answered.{CarriesOutEdit, MakesEach}
 use Rattle.std.proofs.Math.Bool.{or_comm}
 
 -- the paths of edits

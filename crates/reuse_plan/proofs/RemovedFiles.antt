@@ -25,13 +25,13 @@ use Rattle.reuse_command.specs.declared.command.HeaderRemoval.{HeaderRemoval}
 use Rattle.reuse_command.specs.declared.command.HeaderRemoval.TheVariants.{Texts, Header}
 use Rattle.reuse_plan.specs.Amended.{IsUntagged, KeepsOfNeighbour, KeepsOutsideBlock, KeepsOutsideRemoved}
 use Rattle.reuse_plan.specs.Amended.{left_unless_emptied}
-use Rattle.reuse_plan.specs.AmendmentPlan.{ExpectedRemoval}
-use Rattle.reuse_plan.specs.Edit.{Edit, dropped, edit_between, edit_to, file_then}
-use Rattle.reuse_plan.specs.Removed.{neighbour_left, neighbour_removal_of, removal_of, text_left}
-use Rattle.reuse_plan.proofs.AnnotatedFiles.{IsEditTo, makes_by, then_here, then_other}
-use Rattle.reuse_plan.proofs.BetweenLemmas.{between, between_by, between_makes}
-use Rattle.reuse_plan.proofs.EditLemmas.{edited_to}
-use Rattle.reuse_plan.proofs.Results.{same_Ok}
+use Rattle.reuse_edit.specs.AmendmentPlan.{ExpectedRemoval}
+use Rattle.reuse_edit.specs.Edit.{Edit, dropped, edit_between, edit_to, file_then}
+use Rattle.reuse_edit.specs.Removed.{neighbour_left, neighbour_removal_of, removal_of, text_left}
+use Rattle.reuse_edit.proofs.EditedPlaces.{IsEditTo, makes_by, then_here, then_other}
+use Rattle.reuse_edit.proofs.BetweenLemmas.{between, between_by, between_makes}
+use Rattle.reuse_edit.proofs.EditLemmas.{edited_to}
+use Rattle.reuse_edit.proofs.Results.{same_Ok}
 use Rattle.reuse_plan.proofs.WholeNeighbours.{left_is, untagged_none, untagged_whole, without_whole}
 
 -- ---- a header block

@@ -24,7 +24,7 @@ use Rattle.reuse_change.specs.declared.digest.Seal.{Seal}
 use Rattle.reuse_change.proofs.FileMaps.{same_files}
 use Rattle.reuse_text.specs.declared.TheConstants.{LONGEST_FILE}
 use Rattle.reuse_change.specs.Clash.{is_clash}
-use Rattle.reuse_plan.specs.Edit.{Edit, made, dropped}
+use Rattle.reuse_edit.specs.Edit.{Edit, made, dropped}
 use Rattle.reuse_change.specs.Entry.{makes, removed_by, written_by, touches, fixed_size, change_size, AreAllSealed}
 use Rattle.reuse_change.specs.Entry.{IsEntry, IsSmall, LeadsAll}
 use Rattle.reuse_change.specs.Listing.{is_among}

@@ -19,10 +19,10 @@ use Rattle.reuse_change.specs.declared.change.Change.TheVariants.{Make, Drop, Sp
 use Rattle.reuse_change.specs.declared.digest.Seal.{Seal}
 use Rattle.reuse_text.specs.declared.TheConstants.{LONGEST_FILE}
 use Rattle.reuse_change.specs.Clash.{is_clash}
-use Rattle.reuse_plan.specs.Edit.{Edit, made, dropped}
+use Rattle.reuse_edit.specs.Edit.{Edit, made, dropped}
 use Rattle.reuse_change.specs.Entry.{makes, paths_of, touches, IsEntry}
 use Rattle.reuse_change.specs.Listing.{is_among, ArePaths}
-use Rattle.reuse_plan.specs.Plan.{CarriesOutEdit, MakesEdit}
+use Rattle.reuse_edit.specs.Answered.{CarriesOutEdit, MakesEdit}
 use Rattle.reuse_plan.specs.Reverting.{stands_at, is_as_left, stands_as_written, is_short, put_back, taken_back}
 use Rattle.reuse_plan.specs.Reverting.{taken_back_on, taken_back_unless}
 use Rattle.reuse_change.specs.declared.direction.Direction.TheVariants.{Backward}

@@ -12,7 +12,8 @@ use Rattle.reuse_change.specs.declared.change.Change.{Change}
 use Rattle.reuse_change.specs.Clash.{is_clash}
 use Rattle.reuse_change.specs.Entry.{makes, touches, IsEntry, IsSmall, LeadsAll}
 use Rattle.reuse_change.specs.Listing.{is_among}
-use Rattle.reuse_plan.specs.Outcome.{Edit, edited, outcome_of, edits_of, tree_after}
+use Rattle.reuse_edit.specs.Edit.{Edit}
+use Rattle.reuse_plan.specs.Outcome.{edited, outcome_of, edits_of, tree_after}
 use Rattle.reuse_plan.specs.Reverting.{taken_back, taken_back_on, taken_back_unless}
 use Rattle.reuse_command.specs.declared.command.Command.TheVariants.{Revert}
 use Rattle.reuse_change.specs.declared.direction.Direction.TheVariants.{Backward}

@@ -21,9 +21,10 @@ use Rattle.reuse_change.proofs.ListingLemmas.{under_from_test, test_from_under}
 use Rattle.reuse_change.proofs.NeedLemmas.{none_pruned}
 use Rattle.reuse_store.proofs.OfTree.{fronts, slash_inside}
 use Rattle.reuse_store.proofs.TreeLemmas.{among_keys, keys_ascend, tree_keys}
-use Rattle.reuse_plan.specs.Annotate.{neighbour_of}
-use Rattle.reuse_plan.specs.Licence.{licence_path}
-use Rattle.reuse_plan.specs.Shown.{Shows, ShowsEach, ShowsLicences, ShowsOne, ShowsPair, neighbours_of, with_neighbours}
+use Rattle.reuse_edit.specs.Annotate.{neighbour_of}
+use Rattle.reuse_edit.specs.Licence.{licence_path}
+use Rattle.reuse_plan.specs.Shown.{Shows, ShowsEach, ShowsLicences, ShowsOne, neighbours_of, with_neighbours}
+use Rattle.reuse_edit.specs.Pair.{ShowsPair}
 use Rattle.reuse_plan.specs.declared.select.Listing.{Listing}
 use Rattle.reuse_plan.proofs.Members.{any_has}
 

@@ -1,9 +1,7 @@
 -- An addition of styles: its edits, and the changes that carry them out.
-use Rattle.std.proofs.Common.{◌≡◌, ◌⊎◌, inl, inr, ℕ, ◌+◌, ◌-◌, ◌≤◌, Bool, true, false, cond, ◌||◌, nat_lt}
-use Rattle.std.proofs.Common.{List, [], ◌∷◌, ◌++◌}
-use Rattle.std.proofs.Common.{length, take, drop, Option, Some, None, Result, Ok, Err, IsTrue, refl, sym}
-use Rattle.std.proofs.Common.{ap, subst, ◌∙◌}
-use Rattle.std.proofs.Common.{arith, ◌≢◌, bytes_eq, length-append}
+use Rattle.std.proofs.Common.{◌≡◌, ◌⊎◌, inl, inr, ℕ, ◌+◌, ◌-◌, ◌≤◌, Bool, true, false, cond, ◌||◌, nat_lt, List, []}
+use Rattle.std.proofs.Common.{◌∷◌, ◌++◌, length, take, drop, Option, Some, None, Result, Ok, Err, IsTrue, refl, sym, ap}
+use Rattle.std.proofs.Common.{subst, ◌∙◌, arith, ◌≢◌, bytes_eq, length-append}
 use Rattle.std.specs.List.{AllByRecursion}
 use Rattle.std.specs.List.Sorted.{IsStrictlySortedBy}
 use Rattle.std.specs.Option.{option_to_list}
@@ -28,16 +26,16 @@ use Rattle.reuse_ready.specs.declared.own_lines.AddedLines.{AddedLines}
 use Rattle.reuse_command.specs.declared.reply.Refusal.{Refusal}
 use Rattle.reuse_command.specs.declared.reply.Refusal.TheVariants as refusals
 use Rattle.reuse_store.proofs.Testing.{clashes_keys}
-use Rattle.reuse_plan.specs.Edit.{Edit, made, appended}
-use Rattle.reuse_plan.specs.PathEdits.{or_first}
-use Rattle.reuse_plan.specs.Plan.{AnswersEdit, CarriesOutEdit, IsRefusalOf, MakesEdit, MakesEdits}
+use Rattle.reuse_edit.specs.Edit.{Edit, made, appended}
+use Rattle.reuse_edit.specs.PathEdits.{or_first}
+use Rattle.reuse_edit.specs.Answered.{AnswersEdit, CarriesOutEdit, IsRefusalOf, MakesEdit, MakesEdits}
 use Rattle.reuse_plan.specs.StyleEdits.{edits_for, file_with, lines_edit, lines_for, style_edits}
 use Rattle.reuse_plan.specs.TreeStyles.{styles_path, comments_path, styles_in}
-use Rattle.reuse_plan.proofs.Annotating.{refusal_passes}
-use Rattle.reuse_plan.proofs.Outcomes.{done, some_edit, same_edit, unskipped}
+use Rattle.reuse_edit.proofs.AbsentFiles.{refusal_passes}
+use Rattle.reuse_edit.proofs.EditResults.{done, some_edit, same_edit, unskipped}
 use Rattle.reuse_plan.proofs.Planning.{AreEdits, IsFit, paths_at}
-use Rattle.reuse_plan.proofs.Results.{err_or, same_Ok}
-use Rattle.reuse_plan.proofs.SpliceLemmas.{makes_splice}
+use Rattle.reuse_edit.proofs.Results.{err_or, same_Ok}
+use Rattle.reuse_edit.proofs.SpliceLemmas.{makes_splice}
 
 -- ---- the edit of one file
 

@@ -1,8 +1,7 @@
 -- What an addition of styles leaves where it isn't refused.
-use Rattle.std.proofs.Common.{◌≡◌, ◌≢◌, ◌⊎◌, inl, inr, ℕ, ◌+◌, ◌≤◌, Bool, true, false, cond, ◌&&◌, nat_lt}
-use Rattle.std.proofs.Common.{List, [], ◌∷◌, ◌++◌}
-use Rattle.std.proofs.Common.{length, Option, Some, None, is_none, Result, Ok, Err, refl, sym, ap, subst, ◌∙◌}
-use Rattle.std.proofs.Common.{arith, length-append}
+use Rattle.std.proofs.Common.{◌≡◌, ◌≢◌, ◌⊎◌, inl, inr, ℕ, ◌+◌, ◌≤◌, Bool, true, false, cond, ◌&&◌, nat_lt, List, []}
+use Rattle.std.proofs.Common.{◌∷◌, ◌++◌, length, Option, Some, None, is_none, Result, Ok, Err, refl, sym, ap, subst}
+use Rattle.std.proofs.Common.{◌∙◌, arith, length-append}
 use Rattle.std.specs.FinMap.{get}
 use Rattle.std.specs.List.{AllByRecursion}
 use Rattle.std.specs.Option.{option_to_list}
@@ -35,16 +34,16 @@ use Rattle.reuse_change.specs.Files.{Files}
 use Rattle.reuse_command.specs.declared.command.Command.TheVariants.{AddStyles}
 use Rattle.reuse_command.specs.declared.reply.Refusal.{Refusal}
 use Rattle.reuse_command.specs.declared.reply.Refusal.TheVariants as refusals
-use Rattle.reuse_plan.specs.Edit.{Edit, made, appended}
+use Rattle.reuse_edit.specs.Edit.{Edit, made, appended}
 use Rattle.reuse_plan.specs.Outcome.{edited, edits_of, outcome_of, with_file}
 use Rattle.reuse_plan.specs.StyleEdits.{file_with, lines_edit, lines_for, lines_read}
 use Rattle.reuse_plan.specs.StylesAdded.{AddsStyles, IsNamed, StandsInFront}
-use Rattle.reuse_plan.specs.TreeStyles.{comments_path, own_file, styles_by}
-use Rattle.reuse_plan.specs.TreeStyles.{styles_in, styles_path}
+use Rattle.reuse_plan.specs.TreeStyles.{comments_path, own_file, styles_by, styles_in, styles_path}
 use Rattle.reuse_plan.proofs.CommandEdits.{of_addition}
-use Rattle.reuse_plan.proofs.Outcomes.{done, no_edit, edits_of_tree}
+use Rattle.reuse_edit.proofs.EditResults.{done, no_edit}
+use Rattle.reuse_plan.proofs.Outcomes.{edits_of_tree}
 use Rattle.reuse_plan.proofs.Planning.{with_other, with_same}
-use Rattle.reuse_plan.proofs.Results.{err_or, same_Ok}
+use Rattle.reuse_edit.proofs.Results.{err_or, same_Ok}
 use Rattle.reuse_plan.proofs.StyleAdding.{IsMadeOfLines, HasLinesBehind, addition_is, lines_are}
 
 -- ---- what was read back

@@ -7,15 +7,16 @@ use Rattle.std.proofs.lemmas.Bool.{false≢true}
 use Rattle.std.proofs.lemmas.Slice.Eq.{bytes_eq-Decides}
 use Rattle.reuse_notice.specs.Sets.{set_of}
 use Rattle.reuse_notice.proofs.SetLemmas.{In, In-from_contains, Contains-from_in, In-set_of, set_of-has}
-use Rattle.reuse_plan.specs.Downloads.{text_for, ids_refusal, licence_edit, unless_refused}
-use Rattle.reuse_plan.specs.Licence.{licence_path, licence_id}
+use Rattle.reuse_edit.specs.Licence.{text_for, licence_path, licence_id}
+use Rattle.reuse_plan.specs.Downloads.{ids_refusal, licence_edit, unless_refused}
 use Rattle.reuse_change.specs.Listing.{is_among}
-use Rattle.reuse_plan.specs.Outcome.{Edit, edited, outcome_of, edits_of}
+use Rattle.reuse_edit.specs.Edit.{Edit}
+use Rattle.reuse_plan.specs.Outcome.{edited, outcome_of, edits_of}
 use Rattle.reuse_plan.specs.TextsPut.{PutsTexts}
 use Rattle.reuse_command.specs.declared.command.Command.TheVariants.{Download}
 use Rattle.reuse_command.specs.declared.licence.LicenceText.{LicenceText}
 use Rattle.reuse_plan.proofs.Downloading.{IsMade, are_made, download_fits}
-use Rattle.reuse_plan.proofs.LicenceLemmas.{id_of_path}
+use Rattle.reuse_edit.proofs.LicenceLemmas.{id_of_path}
 use Rattle.reuse_plan.proofs.Outcomes.{edits_of_tree, edits_unless}
 use Rattle.reuse_plan.proofs.Planning.{paths_at, EachHas, edited_has, edited_other}
 use Rattle.reuse_plan.proofs.CommandEdits.{of_download}

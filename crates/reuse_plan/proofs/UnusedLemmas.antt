@@ -4,16 +4,16 @@ use Rattle.std.proofs.Common.{subst}
 use Rattle.std.proofs.lemmas.Bool.{false≢true}
 use Rattle.reuse_change.specs.Files.{Files}
 use Rattle.reuse_command.specs.Command.{has_root}
-use Rattle.reuse_plan.specs.Plan.{IsRefusalOf}
+use Rattle.reuse_edit.specs.Answered.{IsRefusalOf}
 use Rattle.reuse_command.specs.Answer.{IsNoFailure}
 use Rattle.reuse_style.specs.Kinds.{OwnKinds}
 use Rattle.reuse_plan.specs.Unused.{AreUnusedAt, AreUnusedIf, AreUnusedWhere}
 use Rattle.reuse_command.specs.declared.command.Place.{Place}
 use Rattle.reuse_command.specs.declared.command.Scope.{Scope}
-use Rattle.reuse_plan.specs.declared.path_plan.Policy.{Policy}
+use Rattle.reuse_edit.specs.declared.path_plan.Policy.{Policy}
 use Rattle.reuse_command.specs.declared.reply.Refusal.{Refusal}
 use Rattle.reuse_plan.specs.declared.unused.Unused.{Unused}
-use Rattle.reuse_plan.proofs.PathPlanning.{reported_is}
+use Rattle.reuse_edit.proofs.PathPlanLemmas.{reported_is}
 
 -- where the root is given and refused, folders aren't gone through
 pub not_recursive : (scope : Scope) (places : List Place) → (not scope.recursive && has_root places) ≡ true

@@ -31,9 +31,9 @@ use Rattle.reuse_words.specs.Removal.{some_edit}
 use Rattle.reuse_words.specs.declared.removal.NeighbourChange.TheVariants.{Changed, Emptied}
 use Rattle.reuse_words.proofs.FileLawLemmas.{written_some}
 use Rattle.reuse_plan.specs.Amended.{left_unless_emptied}
-use Rattle.reuse_plan.specs.Removed.{neighbour_left}
-use Rattle.reuse_plan.proofs.LeftLemmas.{removed_len}
-use Rattle.reuse_plan.proofs.Results.{same_Ok}
+use Rattle.reuse_edit.specs.Removed.{neighbour_left}
+use Rattle.reuse_edit.proofs.LeftLemmas.{removed_len}
+use Rattle.reuse_edit.proofs.Results.{same_Ok}
 
 -- an edit puts a text in the place of all that a neighbour says
 abbrev pub IsWhole : List ℕ → Edit → Type 0

@@ -17,18 +17,17 @@ use Rattle.reuse_style.specs.declared.style.Kind.TheVariants as kind
 use Rattle.reuse_dep5.specs.Conversion.{converted}
 use Rattle.reuse_toml.specs.TomlAmending.{toml_amendment_of}
 use Rattle.reuse_change.specs.Files.{Files, Clashes}
-use Rattle.reuse_plan.specs.Annotation.{annotated, neighbour_annotated}
-use Rattle.reuse_plan.specs.Amend.{amended_table}
-use Rattle.reuse_plan.specs.Removed.{removal_of, text_left, neighbour_removal_of, neighbour_left}
-use Rattle.reuse_plan.specs.Annotate.{neighbour_of}
+use Rattle.reuse_edit.specs.Annotation.{annotated, neighbour_annotated}
+use Rattle.reuse_edit.specs.Amend.{amended_table}
+use Rattle.reuse_edit.specs.Removed.{removal_of, text_left, neighbour_removal_of, neighbour_left}
+use Rattle.reuse_edit.specs.Annotate.{neighbour_of}
 use Rattle.reuse_plan.specs.Annotated.{Pair, pair_at, IsSkipped, IsStyleOf, TakesComment, TakesNeighbour}
 use Rattle.reuse_command.specs.Command.{has_root, values_of}
-use Rattle.reuse_plan.specs.Conversion.{dep5_path, toml_path}
+use Rattle.reuse_plan.specs.Conversion.{dep5_path}
+use Rattle.reuse_edit.specs.Tables.{toml_path, is_table}
 use Rattle.reuse_command.specs.Covered.{is_covered}
-use Rattle.reuse_plan.specs.Downloads.{text_for}
-use Rattle.reuse_plan.specs.Licence.{is_id, licence_path}
+use Rattle.reuse_edit.specs.Licence.{text_for, is_id, licence_path}
 use Rattle.reuse_plan.specs.Outcome.{edit_count, edits_of, recorded_size}
-use Rattle.reuse_plan.specs.Tables.{is_table}
 use Rattle.reuse_plan.specs.TreeStyles.{styles_in}
 use Rattle.reuse_plan.specs.Selected.{amended_paths, selected_paths}
 use Rattle.reuse_command.specs.declared.command.Command.{Command}

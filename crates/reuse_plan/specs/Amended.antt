@@ -29,13 +29,13 @@ use Rattle.reuse_tags.specs.Placed.{IsChangedInValues}
 use Rattle.reuse_change.specs.Files.{Files}
 use Rattle.reuse_words.specs.FileLaws.{IsUntaggedComment}
 use Rattle.reuse_words.specs.Removal.{gap_behind}
-use Rattle.reuse_plan.specs.Amend.{amended_table}
-use Rattle.reuse_plan.specs.Removed.{removal_of, text_left, neighbour_removal_of, neighbour_left}
-use Rattle.reuse_plan.specs.Annotate.{neighbour_of}
+use Rattle.reuse_edit.specs.Amend.{amended_table}
+use Rattle.reuse_edit.specs.Removed.{removal_of, text_left, neighbour_removal_of, neighbour_left}
+use Rattle.reuse_edit.specs.Annotate.{neighbour_of}
 use Rattle.reuse_plan.specs.Annotated.{IsSameAround, IsStyleOf, HasKind, Pair, pair_at}
 use Rattle.reuse_command.specs.Command.{values_of}
 use Rattle.reuse_command.specs.Covered.{is_covered}
-use Rattle.reuse_plan.specs.Tables.{is_table}
+use Rattle.reuse_edit.specs.Tables.{is_table}
 use Rattle.reuse_plan.specs.TreeStyles.{styles_in}
 use Rattle.reuse_plan.specs.Selected.{amended_paths}
 use Rattle.reuse_command.specs.declared.command.FileAmendment.{FileAmendment}

@@ -16,8 +16,8 @@ use Rattle.reuse_header.specs.Header.{HeaderSpan, header_of, span_in}
 use Rattle.reuse_style.specs.Kinds.{OwnKinds, kind_of_file}
 use Rattle.reuse_header.specs.Neighbour.{is_text, neighbour_end}
 use Rattle.reuse_change.specs.Files.{Files}
-use Rattle.reuse_plan.specs.Annotation.{annotated, neighbour_annotated}
-use Rattle.reuse_plan.specs.Annotate.{neighbour_of, neighbour_is_tagged}
+use Rattle.reuse_edit.specs.Annotation.{annotated, neighbour_annotated}
+use Rattle.reuse_edit.specs.Annotate.{neighbour_of, neighbour_is_tagged}
 use Rattle.reuse_command.specs.Covered.{is_covered}
 use Rattle.reuse_plan.specs.TreeStyles.{styles_in}
 use Rattle.reuse_plan.specs.Selected.{selected_paths}

@@ -9,7 +9,7 @@ use Rattle.reuse_toml.specs.GlobMatch.{GlobMatches}
 use Rattle.reuse_change.specs.Path.{lies_under}
 use Rattle.reuse_change.specs.Files.{Files}
 use Rattle.reuse_command.specs.Command.{has_root, paths_among}
-use Rattle.reuse_plan.specs.Tables.{is_table}
+use Rattle.reuse_edit.specs.Tables.{is_table}
 use Rattle.reuse_command.specs.Covered.{is_covered}
 use Rattle.reuse_change.specs.Listing.{is_folder}
 use Rattle.reuse_command.specs.declared.command.Place.{Place}

@@ -7,16 +7,14 @@ use Rattle.reuse_change.specs.Files.{Files}
 use Rattle.reuse_dep5.specs.declared.refusal.Dep5Refusal.{Dep5Refusal}
 use Rattle.reuse_dep5.specs.Conversion.{converted}
 use Rattle.reuse_text.specs.declared.TheConstants.{LONGEST_FILE}
-use Rattle.reuse_plan.specs.Edit.{Edit, made, dropped}
+use Rattle.reuse_edit.specs.Edit.{Edit, made, dropped}
 use Rattle.reuse_change.specs.Clash.{is_clash}
 use Rattle.reuse_command.specs.declared.reply.Refusal.{Refusal}
 use Rattle.reuse_command.specs.declared.reply.Refusal.TheVariants.{NoDep5, TooLong, Exists, Dep5, Clash}
+use Rattle.reuse_edit.specs.Tables.{toml_path}
 
 abbrev pub dep5_path : List ℕ
 dep5_path = codes ".reuse/dep5"
-
-abbrev pub toml_path : List ℕ
-toml_path = codes "REUSE.toml"
 
 -- the dep5 is removed and the text made, unless the dep5 is refused or the text's file clashes
 abbrev pub replaced_by : Files → List ℕ → Result (List ℕ) Dep5Refusal → Result (List Edit) Refusal

@@ -6,9 +6,9 @@ use Rattle.std.specs.Prelude.{Ok}
 use Rattle.reuse_header.specs.declared.harm.Harm.{Harm}
 use Rattle.reuse_change.specs.Change.{path_of}
 use Rattle.reuse_change.specs.Files.{Files}
-use Rattle.reuse_plan.specs.Edit.{Edit}
+use Rattle.reuse_edit.specs.Edit.{Edit}
 use Rattle.reuse_plan.specs.Outcome.{path_edits_of}
-use Rattle.reuse_plan.specs.PathEdits.{PathEdit}
+use Rattle.reuse_edit.specs.PathEdits.{PathEdit}
 use Rattle.reuse_plan.specs.PathOutcomes.{left_paths, path_outcomes_of}
 use Rattle.reuse_plan.specs.Unused.{AreUnusedBy}
 use Rattle.reuse_command.specs.declared.command.Command.{Command}
@@ -17,8 +17,8 @@ use Rattle.reuse_plan.specs.declared.counts.Harmed.{Harmed}
 use Rattle.reuse_command.specs.declared.path_outcome.PathOutcome.{PathOutcome}
 use Rattle.reuse_command.specs.declared.path_outcome.PathOutcome.TheVariants.{Skipped}
 use Rattle.reuse_command.specs.declared.reply.Refusal.{Refusal}
-use Rattle.reuse_plan.specs.declared.path_plan.PathPlan.{PathPlan}
-use Rattle.reuse_plan.specs.declared.path_plan.PathPlan.TheVariants as plan
+use Rattle.reuse_edit.specs.declared.path_plan.PathPlan.{PathPlan}
+use Rattle.reuse_edit.specs.declared.path_plan.PathPlan.TheVariants as plan
 
 abbrev pub is_skip : PathOutcome → Bool
 is_skip (Skipped path) = true

@@ -2,8 +2,7 @@
 use Rattle.std.specs.Prelude.{◌≤◌, ℕ, List, [], length, IsSome, unwrap_or}
 use Rattle.reuse_change.specs.declared.change.Change.{Change}
 use Rattle.reuse_change.specs.Change.{sealed_make}
-use Rattle.reuse_plan.specs.Licence.{licence_id}
-use Rattle.reuse_plan.specs.Downloads.{text_for}
+use Rattle.reuse_edit.specs.Licence.{licence_id, text_for}
 use Rattle.reuse_command.specs.declared.licence.LicenceText.{LicenceText}
 
 -- the text of the licence that stands at a path is made a file

@@ -3,23 +3,17 @@
 use Rattle.std.specs.Prelude.{ℕ, List, [], ◌∷◌, length, map, filter_map, Option, Some, None, Result, Ok, Err, nat_lt}
 use Rattle.std.specs.Prelude.{if◌then◌else◌, is_some, unwrap_or}
 use Rattle.std.specs.Option.{option_map, option_or}
-use Rattle.std.specs.Str.{bytes_eq}
 use Rattle.std.specs.FinMap.{get}
 use Rattle.reuse_notice.specs.Sets.{set_of}
 use Rattle.reuse_change.specs.Files.{Files}
 use Rattle.reuse_text.specs.declared.TheConstants.{LONGEST_FILE}
-use Rattle.reuse_plan.specs.Edit.{Edit, made}
+use Rattle.reuse_edit.specs.Edit.{Edit, made}
 use Rattle.reuse_change.specs.Clash.{is_clash}
-use Rattle.reuse_plan.specs.Licence.{is_id, licence_path, licence_id}
-use Rattle.reuse_plan.specs.PathEdits.{PathEdit, refused_with, all_or_none}
+use Rattle.reuse_edit.specs.Licence.{is_id, licence_path, licence_id, text_for}
+use Rattle.reuse_edit.specs.PathEdits.{PathEdit, refused_with, all_or_none}
 use Rattle.reuse_command.specs.declared.licence.LicenceText.{LicenceText}
 use Rattle.reuse_command.specs.declared.reply.Refusal.{Refusal}
 use Rattle.reuse_command.specs.declared.reply.Refusal.TheVariants.{BadId, NoText, TooLong, Exists, Clash}
-
--- the text that was found for an id: the first that is given for it counts
-abbrev pub text_for : List LicenceText → List ℕ → Option (List ℕ)
-text_for [] id = None
-text_for (given ∷ texts) id = if bytes_eq given.id id then given.text else text_for texts id
 
 -- why no file is made of what was found for an id
 abbrev pub refusal_of_found : Files → List ℕ → Option (List ℕ) → Option Refusal

@@ -1,15 +1,16 @@
 -- What is done at a path and at places, by what is asked of each file, for private clauses.
 use Rattle.std.specs.Prelude.{ℕ, Bool, List}
 use Rattle.reuse_change.specs.Files.{Files}
-use Rattle.reuse_plan.specs.AnnotationPlan.{path_by}
-use Rattle.reuse_plan.specs.AmendmentPlan.{own_of}
-use Rattle.reuse_plan.specs.Outcome.{amendment_at, at_places}
-use Rattle.reuse_plan.specs.PathEdits.{PathEdit}
+use Rattle.reuse_edit.specs.AnnotationPlan.{path_by}
+use Rattle.reuse_edit.specs.AmendmentPlan.{own_of}
+use Rattle.reuse_edit.specs.AtPath.{amendment_at}
+use Rattle.reuse_plan.specs.Outcome.{at_places}
+use Rattle.reuse_edit.specs.PathEdits.{PathEdit}
 use Rattle.reuse_command.specs.Covered.{is_covered}
 use Rattle.reuse_plan.specs.Selected.{is_chosen, paths_for}
-use Rattle.reuse_plan.specs.Tables.{is_amendable}
-use Rattle.reuse_plan.specs.declared.annotation.FileTask.{FileTask}
-use Rattle.reuse_plan.specs.declared.annotation.FileTask.TheVariants.{Annotation, Amendment}
+use Rattle.reuse_edit.specs.Tables.{is_amendable}
+use Rattle.reuse_plan.specs.declared.file_task.FileTask.{FileTask}
+use Rattle.reuse_plan.specs.declared.file_task.FileTask.TheVariants.{Annotation, Amendment}
 use Rattle.reuse_command.specs.declared.command.Place.{Place}
 use Rattle.reuse_command.specs.declared.command.Scope.{Scope}
 

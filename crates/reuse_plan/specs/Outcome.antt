@@ -1,5 +1,5 @@
 -- What a command gives on a whole tree: the tree after it, or the first refusal.
-use Rattle.std.specs.Prelude.{ℕ, ◌+◌, ◌*◌, not, ◌&&◌, ◌||◌, Bool, false, List, [], ◌∷◌, length, map, Option, Some, None}
+use Rattle.std.specs.Prelude.{ℕ, ◌+◌, ◌*◌, not, ◌&&◌, ◌||◌, Bool, List, [], ◌∷◌, length, map, Option, Some, None}
 use Rattle.std.specs.Prelude.{Result, Ok, Err, nat_lt, if◌then◌else◌}
 use Rattle.std.specs.List.{sum_by}
 use Rattle.std.specs.FinMap.{insert, remove}
@@ -7,17 +7,12 @@ use Rattle.reuse_change.specs.declared.layout.TheConstants.{LARGEST_ENTRY, MOST_
 use Rattle.reuse_command.specs.declared.command.HeaderAdditions.{HeaderAdditions}
 use Rattle.reuse_header.specs.declared.annotation.How.{How}
 use Rattle.reuse_change.specs.Files.{Files}
-use Rattle.reuse_plan.specs.Amend.{amended_at}
-use Rattle.reuse_plan.specs.Annotate.{annotated_at}
-use Rattle.reuse_command.specs.Command.{has_root, values_of}
+use Rattle.reuse_command.specs.Command.{has_root}
 use Rattle.reuse_plan.specs.Conversion.{conversion_edits}
 use Rattle.reuse_plan.specs.Downloads.{downloads_at}
-pub use Rattle.reuse_plan.specs.Edit.{Edit}
-use Rattle.reuse_plan.specs.Harmed.{harm_in}
-use Rattle.reuse_plan.specs.Left.{is_left}
-use Rattle.reuse_plan.specs.PathEdits.{PathEdit, refused_alone, all_or_none, edits_in}
+use Rattle.reuse_edit.specs.Edit.{Edit}
+use Rattle.reuse_edit.specs.PathEdits.{PathEdit, refused_alone, all_or_none, edits_in}
 use Rattle.reuse_plan.specs.Reverting.{reverted_at}
-use Rattle.reuse_plan.specs.Skipped.{is_skipped}
 use Rattle.reuse_plan.specs.StyleEdits.{style_edits}
 use Rattle.reuse_plan.specs.TreeStyles.{styles_in}
 use Rattle.reuse_style.specs.Kinds.{OwnKinds}
@@ -31,6 +26,7 @@ use Rattle.reuse_command.specs.declared.command.Place.TheVariants as place
 use Rattle.reuse_command.specs.declared.command.Scope.{Scope}
 use Rattle.reuse_command.specs.declared.reply.Refusal.{Refusal}
 use Rattle.reuse_command.specs.declared.reply.Refusal.TheVariants.{IsFolder, TooMany}
+use Rattle.reuse_edit.specs.AtPath.{annotation_at, amendment_at}
 
 -- ---- edits
 
@@ -70,33 +66,11 @@ abbrev pub at_places : (List ℕ → PathEdit) → Scope → List Place → List
 at_places at scope places paths =
     if not scope.recursive && has_root places then refused_alone (IsFolder place.Root) else map at paths
 
--- what annotate does at a path, where the tree gives these kinds to its own names
-abbrev pub annotation_at : How → Scope → HeaderAdditions → OwnKinds → Files → List ℕ → PathEdit
-annotation_at how scope additions own tree path =
-    record {
-      path = path;
-      skipped = is_skipped scope own tree path;
-      harm = harm_in scope own tree path;
-      left = false;
-      edit = annotated_at how scope additions own tree path;
-    }
-
 -- at these places; the refusal of the tree's styles stands alone
 abbrev pub annotations_by : List Place → HeaderAdditions → How → Scope → Files → Result OwnKinds Refusal → List PathEdit
 annotations_by places additions how scope tree (Err refusal) = refused_alone refusal
 annotations_by places additions how scope tree (Ok own) =
     at_places (annotation_at how scope additions own tree) scope places (selected_paths scope places tree)
-
--- what amend does at a path: it skips none, and puts no header into a file without one
-abbrev pub amendment_at : FileAmendment → Scope → OwnKinds → Files → List ℕ → PathEdit
-amendment_at amendment scope own tree path =
-    record {
-      path = path;
-      skipped = false;
-      harm = None;
-      left = is_left (values_of amendment) tree path (amended_at amendment scope own tree path);
-      edit = amended_at amendment scope own tree path;
-    }
 
 abbrev pub amendments_by : List Place → FileAmendment → Scope → Files → Result OwnKinds Refusal → List PathEdit
 amendments_by places amendment scope tree (Err refusal) = refused_alone refusal

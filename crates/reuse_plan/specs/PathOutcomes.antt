@@ -6,9 +6,9 @@ use Rattle.reuse_change.specs.Files.{Files}
 use Rattle.reuse_change.specs.Change.{path_of}
 use Rattle.reuse_change.specs.declared.change.Change.{Change}
 use Rattle.reuse_change.specs.Entry.{CanBeMade}
-use Rattle.reuse_plan.specs.Edit.{Edit}
+use Rattle.reuse_edit.specs.Edit.{Edit}
 use Rattle.reuse_plan.specs.Outcome.{amendments_by, path_edits_of, edits_of, is_too_many}
-use Rattle.reuse_plan.specs.PathEdits.{PathEdit}
+use Rattle.reuse_edit.specs.PathEdits.{PathEdit}
 use Rattle.reuse_plan.specs.TreeStyles.{styles_in}
 use Rattle.reuse_command.specs.declared.command.Command.TheVariants.{Amend}
 use Rattle.reuse_command.specs.declared.command.Command.{Command}

@@ -13,8 +13,8 @@ use Rattle.reuse_change.specs.declared.change.Change.TheVariants.{Make, Drop, Sp
 use Rattle.reuse_change.specs.declared.digest.Seal.{Seal}
 use Rattle.reuse_text.specs.declared.TheConstants.{LONGEST_FILE}
 use Rattle.reuse_change.specs.Clash.{is_clash}
-use Rattle.reuse_plan.specs.Edit.{Edit, made, dropped}
-use Rattle.reuse_plan.specs.PathEdits.{PathEdit}
+use Rattle.reuse_edit.specs.Edit.{Edit, made, dropped}
+use Rattle.reuse_edit.specs.PathEdits.{PathEdit}
 use Rattle.reuse_change.specs.Entry.{makes}
 use Rattle.reuse_change.specs.Listing.{is_among}
 use Rattle.reuse_change.specs.declared.direction.Direction.TheVariants.{Backward}

@@ -8,7 +8,7 @@ use Rattle.reuse_change.specs.Files.{Files}
 use Rattle.reuse_command.specs.Choice.{is_listed, matches_one}
 use Rattle.reuse_command.specs.Command.{paths_among}
 use Rattle.reuse_command.specs.Covered.{is_covered}
-use Rattle.reuse_plan.specs.Tables.{is_amendable}
+use Rattle.reuse_edit.specs.Tables.{is_amendable}
 use Rattle.reuse_change.specs.Listing.{is_folder}
 use Rattle.reuse_command.specs.declared.command.Place.{Place}
 use Rattle.reuse_command.specs.declared.command.Place.TheVariants.{Root, Path}

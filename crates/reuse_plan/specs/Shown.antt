@@ -1,18 +1,19 @@
 -- What a listing of a part of the tree shows of a path.
-use Rattle.std.specs.Prelude.{◌≡◌, ℕ, Bool, false, List, [], ◌∷◌, length, nat_lt, filter, flat_map, true, if◌then◌else◌}
+use Rattle.std.specs.Prelude.{◌≡◌, ℕ, Bool, List, [], ◌∷◌, length, nat_lt, filter, flat_map, true, if◌then◌else◌}
 use Rattle.std.specs.List.{All}
 use Rattle.std.specs.FinMap.{keys}
 use Rattle.reuse_change.specs.Clash.{is_clash, is_clash_of}
 use Rattle.reuse_change.specs.Files.{Files}
 use Rattle.reuse_change.specs.Listing.{ArePaths, is_among, is_folder, is_folder_of}
-use Rattle.reuse_plan.specs.Annotate.{neighbour_of}
+use Rattle.reuse_edit.specs.Annotate.{neighbour_of}
 use Rattle.reuse_change.specs.Path.{lies_under}
 use Rattle.reuse_command.specs.Command.{has_root}
-use Rattle.reuse_plan.specs.Licence.{licence_path}
+use Rattle.reuse_edit.specs.Licence.{licence_path}
 use Rattle.reuse_command.specs.declared.command.Place.{Place}
 use Rattle.reuse_command.specs.declared.command.Place.TheVariants.{Root, Path}
 use Rattle.reuse_plan.specs.declared.select.Listing.{Listing}
 use Rattle.reuse_plan.specs.declared.select.Listing.TheVariants.{Listed, Alone}
+use Rattle.reuse_edit.specs.Pair.{ShowsPair}
 
 -- these paths, which are in byte order, have the path exactly if the tree has it, and it clashes with them exactly if
 -- it does with the tree
@@ -24,14 +25,6 @@ pub record Shows (paths : List (List ℕ)) (tree : Files) (path : List ℕ) : Ty
 -- so it is at the path of each licence
 pub record ShowsLicences (paths : List (List ℕ)) (tree : Files) : Type 0 where
   pub each : (id : List ℕ) → Shows paths tree (licence_path id)
-
--- these paths, which are in byte order, have the path and its neighbour exactly if the tree has them; where it lacks
--- the path, that is a folder of these exactly if it is one of the tree
-pub record ShowsPair (paths : List (List ℕ)) (tree : Files) (path : List ℕ) : Type 0 where
-  pub ordered : ArePaths paths
-  pub there : is_among paths path ≡ is_among (keys tree) path
-  pub beside : is_among paths (neighbour_of path) ≡ is_among (keys tree) (neighbour_of path)
-  pub folder : is_among (keys tree) path ≡ false → is_folder_of paths path ≡ is_folder tree path
 
 -- the listing, if there is one, shows the path and its neighbour
 abbrev pub ShowsOne : Listing → Files → List ℕ → Type 0

@@ -11,8 +11,8 @@ use Rattle.reuse_ready.specs.declared.own_lines.AdditionRefusal.{AdditionRefusal
 use Rattle.reuse_ready.specs.declared.own_lines.AdditionRefusal.TheVariants as refused
 use Rattle.reuse_change.specs.Clash.{is_clash}
 use Rattle.reuse_change.specs.Files.{Files}
-use Rattle.reuse_plan.specs.Edit.{Edit, made, appended}
-use Rattle.reuse_plan.specs.PathEdits.{or_first}
+use Rattle.reuse_edit.specs.Edit.{Edit, made, appended}
+use Rattle.reuse_edit.specs.PathEdits.{or_first}
 use Rattle.reuse_style.specs.Kinds.{OwnKinds}
 use Rattle.reuse_plan.specs.TreeStyles.{styles_in, styles_path, comments_path}
 use Rattle.reuse_command.specs.declared.amend_fault.AmendFault.TheVariants.{CannotBeAmended}

@@ -3,7 +3,8 @@ use Rattle.std.specs.Prelude.{◌≡◌, ◌≢◌, ℕ, List, Some, None, Ok}
 use Rattle.std.specs.FinMap.{get}
 use Rattle.reuse_dep5.specs.Conversion.{converted}
 use Rattle.reuse_change.specs.Files.{Files}
-use Rattle.reuse_plan.specs.Conversion.{dep5_path, toml_path}
+use Rattle.reuse_plan.specs.Conversion.{dep5_path}
+use Rattle.reuse_edit.specs.Tables.{toml_path}
 
 -- `.reuse/dep5` was there and is gone, `REUSE.toml` wasn't and holds the text that the dep5 is converted to, and no
 -- other path differs

@@ -3,8 +3,7 @@ use Rattle.std.specs.Prelude.{◌≡◌, ◌≢◌, ℕ, List, None, IsSome}
 use Rattle.std.specs.List.{Contains}
 use Rattle.std.specs.FinMap.{get}
 use Rattle.reuse_change.specs.Files.{Files}
-use Rattle.reuse_plan.specs.Downloads.{text_for}
-use Rattle.reuse_plan.specs.Licence.{licence_path}
+use Rattle.reuse_edit.specs.Licence.{text_for, licence_path}
 use Rattle.reuse_command.specs.declared.licence.LicenceText.{LicenceText}
 
 -- each id had a text, which stands at `LICENSES/ID.txt` then, where no file was, and no other path differs

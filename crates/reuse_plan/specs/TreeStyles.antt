@@ -1,7 +1,6 @@
 -- The kinds that a tree gives to its own names, by its `.reuse/styles.toml`, and its own comments and rules, by its
 -- `.reuse/comments.toml` (this project's own).
-use Rattle.std.specs.Prelude.{ℕ, List, length, codes, nat_lt, Option, Some, None, Result, Ok, Err}
-use Rattle.std.specs.Prelude.{if◌then◌else◌}
+use Rattle.std.specs.Prelude.{ℕ, List, length, codes, nat_lt, Option, Some, None, Result, Ok, Err, if◌then◌else◌}
 use Rattle.std.specs.FinMap.{get}
 use Rattle.reuse_style.specs.CommentFile.{comments_of}
 use Rattle.reuse_style.specs.Kinds.{OwnKinds}

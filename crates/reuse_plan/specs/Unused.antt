@@ -14,7 +14,7 @@ use Rattle.reuse_plan.specs.Shown.{folders_for}
 use Rattle.reuse_plan.specs.TreeStyles.{styles_in}
 use Rattle.reuse_style.specs.Kinds.{OwnKinds}
 use Rattle.reuse_plan.specs.Selected.{paths_for}
-use Rattle.reuse_plan.specs.Tables.{is_amendable}
+use Rattle.reuse_edit.specs.Tables.{is_amendable}
 use Rattle.reuse_command.specs.declared.command.Command.{Command}
 use Rattle.reuse_command.specs.declared.command.Command.TheVariants.{Annotate, Amend}
 use Rattle.reuse_command.specs.declared.command.Place.{Place}

@@ -5,7 +5,7 @@ ghost use Rattle.reuse_change.specs.Tree.{is_of_tree};
 ghost use Rattle.reuse_command.specs.Reading.{get, tree_of, Files, IsOfPlan, ReadsAlone};
 ghost use Rattle.reuse_command.specs.Refused.{IsNoFault};
 ghost use Rattle.reuse_plan.specs.OwnFiles.{AreOwnFiles};
-ghost use Rattle.reuse_plan.specs.Plan.{AnswersEdit, AnswersEdits, AnswersOf};
+ghost use Rattle.reuse_edit.specs.Answered.{AnswersEdit, AnswersEdits, AnswersOf};
 ghost use Rattle.reuse_plan.specs.StyleEdits.{addition_refusal, edits_for, file_with, lines_edit};
 ghost use Rattle.reuse_plan.specs.StyleEdits.{lines_for, style_edits};
 ghost use Rattle.reuse_plan.specs.TreeStyles.{styles_given, styles_in};

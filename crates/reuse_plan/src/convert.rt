@@ -5,8 +5,9 @@ ghost use Rattle.reuse_plan.specs.Shown.{Shows};
 ghost use Rattle.reuse_store.specs.Asked.{FailsAsRead};
 ghost use Rattle.reuse_change.specs.Change.{sealed_drop, sealed_make};
 ghost use Rattle.reuse_command.specs.Refused.{IsNoFault, dep5_refusal};
-ghost use Rattle.reuse_plan.specs.Conversion.{dep5_path, toml_path, conversion_edits};
-ghost use Rattle.reuse_plan.specs.Plan.{AnswersEdits};
+ghost use Rattle.reuse_plan.specs.Conversion.{dep5_path, conversion_edits};
+ghost use Rattle.reuse_edit.specs.Tables.{toml_path};
+ghost use Rattle.reuse_edit.specs.Answered.{AnswersEdits};
 
 use crate::tree_paths::tree_paths;
 use reuse_change::{Change, NoPruning, PathText, is_among, is_clash};

@@ -7,29 +7,16 @@
 #![tactic(auto)]
 
 mod add_styles;
-mod amend;
-mod amend_text;
-mod annotate;
-mod annotation;
 mod convert;
 pub mod counts;
-mod covered;
 mod download;
-mod edit;
-mod left;
-mod licence_file;
-pub mod licence_id;
-mod path_plan;
-mod place;
+mod file_task;
 mod planned;
-mod remove;
 mod revert;
 pub mod run;
 mod select;
 mod skipped_folders;
 mod styles;
-pub mod target;
-mod target_choice;
 mod tree_paths;
 pub mod unused;
 mod walk;

@@ -2,15 +2,15 @@
 ghost use Rattle.std.specs.Prelude.{◌≡◌, ◌++◌, ◌∷◌, [], ◌||◌, map, filter_map, IfOk, OnOk};
 ghost use Rattle.std.specs.Option.{option_to_list};
 ghost use Rattle.std.specs.List.{list_any};
-ghost use Rattle.reuse_plan.specs.PathPlans.{change_planned, changes_planned, path_outcome_planned, is_refusal};
-ghost use Rattle.reuse_plan.specs.PathPlans.{left_planned, left_planned_by};
+ghost use Rattle.reuse_plan.specs.Planned.{change_planned, changes_planned, path_outcome_planned, is_refusal};
+ghost use Rattle.reuse_plan.specs.Planned.{left_planned, left_planned_by};
 ghost use Rattle.reuse_plan.specs.Counted.{harmed_planned, is_skip_planned, skipped_planned};
 
 use crate::counts::Harmed;
-use crate::path_plan::PathPlan;
 use reuse_change::{Change, PathText};
 use reuse_command::command::Command;
 use reuse_command::path_outcome::PathOutcome;
+use reuse_edit::path_plan::PathPlan;
 use std::alloc::{AllocError, Global};
 
 /// What a preview reports of each path, and the changes beside that.

@@ -15,7 +15,7 @@ ghost use Rattle.std.specs.Option.{option_to_list};
 ghost use Rattle.reuse_command.specs.Command.{has_root, path_in, paths_among};
 ghost use Rattle.reuse_command.specs.declared.failure.Failure.TheVariants as failures;
 
-use crate::annotation::FileTask;
+use crate::file_task::FileTask;
 use crate::skipped_folders::SkippedFolders;
 use crate::tree_paths::{is_folder_alone, tree_paths, with_neighbours};
 use crate::unused::Unused;

@@ -4,7 +4,7 @@ ghost use Rattle.std.specs.Option.{option_copied};
 ghost use Rattle.reuse_style.specs.CommentFile.{comments_of};
 ghost use Rattle.reuse_style.specs.Kinds.{kinds_by};
 ghost use Rattle.reuse_command.specs.Reading.{get, reading_of, tree_of, IsOfPlan, ReadsAlone};
-ghost use Rattle.reuse_plan.specs.Plan.{IsRefusalOf};
+ghost use Rattle.reuse_edit.specs.Answered.{IsRefusalOf};
 ghost use Rattle.reuse_command.specs.Refused.{IsNoFault};
 ghost use Rattle.reuse_plan.specs.TreeStyles.{styles_given, styles_in, styles_refusal, comments_refusal, comments_read};
 ghost use Rattle.reuse_plan.specs.OwnFiles.{AreOwnFiles};

@@ -4,12 +4,13 @@ ghost use Rattle.reuse_store.specs.Asked.{FailsAsRead};
 ghost use Rattle.reuse_change.specs.Listing.{is_folder, listed_paths};
 ghost use Rattle.reuse_command.specs.Answer.{IsEarlyFailure};
 ghost use Rattle.reuse_command.specs.Reading.{tree_of, OnlyReads, ReadsAlone};
-ghost use Rattle.reuse_plan.specs.Shown.{neighbours_of, with_neighbours, ShowsPair};
+ghost use Rattle.reuse_plan.specs.Shown.{neighbours_of, with_neighbours};
+ghost use Rattle.reuse_edit.specs.Pair.{ShowsPair};
 ghost use Rattle.reuse_command.specs.declared.failure.Failure.TheVariants as failures;
 
-use crate::place::neighbour_path;
 use reuse_change::{NoPruning, PathText, Pruning, is_folder};
 use reuse_command::reply::Refusal;
+use reuse_edit::place::neighbour_path;
 use reuse_store::{Store, StoreFault};
 use std::alloc::Global;
 use std::slice;

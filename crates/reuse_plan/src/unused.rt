@@ -6,7 +6,7 @@ ghost use Rattle.reuse_change.specs.Listing.{ArePaths};
 ghost use Rattle.reuse_plan.specs.FileTask.{scope_of, works_on};
 ghost use Rattle.reuse_plan.specs.Unused.{is_left_out_by, is_unmet, leaves_none_out, unmet_count};
 
-use crate::annotation::FileTask;
+use crate::file_task::FileTask;
 use crate::select::is_listed;
 use reuse_change::{PathText, is_among};
 use reuse_command::choice::{leaves_out, matches_one};

@@ -4,7 +4,7 @@ use Rattle.std.specs.Prelude.{filter_map, if◌then◌else◌}
 use Rattle.std.specs.IoError.{error_kind}
 use Rattle.std.specs.declared.io.Error.{Error}
 use Rattle.std.specs.declared.io.ErrorKind.TheVariants.{OutOfMemory}
-use Rattle.reuse_plan.specs.Licence.{is_id}
+use Rattle.reuse_edit.specs.Licence.{is_id}
 
 -- the licence of an id, where the id is one of a licence
 abbrev pub licence_named : List ℕ → Option (List ℕ)

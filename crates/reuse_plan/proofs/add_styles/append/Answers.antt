@@ -1,6 +1,6 @@
 use Rattle.std.proofs.Common.{◌∙◌, length, sym, ap, subst, arith, Some}
 use Rattle.reuse_change.specs.Change.{sealed_splice}
-use Rattle.reuse_plan.specs.Plan.{MakesEdit}
+use Rattle.reuse_edit.specs.Answered.{MakesEdit}
 use Rattle.reuse_plan.specs.StyleEdits.{file_with}
 use Rattle.reuse_plan.proofs.StyleAdding.{append_made}
 use Rattle.reuse_plan.proofs.add_styles.append.Goals as goal

@@ -1,8 +1,8 @@
 use Rattle.std.proofs.Common.{◌≡◌, true, [], Ok, Err, refl, sym, subst}
 use Rattle.reuse_change.specs.Tree.{is_of_tree}
 use Rattle.reuse_command.specs.Reading.{get, tree_of}
-use Rattle.reuse_plan.specs.PathEdits.{or_first}
-use Rattle.reuse_plan.specs.Plan.{AnswersEdit, MakesEdits}
+use Rattle.reuse_edit.specs.PathEdits.{or_first}
+use Rattle.reuse_edit.specs.Answered.{AnswersEdit, MakesEdits}
 use Rattle.reuse_plan.specs.StyleEdits.{lines_edit}
 use Rattle.reuse_plan.specs.TreeStyles.{comments_path, styles_path}
 use Rattle.reuse_plan.proofs.StyleAdding.{both_made, first_refused, lines_at, second_refused}

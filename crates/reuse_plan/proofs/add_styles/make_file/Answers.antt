@@ -1,8 +1,8 @@
 use Rattle.std.proofs.Common.{◌∙◌, None, Some, sym, subst, arith}
 use Rattle.reuse_command.specs.Reading.{tree_of}
-use Rattle.reuse_plan.specs.Plan.{MakesEdit}
+use Rattle.reuse_edit.specs.Answered.{MakesEdit}
 use Rattle.reuse_plan.specs.StyleEdits.{file_with}
-use Rattle.reuse_plan.proofs.AtTree.{clash_of_tree}
+use Rattle.reuse_edit.proofs.AtTree.{clash_of_tree}
 use Rattle.reuse_plan.proofs.StyleAdding.{new_clashes, new_made}
 use Rattle.reuse_plan.proofs.add_styles.make_file.Goals as goal
 

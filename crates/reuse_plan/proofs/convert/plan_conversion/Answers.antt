@@ -1,7 +1,8 @@
 use Rattle.std.proofs.Common.{◌∙◌, sym, ap, subst}
 use Rattle.reuse_command.specs.Reading.{get, tree_of, reading_of}
 use Rattle.reuse_text.specs.declared.TheConstants.{LONGEST_FILE}
-use Rattle.reuse_plan.specs.Conversion.{dep5_path, toml_path}
+use Rattle.reuse_plan.specs.Conversion.{dep5_path}
+use Rattle.reuse_edit.specs.Tables.{toml_path}
 use Rattle.reuse_plan.specs.Shown.{Shows}
 use Rattle.reuse_store.proofs.TreeLemmas.{tree_file}
 use Rattle.reuse_plan.proofs.convert.plan_conversion.Goals as goal

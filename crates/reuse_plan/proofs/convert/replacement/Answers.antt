@@ -6,7 +6,7 @@ use Rattle.reuse_change.specs.Change.{sealed_drop, sealed_make}
 use Rattle.reuse_change.specs.Clash.{is_clash_of}
 use Rattle.reuse_change.specs.Listing.{is_among}
 use Rattle.reuse_plan.specs.Conversion.{conversion_edits}
-use Rattle.reuse_plan.specs.Plan.{IsRefusalOf, MakesEdits}
+use Rattle.reuse_edit.specs.Answered.{IsRefusalOf, MakesEdits}
 use Rattle.reuse_command.specs.declared.reply.Refusal.TheVariants as refusals
 use Rattle.reuse_plan.proofs.Converting.{exists_answer, dep5_answer, clash_answer, made_answer}
 use Rattle.reuse_plan.proofs.convert.replacement.Goals as goal

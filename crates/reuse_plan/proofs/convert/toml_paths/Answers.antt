@@ -2,7 +2,7 @@ use Rattle.std.proofs.Common.{inl, ◌∷◌, [], ap, refl, sym, subst, false, �
 use Rattle.std.proofs.lemmas.Result.{IfOk-weaker}
 use Rattle.reuse_change.specs.Files.{tree_of}
 use Rattle.reuse_change.specs.Listing.{listed_paths}
-use Rattle.reuse_plan.specs.Conversion.{toml_path}
+use Rattle.reuse_edit.specs.Tables.{toml_path}
 use Rattle.reuse_plan.specs.Shown.{Shows}
 use Rattle.reuse_plan.proofs.ShownLemmas.{shows_near}
 use Rattle.reuse_plan.proofs.convert.toml_paths.Goals as goal

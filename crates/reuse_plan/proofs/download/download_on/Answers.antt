@@ -4,12 +4,13 @@ use Rattle.std.proofs.lemmas.Bool.Decides.{nat_tests}
 use Rattle.reuse_notice.specs.Sets.{set_of}
 use Rattle.reuse_plan.specs.DownloadPlan.{made_at, HasText}
 use Rattle.reuse_plan.specs.Downloads.{download_edits, id_refusals, or_else}
-use Rattle.reuse_plan.specs.Licence.{licence_path}
-use Rattle.reuse_plan.specs.PathEdits.{all_or_none}
-use Rattle.reuse_plan.specs.PathPlans.{ArePlansOf}
+use Rattle.reuse_edit.specs.Licence.{licence_path}
+use Rattle.reuse_edit.specs.PathEdits.{all_or_none}
+use Rattle.reuse_edit.specs.PathPlans.{ArePlansOf}
 use Rattle.reuse_plan.proofs.CommandEdits.{none_expected}
 use Rattle.reuse_plan.proofs.Downloading.{download_makes, sorted_have_texts}
-use Rattle.reuse_plan.proofs.PathPlanning.{all_made, none_of, no_plans}
+use Rattle.reuse_edit.proofs.PathPlanLemmas.{all_made}
+use Rattle.reuse_plan.proofs.PathPlanning.{none_of, no_plans}
 use Rattle.reuse_plan.proofs.download.download_on.Goals as goal
 
 pub made_files-requires : goal.made_files-requires

@@ -5,14 +5,15 @@ use Rattle.reuse_change.specs.Files.{Files}
 use Rattle.reuse_store.proofs.AtChange.{left_here}
 use Rattle.reuse_plan.specs.DownloadPlan.{HasText}
 use Rattle.reuse_plan.specs.Downloads.{id_refusals}
-use Rattle.reuse_plan.specs.Licence.{licence_path}
-use Rattle.reuse_plan.specs.PathEdits.{refused_with, edits_in}
-use Rattle.reuse_plan.specs.PathPlans.{EndsWalk}
-use Rattle.reuse_plan.specs.Plan.{IsRefusalOf}
+use Rattle.reuse_edit.specs.Licence.{licence_path}
+use Rattle.reuse_edit.specs.PathEdits.{refused_with, edits_in}
+use Rattle.reuse_edit.specs.PathPlans.{EndsWalk}
+use Rattle.reuse_edit.specs.Answered.{IsRefusalOf}
 use Rattle.reuse_plan.specs.Shown.{ShowsLicences}
 use Rattle.reuse_command.proofs.Asking.{of_plan}
 use Rattle.reuse_plan.proofs.Downloading.{one_text_more, after_made, after_refused, some_refused, ended, paths_after}
-use Rattle.reuse_plan.proofs.PathPlanning.{WalkedSoFar, is_refusal_of}
+use Rattle.reuse_plan.proofs.PathPlanning.{WalkedSoFar}
+use Rattle.reuse_edit.proofs.PathPlanLemmas.{is_refusal_of}
 use Rattle.reuse_plan.proofs.download.find_ids.Goals.{After-made_path, in-Ok+in_ok-push-in-Ok}
 use Rattle.reuse_plan.proofs.download.find_ids.Goals.{in-Err+in_ok-refused-in-Err+in_ok-push-in-Err}
 use Rattle.reuse_plan.proofs.download.find_ids.Goals as goal

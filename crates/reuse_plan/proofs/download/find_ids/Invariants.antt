@@ -3,7 +3,7 @@ use Rattle.std.specs.List.{AllByRecursion}
 use Rattle.reuse_change.specs.Files.{Files}
 use Rattle.reuse_plan.specs.DownloadPlan.{HasText}
 use Rattle.reuse_plan.specs.Downloads.{id_refusals}
-use Rattle.reuse_plan.specs.Licence.{licence_path}
+use Rattle.reuse_edit.specs.Licence.{licence_path}
 use Rattle.reuse_plan.specs.Shown.{ShowsLicences}
 use Rattle.reuse_plan.proofs.PathPlanning.{WalkedSoFar}
 use Rattle.reuse_plan.proofs.download.find_ids.Given as goal

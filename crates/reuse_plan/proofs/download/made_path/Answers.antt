@@ -1,7 +1,7 @@
 use Rattle.std.proofs.Common.{◌∙◌, IsSome, ap, subst}
 use Rattle.std.proofs.lemmas.Result.{IfOk-weaker}
-use Rattle.reuse_plan.specs.Downloads.{text_for}
-use Rattle.reuse_plan.specs.Licence.{licence_path}
+use Rattle.reuse_edit.specs.Licence.{text_for}
+use Rattle.reuse_edit.specs.Licence.{licence_path}
 use Rattle.reuse_plan.proofs.Downloading.{has_text}
 use Rattle.reuse_plan.proofs.download.made_path.Goals as goal
 

@@ -1,5 +1,5 @@
 use Rattle.std.proofs.Common.{◌∙◌, ◌++◌, ap, option_to_list}
-use Rattle.reuse_plan.specs.PathPlans.{left_planned}
+use Rattle.reuse_plan.specs.Planned.{left_planned}
 use Rattle.reuse_plan.proofs.Counting.{found_more}
 use Rattle.reuse_plan.proofs.planned.left_planned.Goals as goal
 

@@ -1,5 +1,5 @@
 use Rattle.std.proofs.Common.{◌≡◌, take, filter_map}
-use Rattle.reuse_plan.specs.PathPlans.{left_planned}
+use Rattle.reuse_plan.specs.Planned.{left_planned}
 use Rattle.reuse_plan.proofs.planned.left_planned.Given as goal
 
 -- of the plans so far

@@ -5,7 +5,7 @@ use Rattle.reuse_change.specs.declared.change.Change.{Change}
 use Rattle.reuse_change.specs.declared.change.Change.TheVariants.{Drop}
 use Rattle.reuse_text.specs.declared.TheConstants.{LONGEST_FILE}
 use Rattle.reuse_change.specs.Entry.{IsSmall}
-use Rattle.reuse_plan.specs.Plan.{MakesEdit}
+use Rattle.reuse_edit.specs.Answered.{MakesEdit}
 use Rattle.reuse_plan.specs.Reverting.{taken_back}
 use Rattle.reuse_store.proofs.ReadingLemmas.{absent_is, found_is, given_as}
 use Rattle.reuse_plan.proofs.RevertPlanning.{found, make_makes}

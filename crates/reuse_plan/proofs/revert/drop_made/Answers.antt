@@ -2,7 +2,7 @@ use Rattle.std.proofs.Common.{◌∙◌, Some, sym, ap₂, subst, bytes_eq}
 use Rattle.std.proofs.lemmas.Bool.{not-false}
 use Rattle.reuse_change.specs.declared.change.Change.{Change}
 use Rattle.reuse_change.specs.declared.change.Change.TheVariants.{Make}
-use Rattle.reuse_plan.specs.Plan.{MakesEdit}
+use Rattle.reuse_edit.specs.Answered.{MakesEdit}
 use Rattle.reuse_plan.specs.Reverting.{taken_back}
 use Rattle.reuse_plan.proofs.RevertPlanning.{found, drop_makes}
 use Rattle.reuse_plan.proofs.revert.drop_made.Goals as goal

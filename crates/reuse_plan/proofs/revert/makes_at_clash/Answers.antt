@@ -4,7 +4,7 @@ use Rattle.reuse_change.specs.Clash.{is_clash}
 use Rattle.reuse_change.specs.Entry.{makes}
 use Rattle.reuse_change.specs.Files.{tree_of}
 use Rattle.reuse_change.specs.declared.direction.Direction.TheVariants.{Backward}
-use Rattle.reuse_plan.proofs.AtTree.{clash_of_tree}
+use Rattle.reuse_edit.proofs.AtTree.{clash_of_tree}
 use Rattle.reuse_plan.proofs.revert.makes_at_clash.Goals as goal
 
 pub returns-then-not-makes-clause-clash : goal.returns-then-not-makes-clause-clash

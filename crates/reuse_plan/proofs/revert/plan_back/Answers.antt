@@ -1,6 +1,6 @@
 use Rattle.std.proofs.Common.{◌∙◌, None, Ok, Err, cond, sym, ap, subst}
 use Rattle.reuse_change.specs.Change.{path_of}
-use Rattle.reuse_plan.specs.Plan.{MakesEdit}
+use Rattle.reuse_edit.specs.Answered.{MakesEdit}
 use Rattle.reuse_plan.specs.Reverting.{back_or_refused, reverted_at, taken_back_unless}
 use Rattle.reuse_command.specs.declared.reply.Refusal.TheVariants.{Moved}
 use Rattle.reuse_plan.proofs.RevertPlanning.{found, same_found}

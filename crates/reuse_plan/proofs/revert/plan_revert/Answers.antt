@@ -3,7 +3,7 @@ use Rattle.std.proofs.lemmas.List.{drop_all}
 use Rattle.reuse_change.specs.Files.{tree_of}
 use Rattle.reuse_store.proofs.AskedLemmas.{reads_more}
 use Rattle.reuse_store.proofs.AtChange.{left_here, tested_from}
-use Rattle.reuse_plan.specs.Plan.{MakesEdit}
+use Rattle.reuse_edit.specs.Answered.{MakesEdit}
 use Rattle.reuse_plan.specs.Reverting.{reverted_at, taken_back_unless}
 use Rattle.reuse_plan.proofs.PathPlanning.{WalkedSoFar, after_plan, at_refusal, at_end}
 use Rattle.reuse_plan.proofs.RevertPlanning.{found}

@@ -3,7 +3,7 @@ use Rattle.reuse_change.specs.Change.{sealed_splice}
 use Rattle.reuse_change.specs.declared.change.Change.{Change}
 use Rattle.reuse_change.specs.declared.change.Change.TheVariants.{Splice}
 use Rattle.reuse_text.specs.declared.TheConstants.{LONGEST_FILE}
-use Rattle.reuse_plan.specs.Plan.{MakesEdit}
+use Rattle.reuse_edit.specs.Answered.{MakesEdit}
 use Rattle.reuse_plan.specs.Reverting.{stands_as_written, taken_back}
 use Rattle.reuse_plan.proofs.RevertPlanning.{found, splice_makes}
 use Rattle.reuse_plan.proofs.revert.put_back.Goals as goal

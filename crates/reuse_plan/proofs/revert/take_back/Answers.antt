@@ -5,7 +5,7 @@ use Rattle.reuse_change.specs.Listing.{is_among}
 use Rattle.reuse_text.specs.declared.TheConstants.{LONGEST_FILE}
 use Rattle.reuse_store.proofs.AskedLemmas.{reads_more}
 use Rattle.reuse_store.proofs.OfTree.{tree_at}
-use Rattle.reuse_plan.specs.Plan.{MakesEdit}
+use Rattle.reuse_edit.specs.Answered.{MakesEdit}
 use Rattle.reuse_command.specs.Answer.{IsEarlyFailure}
 use Rattle.reuse_command.proofs.Asking.{reported}
 use Rattle.reuse_plan.proofs.RevertPlanning.{found, stuck_by_touch, stuck_by_clash, where_untouched, where_free}

@@ -7,14 +7,16 @@ use Rattle.reuse_change.specs.declared.change.Change.{Change}
 use Rattle.reuse_change.specs.Entry.{change_size, entry_size}
 use Rattle.reuse_plan.specs.Counted.{harmed_planned, skipped_planned}
 use Rattle.reuse_plan.specs.Outcome.{outcome_of, path_edits_of, edits_of, tree_after}
-use Rattle.reuse_plan.specs.PathPlans.{ArePlansOf, changes_planned, left_planned_by}
+use Rattle.reuse_edit.specs.PathPlans.{ArePlansOf}
+use Rattle.reuse_plan.specs.Planned.{changes_planned, left_planned_by}
 use Rattle.reuse_command.specs.declared.command.Command.{Command}
-use Rattle.reuse_plan.specs.declared.path_plan.PathPlan.{PathPlan}
-use Rattle.reuse_plan.specs.declared.path_plan.Policy.TheVariants.{Stop}
+use Rattle.reuse_edit.specs.declared.path_plan.PathPlan.{PathPlan}
+use Rattle.reuse_edit.specs.declared.path_plan.Policy.TheVariants.{Stop}
 use Rattle.reuse_plan.proofs.PathPlanning.{changes_made, none_refused}
-use Rattle.reuse_plan.specs.Plan.{IsRefusalOf, MakesEdits}
+use Rattle.reuse_edit.specs.Answered.{IsRefusalOf, MakesEdits}
 use Rattle.reuse_store.proofs.TreeLemmas.{tree_are_files}
-use Rattle.reuse_plan.proofs.Annotating.{refusal_passes, too_many}
+use Rattle.reuse_edit.proofs.AbsentFiles.{refusal_passes}
+use Rattle.reuse_plan.proofs.Annotating.{too_many}
 use Rattle.reuse_plan.proofs.Counting.{harms_are, left_are, none_left, skips_are}
 use Rattle.reuse_plan.proofs.EditOrder.{sorted_plan}
 use Rattle.reuse_plan.proofs.Fitting.{command_fits}

@@ -9,9 +9,9 @@ use Rattle.reuse_plan.specs.Counted.{harmed_planned, skipped_planned}
 use Rattle.reuse_command.specs.declared.path_outcome.PathOutcome.TheVariants.{Left}
 use Rattle.reuse_plan.specs.PathOutcomes.{path_outcomes_of, first_refusal}
 use Rattle.reuse_plan.specs.Outcome.{edits_of, outcome_of, path_edits_of}
-use Rattle.reuse_plan.specs.PathPlans.{left_planned_by, limit_planned}
-use Rattle.reuse_plan.specs.Plan.{MakesEdits}
-use Rattle.reuse_plan.specs.declared.path_plan.Policy.TheVariants.{Collect}
+use Rattle.reuse_plan.specs.Planned.{left_planned_by, limit_planned}
+use Rattle.reuse_edit.specs.Answered.{MakesEdits}
+use Rattle.reuse_edit.specs.declared.path_plan.Policy.TheVariants.{Collect}
 use Rattle.reuse_plan.proofs.Counting.{harms_are, left_are, skips_are}
 use Rattle.reuse_plan.proofs.EditOrder.{sorted_plan}
 use Rattle.reuse_plan.proofs.Fitting.{command_fits}

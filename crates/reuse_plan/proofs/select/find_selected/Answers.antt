@@ -12,7 +12,7 @@ use Rattle.reuse_plan.specs.Unused.{leaves_none_out, unmet_count, AreUnusedWhere
 use Rattle.reuse_plan.specs.Selected.{expanded}
 use Rattle.reuse_plan.specs.declared.select.Listing.TheVariants.{Listed}
 use Rattle.reuse_command.specs.declared.command.Scope.{Scope}
-use Rattle.reuse_plan.proofs.Annotating.{reported_as}
+use Rattle.reuse_edit.proofs.AbsentFiles.{reported_as}
 use Rattle.reuse_store.proofs.AskedLemmas.{reads_more}
 use Rattle.reuse_command.specs.Answer.{IsEarlyFailure}
 use Rattle.reuse_command.proofs.Asking.{reported, short, failed, later, look_faults}

@@ -5,7 +5,7 @@ use Rattle.reuse_change.specs.Listing.{listed_paths}
 use Rattle.reuse_store.proofs.AskedLemmas.{reads_none}
 use Rattle.reuse_command.specs.Choice.{is_passed_over}
 use Rattle.reuse_command.specs.Answer.{IsEarlyFailure}
-use Rattle.reuse_plan.proofs.Annotating.{reported_as}
+use Rattle.reuse_edit.proofs.AbsentFiles.{reported_as}
 use Rattle.reuse_command.proofs.Asking.{reported, short, failed, look_faults}
 use Rattle.reuse_plan.proofs.select.list_selected.Goals as goal
 

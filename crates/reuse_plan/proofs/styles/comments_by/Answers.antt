@@ -1,6 +1,6 @@
 use Rattle.std.proofs.Common.{◌∙◌, ap, sym, subst}
 use Rattle.reuse_style.specs.CommentFile.{comments_of, IsCommentsRefused}
-use Rattle.reuse_plan.specs.Plan.{IsRefusalOf}
+use Rattle.reuse_edit.specs.Answered.{IsRefusalOf}
 use Rattle.reuse_plan.specs.TreeStyles.{comments_read}
 use Rattle.reuse_plan.proofs.OwnFiles.{comments_refused_is}
 use Rattle.reuse_plan.proofs.styles.comments_by.Goals as goal

@@ -1,6 +1,6 @@
 use Rattle.std.proofs.Common.{◌≡◌, Ok, IfOk, IfErr, sym, subst}
 use Rattle.reuse_command.specs.Reading.{get}
-use Rattle.reuse_plan.specs.Plan.{IsRefusalOf}
+use Rattle.reuse_edit.specs.Answered.{IsRefusalOf}
 use Rattle.reuse_plan.specs.TreeStyles.{own_file}
 use Rattle.reuse_plan.proofs.OwnFiles.{file_ok, file_refused}
 use Rattle.reuse_plan.proofs.styles.read_own.Goals as goal

@@ -1,7 +1,7 @@
 use Rattle.std.proofs.Common.{◌≡◌, Ok, sym, subst}
 use Rattle.std.proofs.lemmas.Result.{err_from_is_err_and}
 use Rattle.reuse_command.specs.Reading.{get, tree_of}
-use Rattle.reuse_plan.specs.Plan.{IsRefusalOf}
+use Rattle.reuse_edit.specs.Answered.{IsRefusalOf}
 use Rattle.reuse_plan.specs.TreeStyles.{own_file, styles_path, comments_path}
 use Rattle.reuse_store.proofs.TreeLemmas.{tree_file}
 use Rattle.reuse_plan.proofs.OwnFiles.{by_styles, by_comments, by_own, file_given, read_is}

@@ -1,7 +1,7 @@
 use Rattle.std.proofs.Common.{◌∙◌, ap, sym, subst}
 use Rattle.reuse_style.specs.Names.{lookup}
 use Rattle.reuse_style.specs.StyleFile.{styles_of, IsRefused}
-use Rattle.reuse_plan.specs.Plan.{IsRefusalOf}
+use Rattle.reuse_edit.specs.Answered.{IsRefusalOf}
 use Rattle.reuse_plan.specs.TreeStyles.{styles_given, styles_read}
 use Rattle.reuse_plan.proofs.OwnFiles.{kinds_ok, styles_refused_is}
 use Rattle.reuse_plan.proofs.styles.styles_by.Goals as goal

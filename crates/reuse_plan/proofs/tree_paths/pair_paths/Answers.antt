@@ -5,8 +5,9 @@ use Rattle.reuse_change.specs.Listing.{listed_paths}
 use Rattle.reuse_store.proofs.AskedLemmas.{reads_none}
 use Rattle.reuse_store.proofs.TreeLemmas.{tree_are_files}
 use Rattle.reuse_command.specs.Answer.{IsEarlyFailure}
-use Rattle.reuse_plan.specs.Shown.{with_neighbours, ShowsPair}
-use Rattle.reuse_plan.proofs.Annotating.{reported_as}
+use Rattle.reuse_plan.specs.Shown.{with_neighbours}
+use Rattle.reuse_edit.specs.Pair.{ShowsPair}
+use Rattle.reuse_edit.proofs.AbsentFiles.{reported_as}
 use Rattle.reuse_command.proofs.Asking.{reported, short, failed, look_faults}
 use Rattle.reuse_plan.proofs.ShownLemmas.{shows_alone}
 use Rattle.reuse_plan.proofs.tree_paths.pair_paths.Goals as goal

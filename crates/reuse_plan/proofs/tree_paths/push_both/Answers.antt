@@ -1,7 +1,7 @@
 use Rattle.std.proofs.Common.{◌≡◌, ◌∙◌, ◌++◌, ◌∷◌, [], true, false, length, nat_lt, IfSome, IfNone, ap, subst}
 use Rattle.std.proofs.Common.{append_assoc}
-use Rattle.reuse_plan.specs.Annotate.{neighbour_of}
-use Rattle.reuse_plan.proofs.Results.{none_unless_some}
+use Rattle.reuse_edit.specs.Annotate.{neighbour_of}
+use Rattle.reuse_edit.proofs.Results.{none_unless_some}
 use Rattle.reuse_plan.proofs.ShownLemmas.{pair_of, no_pair}
 use Rattle.reuse_plan.proofs.tree_paths.push_both.Goals as goal
 use Rattle.reuse_plan.proofs.tree_paths.push_both.Goals.{in-Some+in_ok-push-2, in_default}

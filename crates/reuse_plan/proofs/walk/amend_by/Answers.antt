@@ -1,12 +1,12 @@
 use Rattle.std.proofs.Common.{OnOk, sym, ap, subst}
 use Rattle.reuse_change.specs.Files.{tree_of}
 use Rattle.reuse_plan.specs.Outcome.{amendments_by}
-use Rattle.reuse_plan.specs.PathPlans.{AnswersPlans}
-use Rattle.reuse_plan.specs.Tables.{is_amendable}
+use Rattle.reuse_edit.specs.PathPlans.{AnswersPlans}
+use Rattle.reuse_edit.specs.Tables.{is_amendable}
 use Rattle.reuse_plan.specs.TreeStyles.{styles_given}
 use Rattle.reuse_plan.specs.Unused.{AreUnusedIf}
 use Rattle.reuse_plan.proofs.UnusedLemmas.{refused_unused}
-use Rattle.reuse_plan.proofs.PathPlanning.{alone_as}
+use Rattle.reuse_edit.proofs.PathPlanLemmas.{alone_as}
 use Rattle.reuse_plan.proofs.walk.amend_by.Goals as goal
 
 pub returns-in-Ok-clause-plans : goal.returns-in-Ok-clause-plans

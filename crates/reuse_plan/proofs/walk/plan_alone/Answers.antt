@@ -1,9 +1,9 @@
 use Rattle.std.proofs.Common.{subst, sym}
 use Rattle.reuse_command.specs.Reading.{tree_of, IsOfPlan}
 use Rattle.reuse_plan.specs.FileTask.{at_by}
-use Rattle.reuse_plan.specs.PathPlans.{AnswersPlan}
-use Rattle.reuse_plan.specs.Shown.{ShowsPair}
-use Rattle.reuse_plan.specs.declared.path_plan.Policy.TheVariants.{Stop}
+use Rattle.reuse_edit.specs.PathPlans.{AnswersPlan}
+use Rattle.reuse_edit.specs.Pair.{ShowsPair}
+use Rattle.reuse_edit.specs.declared.path_plan.Policy.TheVariants.{Stop}
 use Rattle.reuse_command.proofs.Asking.{later}
 use Rattle.reuse_plan.proofs.walk.plan_alone.Goals as goal
 

@@ -2,7 +2,7 @@ use Rattle.std.proofs.Common.{sym, subst}
 use Rattle.reuse_change.specs.Files.{tree_of}
 use Rattle.reuse_plan.specs.Conversion.{conversion_edits}
 use Rattle.reuse_plan.specs.Outcome.{path_edits_of}
-use Rattle.reuse_plan.specs.PathPlans.{AnswersPlans}
+use Rattle.reuse_edit.specs.PathPlans.{AnswersPlans}
 use Rattle.reuse_plan.specs.StyleEdits.{style_edits}
 use Rattle.reuse_plan.proofs.walk.plan_command.Goals as goal
 

@@ -1,13 +1,14 @@
 use Rattle.std.proofs.Common.{sym, subst}
 use Rattle.reuse_change.specs.Files.{Files, tree_of}
 use Rattle.reuse_plan.specs.FileTask.{at_by}
-use Rattle.reuse_plan.specs.PathEdits.{PathEdit}
-use Rattle.reuse_plan.specs.PathPlans.{AnswersPlan, IsPlanOf}
-use Rattle.reuse_plan.specs.declared.path_plan.PathPlan.{PathPlan}
-use Rattle.reuse_plan.specs.declared.path_plan.PathPlan.TheVariants as plan
-use Rattle.reuse_plan.specs.declared.path_plan.Policy.{Policy}
-use Rattle.reuse_plan.specs.Shown.{ShowsOne, ShowsPair}
-use Rattle.reuse_plan.specs.declared.path_plan.Policy.TheVariants.{Stop}
+use Rattle.reuse_edit.specs.PathEdits.{PathEdit}
+use Rattle.reuse_edit.specs.PathPlans.{AnswersPlan, IsPlanOf}
+use Rattle.reuse_edit.specs.declared.path_plan.PathPlan.{PathPlan}
+use Rattle.reuse_edit.specs.declared.path_plan.PathPlan.TheVariants as plan
+use Rattle.reuse_edit.specs.declared.path_plan.Policy.{Policy}
+use Rattle.reuse_plan.specs.Shown.{ShowsOne}
+use Rattle.reuse_edit.specs.Pair.{ShowsPair}
+use Rattle.reuse_edit.specs.declared.path_plan.Policy.TheVariants.{Stop}
 use Rattle.reuse_plan.proofs.walk.plan_one.Goals.{in-Listed, in-Alone}
 use Rattle.reuse_plan.proofs.walk.plan_one.Goals as goal
 

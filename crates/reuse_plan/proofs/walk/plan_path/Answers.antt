@@ -1,9 +1,9 @@
 use Rattle.std.proofs.Common.{None, false, sym, subst}
 use Rattle.reuse_change.specs.Files.{tree_of}
-use Rattle.reuse_plan.specs.AmendmentPlan.{amended_by}
+use Rattle.reuse_edit.specs.AmendmentPlan.{amended_by}
 use Rattle.reuse_plan.specs.FileTask.{at_by}
-use Rattle.reuse_plan.specs.PathPlans.{IsPlanOf}
-use Rattle.reuse_plan.specs.declared.path_plan.Policy.TheVariants.{Stop}
+use Rattle.reuse_edit.specs.PathPlans.{IsPlanOf}
+use Rattle.reuse_edit.specs.declared.path_plan.Policy.TheVariants.{Stop}
 use Rattle.reuse_plan.proofs.walk.plan_path.Goals as goal
 
 pub returns-in_ok-of_amended-in-Ok-clause-plan : goal.returns-in_ok-of_amended-in-Ok-clause-plan

@@ -5,8 +5,8 @@ use Rattle.reuse_plan.proofs.ShownLemmas.{one_of_each}
 use Rattle.reuse_change.specs.Files.{tree_of}
 use Rattle.reuse_store.proofs.AskedLemmas.{reads_more}
 use Rattle.reuse_plan.specs.FileTask.{at_by}
-use Rattle.reuse_plan.specs.PathPlans.{IsPlanOf}
-use Rattle.reuse_plan.specs.Plan.{IsRefusalOf}
+use Rattle.reuse_edit.specs.PathPlans.{IsPlanOf}
+use Rattle.reuse_edit.specs.Answered.{IsRefusalOf}
 use Rattle.reuse_plan.proofs.PathPlanning.{WalkedSoFar, after_plan, at_refusal, at_end}
 use Rattle.reuse_store.proofs.AtChange.{left_here}
 use Rattle.reuse_plan.proofs.walk.plan_paths.Given.{Over}

@@ -3,9 +3,9 @@ use Rattle.reuse_plan.specs.Shown.{ShowsEach}
 use Rattle.reuse_change.specs.Files.{Files, tree_of}
 use Rattle.reuse_plan.specs.FileTask.{at_by, paths_of, scope_of, works_on}
 use Rattle.reuse_command.specs.Command.{has_root}
-use Rattle.reuse_plan.specs.PathEdits.{PathEdit, refused_alone}
-use Rattle.reuse_plan.specs.PathPlans.{AnswersPlans}
-use Rattle.reuse_plan.specs.declared.annotation.FileTask.{FileTask}
+use Rattle.reuse_edit.specs.PathEdits.{PathEdit, refused_alone}
+use Rattle.reuse_edit.specs.PathPlans.{AnswersPlans}
+use Rattle.reuse_plan.specs.declared.file_task.FileTask.{FileTask}
 use Rattle.reuse_command.specs.declared.command.Place.{Place}
 use Rattle.reuse_command.specs.declared.command.Place.TheVariants as place
 use Rattle.reuse_command.specs.declared.command.Scope.{Scope}

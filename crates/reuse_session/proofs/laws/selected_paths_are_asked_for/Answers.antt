@@ -1,5 +1,5 @@
 use Rattle.reuse_command.specs.Covered.{is_covered}
-use Rattle.reuse_plan.specs.Tables.{is_amendable}
+use Rattle.reuse_edit.specs.Tables.{is_amendable}
 use Rattle.reuse_plan.proofs.AmendedPlaces.{amended_exactly, amended_ascend}
 use Rattle.reuse_plan.proofs.Choosing.{selected_exactly, given_exactly, selected_ascend, all_chosen}
 use Rattle.reuse_session.proofs.laws.selected_paths_are_asked_for.Goals as goal

@@ -4,7 +4,7 @@ use Rattle.std.proofs.lemmas.List.Sorted.{All-permutation}
 use Rattle.reuse_change.specs.Files.{Files}
 use Rattle.reuse_change.specs.Change.{is_sealed}
 use Rattle.reuse_change.specs.declared.change.Change.{Change}
-use Rattle.reuse_plan.specs.Edit.{Edit}
+use Rattle.reuse_edit.specs.Edit.{Edit}
 use Rattle.reuse_change.specs.Entry.{AreAllSealed, IsEntry}
 use Rattle.reuse_json.specs.EntryText.{is_any_sealed}
 use Rattle.reuse_json.specs.Format.{knows}

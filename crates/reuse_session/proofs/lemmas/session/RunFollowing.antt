@@ -13,7 +13,7 @@ use Rattle.reuse_session.specs.session.Machine.{Snapshots, Step, ran_by}
 use Rattle.reuse_journal.specs.Labels.{is_full}
 use Rattle.reuse_plan.specs.Outcome.{outcome_of}
 use Rattle.reuse_plan.specs.PathOutcomes.{left_paths}
-use Rattle.reuse_plan.specs.Plan.{IsRefusalOf}
+use Rattle.reuse_edit.specs.Answered.{IsRefusalOf}
 use Rattle.reuse_session.specs.session.Session.{Simulates, SimulatesState, SimulatesInSession, Follows, IsRun, Runs}
 use Rattle.reuse_command.specs.declared.command.Command.{Command}
 use Rattle.reuse_change.specs.declared.direction.Direction.TheVariants as direction

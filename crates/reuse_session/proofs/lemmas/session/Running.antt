@@ -6,7 +6,8 @@ use Rattle.reuse_change.specs.declared.change.Change.{Change}
 use Rattle.reuse_change.specs.Entry.{change_size, entry_size}
 use Rattle.reuse_journal.specs.Journal.{State}
 use Rattle.reuse_journal.specs.Labels.{is_full}
-use Rattle.reuse_plan.specs.Outcome.{Edit, edit_count, recorded_size}
+use Rattle.reuse_edit.specs.Edit.{Edit}
+use Rattle.reuse_plan.specs.Outcome.{edit_count, recorded_size}
 use Rattle.reuse_plan.specs.Plan.{Records}
 use Rattle.reuse_session.specs.session.Session.{SimulatesState, memory_of}
 use Rattle.reuse_command.specs.declared.reply.Refusal.{Refusal}

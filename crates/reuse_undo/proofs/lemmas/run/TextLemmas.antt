@@ -6,9 +6,9 @@ use Rattle.std.specs.List.{cons_option}
 use Rattle.std.specs.Str.{IsUtf8}
 use Rattle.std.proofs.lemmas.List.{map-append, take_more}
 use Rattle.std.proofs.lemmas.List.Elements.{filter_map-append}
-use Rattle.reuse_plan.specs.Licence.{is_id}
+use Rattle.reuse_edit.specs.Licence.{is_id}
 use Rattle.reuse_command.specs.declared.licence.LicenceText.{LicenceText}
-use Rattle.reuse_plan.proofs.LicenceLemmas.{no_id}
+use Rattle.reuse_edit.proofs.LicenceLemmas.{no_id}
 use Rattle.reuse_undo.specs.run.Texts.{licence_named, licences_among}
 
 -- bytes that are no text are no licence's

@@ -1,5 +1,5 @@
 use Rattle.std.proofs.Common.{◌∙◌, ◌++◌, ◌∷◌, [], ◌||◌, sym, ap, option_to_list}
-use Rattle.reuse_plan.specs.PathPlans.{change_planned, path_outcome_planned, is_refusal}
+use Rattle.reuse_plan.specs.Planned.{change_planned, path_outcome_planned, is_refusal}
 use Rattle.reuse_plan.proofs.PathPlanning.{changes_more, path_outcomes_more, refused_more}
 use Rattle.reuse_plan.proofs.planned.Planned.of.Goals as goal
 

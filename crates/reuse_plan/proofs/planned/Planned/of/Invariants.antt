@@ -1,6 +1,6 @@
 use Rattle.std.proofs.Common.{◌≡◌, map}
 use Rattle.std.specs.List.{list_any}
-use Rattle.reuse_plan.specs.PathPlans.{changes_planned, path_outcome_planned, is_refusal}
+use Rattle.reuse_plan.specs.Planned.{changes_planned, path_outcome_planned, is_refusal}
 use Rattle.reuse_plan.proofs.planned.Planned.of.Given as goal
 
 abbrev pub invariant-loop-plan : goal.invariant-loop-plan

@@ -6,7 +6,7 @@ use Rattle.reuse_session.proofs.lemmas.session.Forgetting.{forgets_listed, forge
 use Rattle.reuse_session.proofs.lemmas.session.Forgetting.{memory_nothing, only_order, order_nothing, stands_next}
 use Rattle.reuse_session.proofs.lemmas.session.Forgetting.{stands_still, stands_without, stands_without_none}
 use Rattle.reuse_session.proofs.lemmas.session.ForgottenSteps.{first_is}
-use Rattle.reuse_plan.proofs.Results.{none_unless_some}
+use Rattle.reuse_edit.proofs.Results.{none_unless_some}
 use Rattle.reuse_session.proofs.session.Session.forget.Given.{Over}
 use Rattle.reuse_session.proofs.session.Session.forget.Goals.{After-is_empty}
 use Rattle.reuse_session.proofs.session.Session.forget.Goals as goal

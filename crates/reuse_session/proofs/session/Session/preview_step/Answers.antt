@@ -3,7 +3,7 @@ use Rattle.reuse_session.specs.session.Previews.{path_outcomes_alone, PreviewsRe
 use Rattle.reuse_session.specs.session.Session.{memory_of}
 use Rattle.reuse_journal.proofs.MemoryLemmas.{none_ahead}
 use Rattle.reuse_session.proofs.lemmas.session.Previewing.{replay_as_previewed_to}
-use Rattle.reuse_plan.proofs.Results.{none_unless_some}
+use Rattle.reuse_edit.proofs.Results.{none_unless_some}
 use Rattle.reuse_session.proofs.session.Session.preview_step.Goals as goal
 
 pub returns-in_default-clause-exact : goal.returns-in_default-clause-exact

@@ -1,7 +1,7 @@
 use Rattle.std.proofs.Common.{Err, sym, subst}
 use Rattle.reuse_journal.specs.Journal.{State, Replays, ahead}
 use Rattle.reuse_session.specs.session.Session.{SimulatesState}
-use Rattle.reuse_plan.proofs.Results.{none_unless_some}
+use Rattle.reuse_edit.proofs.Results.{none_unless_some}
 use Rattle.reuse_session.proofs.lemmas.session.Replaying.{none_next}
 use Rattle.reuse_session.proofs.session.Session.replay.Goals as goal
 

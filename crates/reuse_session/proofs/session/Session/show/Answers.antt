@@ -7,7 +7,7 @@ use Rattle.reuse_command.proofs.OnlyReading.{is_refused}
 use Rattle.reuse_session.proofs.lemmas.journal.StepAnswers.{read_reported}
 use Rattle.reuse_session.proofs.lemmas.session.StepsByNumber.{none_listed, some_listed, unused_both, row_says, shows}
 use Rattle.reuse_session.proofs.lemmas.session.StepsByNumber.{shows_at, read_is_no_absence}
-use Rattle.reuse_plan.proofs.Results.{none_unless_some}
+use Rattle.reuse_edit.proofs.Results.{none_unless_some}
 use Rattle.reuse_session.proofs.session.Session.show.Goals as goal
 
 -- no step has the number

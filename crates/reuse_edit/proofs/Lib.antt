@@ -1,0 +1,17 @@
+pub mod AbsentFiles
+pub mod Amending
+pub mod AmendmentEdits
+pub mod AtTree
+pub mod BetweenLemmas
+pub mod EditLemmas
+pub mod EditResults
+pub mod EditedPlaces
+pub mod LeftLemmas
+pub mod LicenceLemmas
+pub mod NeighbourPaths
+pub mod PathPlanLemmas
+pub mod Removing
+pub mod Results
+pub mod SpliceLemmas
+pub mod TableLemmas
+pub mod TellingLemmas

@@ -1,7 +1,0 @@
-use Rattle.std.proofs.Common.{◌≡◌, drop}
-use Rattle.reuse_plan.specs.Downloads.{text_for}
-use Rattle.reuse_plan.proofs.licence_file.text_for.Given as goal
-
--- the texts so far are of other ids
-abbrev pub invariant-loop-given : goal.invariant-loop-given
-invariant-loop-given l = text_for l.texts l.id ≡ text_for (drop l.given-index l.texts) l.id

@@ -1,5 +1,0 @@
-use Rattle.reuse_plan.proofs.LicenceLemmas.{no_id}
-use Rattle.reuse_plan.proofs.licence_id.as_id.Goals as goal
-
-pub returns-in-Err : goal.returns-in-Err
-returns-in-Err c = no_id c.args.bytes.now c.in-Err.ensures.cases.0
