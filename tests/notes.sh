@@ -75,10 +75,31 @@ notes() {
 }
 
 words() {
-  local place
-  files a.py 'x\n'
+  local place adds path empty bad
+  adds='say what is to be added, by --copyright, --license or --contributor;'
+  adds+=' --text, --year and --copyright-prefix alone add nothing'
+  path='a PATH starts at the root: it has no slash in front, no part \.\. and no empty part;'
+  path+=' with --up it starts at the working folder'
+  empty='a holder or a contributor is empty: give its text, or leave the option out'
+  bad='a holder or a contributor has no control character,'
+  bad+=' and neither REUSE-IgnoreStart nor SPDX-SnippetBegin'
+  files a.py 'x\n' in/b.py 'x\n'
   notes annotate -c A -y 24 a.py : 'a year has four digits; .*--year 2019 --year 2024'
-  notes annotate a.py :
+  notes annotate a.py : "$adds"
+  notes annotate --text "$tree/a.py" a.py : "$adds"
+  notes annotate -y 2024 --copyright-prefix string a.py : "$adds"
+  notes annotate -c '' a.py : "$empty"
+  notes annotate --contributor ' ' a.py : "$empty"
+  notes amend --replace-holder A '' a.py : "$empty"
+  notes annotate -c 'A SPDX-SnippetBegin' a.py : "$bad"
+  notes annotate -l MIT /a.py : "$path"
+  notes annotate -l MIT in/../a.py : "$path"
+  notes amend --replace-license MIT ISC in//b.py : "$path"
+  notes annotate -l MIT in : 'with --recursive a folder stands for the files beneath it'
+  notes annotate -n -l MIT in : 'with --recursive a folder stands for the files beneath it'
+  notes amend --replace-license MIT ISC . : \
+    'with --recursive a folder stands for the files beneath it'
+  notes annotate -l 'MIT AND' a.py :
   notes amend a.py : 'say what is to be changed, as by --replace-license .*'
   notes amend --until 26 a.py : 'a year has four digits; .*'
   # Before the subcommand, behind it, and long
@@ -103,15 +124,17 @@ changes() {
 }
 
 refusals() {
-  local long way_out out
-  local listed='reuse-undo styles lists them, styles --add adds ready ones'
+  local long way_out out left
+  local listed='reuse-undo styles lists them, with the ready styles that styles --add adds'
   long=$(printf %0250d 0)
   files "$long" 'x\n'
   notes annotate --force-dot-license -l MIT "$long" \
     : 'the file that would be made has a name of more than 255 bytes, .*--style .*'
   files b.xyz 'x\n' c.xyz 'x\n' a.py 'x\n'
-  out='no comment style is known .*styles --add.*--style .*\.reuse/styles\.toml.*--fallback-dot-license'
-  notes annotate -l MIT b.xyz : "$out.*--skip-unrecognised"
+  left='no comment style is known for this name, and no ready one is left: name one with --style or'
+  left+=' by a line in \.reuse/styles\.toml, write .* with --fallback-dot-license, or .*'
+  left+=' with --skip-unrecognised'
+  notes annotate -l MIT b.xyz : "$left"
   notes download --texts "$room/texts" Foo : "the text was sought in $room/texts/Foo\.txt"
   "$program" --root "$tree" annotate -l MIT a.py > /dev/null
   echo y >> "$tree/a.py"
@@ -125,10 +148,10 @@ refusals() {
   notes revert 1 : "$out .*reuse-undo forget .*"
   out="the step couldn't be taken out of any file, and stays done;"
   notes revert --skip-moved 1 : "$out reuse-undo forget takes it out of the history"
-  notes annotate -n -l MIT b.xyz c.xyz a.py : 'no comment style is known .*' \
-    "2 files of 1 name aren't recognised; $listed"
-  notes annotate -l MIT b.xyz c.xyz : 'no comment style is known .*' \
-    "2 files of 1 name aren't recognised; $listed"
+  notes annotate -n -l MIT b.xyz c.xyz a.py : "$left" \
+    "2 files of 1 name aren't recognised; reuse-undo styles lists their names"
+  notes annotate -l MIT b.xyz c.xyz : "$left" \
+    "2 files of 1 name aren't recognised; reuse-undo styles lists their names"
   notes annotate --skip-unrecognised -l MIT b.xyz c.xyz : \
     "2 files passed over, since no comment style is known for the names; $listed"
   notes annotate --skip-unrecognised --skip-existing -l MIT b.xyz c.xyz :
@@ -176,6 +199,31 @@ refusals() {
     'what is wrong with \.reuse/comments\.toml: bad marks of own: the closer stands in the opener'
   files a.py 'x\n' .reuse/comments.toml 'version = 1\n[[rules]]\nname = "*"\nstyle = "cc"\n'
   notes annotate -l MIT a.py : 'what is wrong with \.reuse/comments\.toml: bad style of rule 1'
+}
+
+# Whether `styles --add` has something for names: a style, or rules for first lines where a name has
+# no ending, unless the tree has them
+ready() {
+  local add left two="2 files of 2 names aren't recognised;"
+  local listed='reuse-undo styles lists them, styles --add adds ready ones'
+  add='no comment style is known for this name: add ready ones by reuse-undo styles --add, .*'
+  left='no comment style is known for this name, and no ready one is left: .*'
+  files a.mjs 'x\n' b.xyz 'x\n'
+  notes annotate -l MIT a.mjs : "$add"
+  notes annotate -l MIT b.xyz : "$left"
+  notes annotate -l MIT b.xyz a.mjs : "$add" "$two $listed"
+  notes annotate -n -l MIT -r . : "$add" "$two $listed"
+  "$program" --root "$tree" styles --add > /dev/null
+  notes annotate -l MIT -r . : "$left"
+  notes annotate -n -l MIT -r . : "$left"
+  touch "$tree/c.zyx"
+  notes annotate -l MIT -r . : "$left" "$two reuse-undo styles lists their names"
+  files script 'x\n' b.xyz 'x\n'
+  notes annotate -l MIT -r . : "$add" "$two $listed"
+  "$program" --root "$tree" styles --add > /dev/null
+  notes annotate -l MIT -r . : "$left" "$two reuse-undo styles lists their names"
+  files a.mjs 'x\n' .reuse/styles.toml 'version = 1\nstyles = { ".x" = "c" }\n'
+  notes annotate -l MIT a.mjs : "$left"
 }
 
 # A call that passes files over has counted them itself: with notes it asks the system for no name
@@ -265,7 +313,7 @@ left() {
 
 # A header in a file that had none, where its first line may have to stay the first
 harms() {
-  local name word text line="$room/harms" changed='1 file changed; .*' jo=(-c Jo -y 2024)
+  local name word text each line="$room/harms" changed='1 file changed; .*' jo=(-c Jo -y 2024)
   breaks() {
     local own='\.reuse/comments\.toml' way
     way="first-lines and front-matter in $own keep such lines in front: see reuse-undo\(1\)"
@@ -298,12 +346,16 @@ END
   done < "$line"
   # Of several files the first is named, beside a refusal too; a call that is refused tells of none
   files a.md '---\n---\n' b.py 'x\n' c.md '---\n---\n' d.css '@charset "utf-8";\n'
-  word="$(breaks '3 files: a\.md \(front matter\) and 2 more')"
+  each='--dry-run --json lists each, with could_break\)'
+  word="$(breaks "3 files: a\\.md \\(front matter\\) and 2 more \\(after reuse-undo undo, $each")"
   notes annotate -l MIT -r . : '4 files changed; .*' "$word"
+  word="$(breaks "3 files: a\\.md \\(front matter\\) and 2 more \\($each")"
   notes annotate -n --json -l MIT -r . : "$word"
   touch "$tree/e.xyz"
   notes annotate -n -l MIT -r . : 'no comment style is known .*' "$word"
   notes annotate -l MIT -r . : 'no comment style is known .*'
+  [[ $("$program" --root "$tree" annotate -n --json -l MIT -r . 2> /dev/null |
+    grep -c '^{"could_break":') == 3 ]] || fail 'the objects of a dry run don'\''t list each'
   # A style of the tree's own keeps the lines in front
   files .reuse/styles.toml 'version = 1\n[styles]\n".md" = "markdown"\nDockerfile = "docker"\n' \
     a.md '---\n---\n' Dockerfile '# syntax=docker/dockerfile:1\n' b.css '@charset "utf-8";\n'
@@ -318,6 +370,7 @@ END
   notes annotate -n -l MIT a.py b.py : "$word"
   notes annotate -n -l ISC a.py :
   word='the headers of 2 files stand below other text: they may be in strings: a\.py and 1 more'
+  word+=" \\($each"
   notes annotate -n -l Zlib a.py b.py c.sh : "$word"
   files a.md '---\n---\n' b.py 'x = 1\n' c.sh 'x\n# SPDX-License-Identifier: ISC\n'
   "$program" --root "$tree" annotate -n --json -l MIT a.md b.py c.sh > "$room/objects" 2> /dev/null
@@ -497,9 +550,22 @@ above() {
   files a.py 'x\n' in/deep/b.py 'x\n'
   "$program" --root "$tree" annotate -l MIT a.py > /dev/null
   tree=$root/in/deep
-  notes undo : "a folder above has a journal too: --root $root"
-  notes annotate -l MIT b.py : '1 file changed; .*' "a folder above has a journal too: --root $root"
+  local note="a folder above has a journal too: with --root $root a call uses that one, and PATHs"
+  note+=' start there'
+  local begun='this call began a second journal: reuse-undo undo takes the call back;'
+  begun+=' then delete \.reuse/undo here, and \.reuse if it is empty'
+  notes undo : "$note"
+  notes annotate -n -l MIT b.py : "$note"
+  notes annotate -l MIT b.py : '1 file changed; .*' "$note" "$begun"
+  # What the notes say leads back to the journal above
+  "$program" --root "$tree" annotate -l MIT b.py > /dev/null
+  notes annotate -l ISC b.py : '1 file changed; .*' "$note"
+  "$program" --root "$tree" undo > /dev/null
+  rm -r "$tree/.reuse/undo"
+  rmdir "$tree/.reuse"
   tree=$root
+  [[ $("$program" --root "$tree" annotate -l MIT in/deep/b.py) == 'changed in/deep/b.py' ]] ||
+    fail 'the journal above is not used'
   notes log :
 }
 
@@ -538,7 +604,7 @@ progress() {
     fail 'progress without a terminal'
 }
 
-for group in words changes refusals once choices left harms dep5 journal faults above names \
+for group in words changes refusals ready once choices left harms dep5 journal faults above names \
   progress; do
   $group
 done

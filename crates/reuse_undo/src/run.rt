@@ -18,3 +18,4 @@ mod on_folder;
 mod reads;
 pub(crate) mod run_result;
 mod texts;
+pub(crate) mod unrecognised;

@@ -5,10 +5,11 @@ use crate::print::walk_notes::{note_harms, note_left, note_unrecognised, note_un
 use crate::run::access_refusal::AccessRefusal;
 use crate::run::damage::MissingHead;
 use crate::run::diagnostics::{Diagnostics, RequestKind};
+use reuse_arguments::advice::line_advice;
 use reuse_arguments::line::LineFault;
 use reuse_dep5::{Dep5Cause, Dep5Refusal};
 use reuse_folder::OwnerReport;
-use reuse_notice::NoticeRefusal;
+use reuse_print::advice::path_advice;
 use reuse_print::fault::Fault;
 use reuse_session::{AmendFault, Failure, PathOutcome, Refusal};
 use reuse_store::Cause;
@@ -21,17 +22,8 @@ fn note(rt: &impl Eprint, text: impl Display + Drop) {
 
 /// Prints what to do about words that are no line.
 pub fn note_words(rt: &impl Eprint, fault: &LineFault) {
-    match fault {
-        LineFault::BadAdditions(NoticeRefusal::BadYear(_)) => note(
-            rt,
-            "a year has four digits; annotate takes a range as two years, as in --year 2019 --year 2024",
-        ),
-        LineFault::NothingToAmend => note(
-            rt,
-            "say what is to be changed, as by --replace-license OLD NEW, --replace-holder OLD NEW or --until YEAR; \
-            reuse-undo amend --help lists the options",
-        ),
-        _ => {}
+    if let Some(advice) = line_advice(fault) {
+        note(rt, advice);
     }
 }
 
@@ -45,11 +37,6 @@ const DEP5: &str = ".reuse/dep5";
 /// What can be done about a refusal, where a note says that.
 fn advice(refusal: &Refusal, is_begun: bool, diagnostics: &Diagnostics) -> Option<&'static str> {
     match refusal {
-        Refusal::Unrecognised(_) => Some(
-            "no comment style is known for this name: add a ready one by reuse-undo styles --add, name one with \
-            --style or in .reuse/styles.toml, write the information beside the file with \
-            --fallback-dot-license, or pass it over with --skip-unrecognised",
-        ),
         Refusal::Moved(_) if is_begun => Some(pending_advice(diagnostics)),
         Refusal::Moved(_) if diagnostics.is_gone => Some(gone_advice(diagnostics.kind)),
         Refusal::Moved(_) => Some(moved_advice(diagnostics.kind)),
@@ -68,7 +55,7 @@ fn advice(refusal: &Refusal, is_begun: bool, diagnostics: &Diagnostics) -> Optio
             the names below a line [styles], or add the lines by hand that reuse-undo styles --all prints",
         ),
         Refusal::Amend(_, fault) => Some(amend_advice(*fault)),
-        _ => None,
+        refusal => path_advice(refusal, diagnostics.unrecognised.is_any_left),
     }
 }
 
@@ -348,7 +335,8 @@ pub fn note_call(rt: &impl Eprint, diagnostics: &Diagnostics, outcome: &Result<u
     note_unrecognised(rt, diagnostics.unrecognised, outcome.is_ok());
     if let Ok(_) | Err(Fault::WouldRefuse(_)) = outcome {
         note_unused(rt, diagnostics);
-        note_harms(rt, diagnostics.counts.harms.as_slice());
+        let is_made = diagnostics.kind == RequestKind::Step;
+        note_harms(rt, diagnostics.counts.harms.as_slice(), is_made);
         note_left(rt, diagnostics.counts.left, diagnostics.is_everywhere);
     }
     if diagnostics.is_table_empty && outcome.is_ok() {
@@ -357,6 +345,11 @@ pub fn note_call(rt: &impl Eprint, diagnostics: &Diagnostics, outcome: &Result<u
             "REUSE.toml says nothing of any file, since .reuse/dep5 has no paragraph with Files",
         );
     }
+    note_surroundings(rt, diagnostics, outcome);
+}
+
+/// Prints what no other program or run may do meanwhile, and that a folder above has a journal.
+fn note_surroundings(rt: &impl Eprint, diagnostics: &Diagnostics, outcome: &Result<usize, Fault>) {
     if diagnostics.is_by_path {
         note(
             rt,
@@ -369,8 +362,21 @@ pub fn note_call(rt: &impl Eprint, diagnostics: &Diagnostics, outcome: &Result<u
         );
     }
     if let Some(folder) = &diagnostics.above {
-        let _ = eprintln!(rt;
-            "reuse-undo: note: a folder above has a journal too: --root {folder}"
+        note_above(rt, folder.as_str(), diagnostics.begins_journal(outcome));
+    }
+}
+
+/// Prints that a folder above has a journal too, and what to do if the call began a second one.
+fn note_above(rt: &impl Eprint, folder: &str, begins_journal: bool) {
+    let _ = eprintln!(rt;
+        "reuse-undo: note: a folder above has a journal too: with --root {folder} a call uses that one, \
+        and PATHs start there"
+    );
+    if begins_journal {
+        note(
+            rt,
+            "this call began a second journal: reuse-undo undo takes the call back; then delete .reuse/undo here, \
+            and .reuse if it is empty",
         );
     }
 }

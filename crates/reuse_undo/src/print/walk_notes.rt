@@ -1,27 +1,33 @@
 //! Notes on the files that a call goes through: for how many names no style is known, which globs
 //! and listed paths have no file, and what a new header could break. `notes` alone calls it. Tested
 //! by `tests/notes.sh`.
-use crate::run::diagnostics::{Diagnostics, Unrecognised};
+use crate::run::diagnostics::Diagnostics;
+use crate::run::unrecognised::Unrecognised;
+use reuse_print::advice::{harm_listing, name_listing};
 use reuse_print::objects::harm_word;
 use reuse_session::{Harm, Harmed};
 
 /// Prints how many files of how many names aren't recognised, where one is refused for that, or how
-/// many were passed over.
+/// many were passed over. Of these the names aren't known, nor whether a ready style is left.
 pub fn note_unrecognised(rt: &impl Eprint, unrecognised: Unrecognised, passed_over: bool) {
-    let Unrecognised { files, names } = unrecognised;
+    let Unrecognised {
+        files,
+        names,
+        is_any_left,
+    } = unrecognised;
+    let listing = name_listing(is_any_left);
     let word = if files == 1 { "file" } else { "files" };
     let name = if names == 1 { "name" } else { "names" };
     let _ = match (passed_over, files) {
         (true, 1..) => {
             eprintln!(rt;
                 "reuse-undo: note: {files} {word} passed over, since no comment style is known for the names; \
-                reuse-undo styles lists them, styles --add adds ready ones"
+                reuse-undo styles lists them, with the ready styles that styles --add adds"
             )
         }
         (false, 2..) => {
             eprintln!(rt;
-                "reuse-undo: note: {files} files of {names} {name} aren't recognised; \
-                reuse-undo styles lists them, styles --add adds ready ones"
+                "reuse-undo: note: {files} files of {names} {name} aren't recognised; {listing}"
             )
         }
         _ => Ok(()),
@@ -69,15 +75,17 @@ const HEADERS: &str = "amend changes header blocks, neighbours and REUSE.toml al
 /// Why paths are left if each tag is amended.
 const BESIDE: &str = "what is removed stays if other text stands on its line";
 
-/// Prints in which files a header could break something: the first of them, and how many more. Those
-/// whose header may be in a string are told apart.
-pub fn note_harms(rt: &impl Eprint, harms: &[Harmed]) {
+/// Prints in which files a header could break something: the first of them, how many more, and which
+/// call lists these, where the call was made or not. Those whose header may be in a string are told
+/// apart.
+pub fn note_harms(rt: &impl Eprint, harms: &[Harmed], is_made: bool) {
+    let listing = harm_listing(is_made);
     let count = harms.iter().filter(|harmed| is_below_text(harmed)).count();
     if let Some(first) = harms.iter().find(|harmed| !is_below_text(harmed)) {
-        note_first_lines(rt, first, harms.len().saturating_sub(count));
+        note_first_lines(rt, first, harms.len().saturating_sub(count), listing);
     }
     if let Some(first) = harms.iter().find(|harmed| is_below_text(harmed)) {
-        note_below_text(rt, first.path.text(), count);
+        note_below_text(rt, first.path.text(), count, listing);
     }
 }
 
@@ -86,7 +94,7 @@ fn is_below_text(harmed: &Harmed) -> bool {
 }
 
 // Prints which of some files has a header below text that is no comment.
-fn note_below_text(rt: &impl Eprint, path: &str, count: usize) {
+fn note_below_text(rt: &impl Eprint, path: &str, count: usize, listing: &str) {
     let _ = match count {
         0 | 1 => {
             eprintln!(rt;
@@ -97,14 +105,14 @@ fn note_below_text(rt: &impl Eprint, path: &str, count: usize) {
             let more = count - 1;
             eprintln!(rt;
                 "reuse-undo: note: the headers of {count} files stand below other text: \
-                they may be in strings: {path} and {more} more"
+                they may be in strings: {path} and {more} more ({listing})"
             )
         }
     };
 }
 
 // Prints which of some files has a first line that a header at the top may break.
-fn note_first_lines(rt: &impl Eprint, first: &Harmed, count: usize) {
+fn note_first_lines(rt: &impl Eprint, first: &Harmed, count: usize, listing: &str) {
     let (path, word) = (first.path.text(), harm_word(first.harm));
     let way = if first.harm == Harm::Markup {
         RULED
@@ -118,7 +126,8 @@ fn note_first_lines(rt: &impl Eprint, first: &Harmed, count: usize) {
         count => {
             let more = count - 1;
             eprintln!(rt;
-                "reuse-undo: note: a header at the top may break {count} files: {path} ({word}) and {more} more; {way}"
+                "reuse-undo: note: a header at the top may break {count} files: {path} ({word}) and {more} more \
+                ({listing}); {way}"
             )
         }
     };

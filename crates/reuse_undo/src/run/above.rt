@@ -6,7 +6,7 @@ use std::fs;
 use std::rt::Files;
 
 /// Whether the folder has a journal.
-fn has_journal(rt: &impl Files, alloc: Global, folder: &str) -> Result<bool, AllocError> {
+pub fn has_journal(rt: &impl Files, alloc: Global, folder: &str) -> Result<bool, AllocError> {
     let mut path = String::from_str(alloc, folder)?;
     path.push_str("/")?;
     path.push_str(JOURNAL)?;

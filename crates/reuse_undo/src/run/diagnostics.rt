@@ -3,17 +3,19 @@ ghost use Rattle.std.specs.Prelude.{◌≡◌, ◌⊎◌};
 ghost use Rattle.reuse_store.specs.Asked.{OnlyReads};
 ghost use Rattle.reuse_undo.specs.run.OneCall.{LooksAt, StaysThenLooks};
 
-use crate::run::above::journal_above;
-use crate::run::answering::preview;
+use crate::run::above::{has_journal, journal_above};
 use crate::run::damage::{JournalDamage, MissingHead, damage_of, is_gone, steps_without_head};
-use crate::run::reads::is_table_empty;
+use crate::run::reads::{is_table_empty, own_files};
+use crate::run::unrecognised::{
+    Unrecognised, is_unrecognised, passes_over, unrecognised_among, unrecognised_names,
+};
 use reuse_arguments::line::Line;
 use reuse_change::PathText;
 use reuse_command::command::FileAmendment;
 use reuse_folder::{Failure, HostStore, OwnerReport};
 use reuse_print::fault::Fault;
-use reuse_ready::tally;
-use reuse_session::{Call, Command, Counts, PathOutcome, Refusal, Request, Scope, Unknown, Unused};
+use reuse_print::ready_left::OwnFiles;
+use reuse_session::{Call, Command, Counts, PathOutcome, Refusal, Request, Scope, Unused};
 use reuse_store::Store;
 use reuse_text::Bytes;
 use reuse_toml::{Glob, glob_matches};
@@ -62,15 +64,6 @@ impl RequestKind {
     }
 }
 
-/// Files whose names aren't recognised.
-#[derive(Clone, Copy, Default)]
-pub struct Unrecognised {
-    /// How many there are.
-    pub files: usize,
-    /// How many names they have, as far as that was counted.
-    pub names: usize,
-}
-
 /// What was found out about a call.
 #[derive(Drop)]
 pub struct Diagnostics {
@@ -81,6 +74,8 @@ pub struct Diagnostics {
     pub texts: Option<String>,
     /// The nearest folder above the root that has a journal.
     pub above: Option<String>,
+    /// Whether the root had a journal before the call.
+    had_journal: bool,
     /// The step that a stopped run had begun.
     pub pending: Option<u32>,
     /// Whether that step was rolled back by the call.
@@ -101,6 +96,8 @@ pub struct Diagnostics {
     pub is_everywhere: bool,
     /// The globs that left nothing out, as they are written.
     pub idle_globs: Vec<Bytes>,
+    /// The tree's own files of styles and of comments, where the call was refused.
+    own_files: OwnFiles,
     /// The files whose names aren't recognised, where the call was refused for one or passed them
     /// over.
     pub unrecognised: Unrecognised,
@@ -132,6 +129,7 @@ impl Diagnostics {
                 None => None,
             },
             above: journal_above(rt, alloc, root),
+            had_journal: has_journal(rt, alloc, root).unwrap_or(true),
             pending,
             is_rolled_back: false,
             owners: OwnerReport {
@@ -145,12 +143,22 @@ impl Diagnostics {
             counts: Counts::none(alloc),
             is_everywhere: amends_everywhere(&line.request),
             idle_globs: Vec::new(alloc),
-            unrecognised: Unrecognised::default(),
+            own_files: OwnFiles {
+                styles: None,
+                comments: None,
+            },
+            unrecognised: Unrecognised::unnamed(0),
             failure: None,
             missing_root: missing_root(rt, alloc, root),
             is_by_path: false,
             lock_error: None,
         }
+    }
+
+    /// Whether the call began the journal of its root.
+    pub fn begins_journal(&self, outcome: &Result<usize, Fault>) -> bool {
+        let is_step = matches!(self.kind, RequestKind::Step | RequestKind::Conversion);
+        is_step && !self.had_journal && matches!(outcome, Ok(1..))
     }
 
     /// Adds what is found after the call of a line. The folder is given back.
@@ -195,10 +203,10 @@ impl Diagnostics {
             Err(Fault::Refused(Refusal::Unrecognised(_))),
         ) = (request, outcome)
         {
-            return unrecognised_names(alloc, folder, call);
+            return unrecognised_names(alloc, folder, call, &self.own_files);
         }
         let counted = self.unrecognised_in(alloc, request, outcome);
-        (folder, counted.unwrap_or_default())
+        (folder, counted.unwrap_or(Unrecognised::unnamed(0)))
     }
 
     /// Those of them that were counted, or that the path outcomes show.
@@ -210,15 +218,10 @@ impl Diagnostics {
     ) -> Option<Unrecognised> {
         match (request, outcome) {
             (_, Err(Fault::WouldRefuse(path_outcomes))) => {
-                unrecognised_among(alloc, path_outcomes.as_slice())
+                unrecognised_among(alloc, path_outcomes.as_slice(), &self.own_files)
             }
             (Request::Make(Call::Run(Command::Annotate { scope, .. }), _), Ok(_))
-                if passes_over(scope) => {
-                Some(Unrecognised {
-                    files: self.counts.skipped,
-                    names: 0,
-                })
-            }
+                if passes_over(scope) => Some(Unrecognised::unnamed(self.counts.skipped)),
             _ => None,
         }
     }
@@ -250,6 +253,8 @@ impl Diagnostics {
         }
         if self.kind == RequestKind::Conversion {
             self.is_table_empty = is_table_empty(alloc, folder);
+        } else if is_unrecognised(outcome) {
+            self.own_files = own_files(alloc, folder);
         }
     }
 }
@@ -347,36 +352,4 @@ fn matches_one(glob: &Glob, folders: &[String]) -> bool {
     folders
         .iter()
         .any(|folder| glob_matches(glob, folder.as_str()))
-}
-
-/// Whether the files that are skipped are those whose names aren't recognised.
-fn passes_over(scope: &Scope) -> bool {
-    scope.unknown == Unknown::Skip && !scope.skip_existing
-}
-
-/// The files that the call goes through and whose names aren't recognised.
-fn unrecognised_names<S: Store + Drop>(alloc: Global, folder: S, call: &Call) -> (S, Unrecognised)
-    ensures { LooksAt S.Store folder result.0 }
-{
-    let (folder, path_outcomes) = preview(alloc, folder, call);
-    let found = match path_outcomes {
-        Ok(path_outcomes) => unrecognised_among(alloc, path_outcomes.as_slice()),
-        Err(_) => None,
-    };
-    (folder, found.unwrap_or_default())
-}
-
-/// The files that are refused among the path outcomes, since their names aren't recognised.
-fn unrecognised_among(alloc: Global, path_outcomes: &[PathOutcome]) -> Option<Unrecognised> {
-    let mut paths = Vec::new(alloc);
-    for path_outcome in path_outcomes {
-        if let PathOutcome::Refused(Refusal::Unrecognised(path)) = path_outcome {
-            paths.push(path.try_clone(alloc).ok()?).ok()?;
-        }
-    }
-    let names = tally(alloc, paths.as_slice()).ok()?.len();
-    Some(Unrecognised {
-        files: paths.len(),
-        names,
-    })
 }

@@ -1,11 +1,13 @@
-//! What is read of a folder beside a call: the step that is pending, and whether a table was made
-//! that says nothing. It only reads. `locked` and `diagnostics` call it. Tested by `tests/notes.sh`.
+//! What is read of a folder beside a call: the step that is pending, whether a table was made that
+//! says nothing, and the tree's own files of styles and of comments. It only reads. `locked` and
+//! `diagnostics` call it. Tested by `tests/notes.sh`.
 ghost use Rattle.std.specs.Prelude.{◌≡◌};
 ghost use Rattle.reuse_store.specs.Asked.{OnlyReads};
 
 use reuse_change::PathText;
 use reuse_change::layout::HEAD;
 use reuse_folder::HostStore;
+use reuse_print::ready_left::OwnFiles;
 use reuse_session::{Head, decode_head};
 use reuse_store::{Reading, Store};
 use reuse_text::{Bytes, LONGEST_FILE};
@@ -71,4 +73,17 @@ pub fn is_table_empty<R: Files<File = File> + AllocGlobal + Clone + Drop>(
         },
         None => false,
     }
+}
+
+/// The tree's own files of styles and of comments, where they can be read.
+pub fn own_files<R: Files<File = File> + AllocGlobal + Clone + Drop>(
+    alloc: Global,
+    store: &mut HostStore<R>,
+) -> OwnFiles
+    ensures reads { OnlyReads ⟦<HostStore<R> as Store>⟧ store.old store.new }
+    ensures noted { store.new.folder.unsynced ≡ store.old.folder.unsynced }
+{
+    let styles = read(alloc, store, ".reuse/styles.toml");
+    let comments = read(alloc, store, ".reuse/comments.toml");
+    OwnFiles { styles, comments }
 }
