@@ -6,6 +6,7 @@ pub mod Honesty
 pub mod JournalOwners
 pub mod OwnerChanges
 pub mod PathLosses
+pub mod RememberedFiles
 pub mod Reported
 pub mod RolledBack
 pub mod Rounds

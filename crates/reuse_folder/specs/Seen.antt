@@ -1,5 +1,5 @@
 -- What was read of paths, what their writes expect there, and what the files that are written are to be.
-use Rattle.std.specs.Prelude.{◌≡◌, ◌≢◌, ◌⊎◌, ℕ, List, [], ◌∷◌, ◌++◌, Option, None, Some, IfSome}
+use Rattle.std.specs.Prelude.{◌≡◌, ◌≢◌, ◌⊎◌, ℕ, ◌<◌, List, [], ◌∷◌, ◌++◌, length, Option, None, Some, IfSome}
 use Rattle.reuse_system.specs.TempFiles.{IsNewPlace, place_of}
 use Rattle.reuse_system.specs.FileStates.{FileState, Place, place_in}
 use Rattle.reuse_system.specs.NameChanges.{NameChange, AreEach, IsExpected, IsGuarded}
@@ -38,6 +38,13 @@ IsSeenBefore reads path one = IsReportedBy reads path one
 -- a read of the path is among these
 abbrev pub IsNoted : List ReadPath → List ℕ → Type 0
 IsNoted reads path = (seen : Option FileStatus) × IsSeenBefore reads path (expected_of seen)
+
+-- the path was read once more, and the reads before stay, unless these are too many
+abbrev pub IsReadOnceMore : (before after : List ReadPath) → List ℕ → Type 0
+IsReadOnceMore before after path =
+    IsNoted after path
+    × (length before < 1_024
+    → (seen : Option FileStatus) × (after ≡ before ++ record { path = path; seen = seen } ∷ []))
 
 -- what is to stand at the path directly before that changes is what is expected; what is found, if that is unknown
 abbrev pub IsSeenAs : Expected → Option FileStatus → Type 0

@@ -1,4 +1,7 @@
 //! What the last call of a store that failed was.
+ghost use Rattle.std.specs.Prelude.{◌≡◌, ◌↔◌, IsTrue, None};
+ghost use Rattle.reuse_system.specs.declared.fault.FolderFault.TheVariants.{Device};
+
 use reuse_store::StoreRequest;
 use reuse_system::fault::{FolderFault, IoReason};
 use std::alloc::Global;
@@ -15,12 +18,16 @@ pub struct Failure {
 
 impl Failure {
     /// Whether it failed since another program had changed what stands there.
-    pub fn is_change(&self) -> bool {
+    pub fn is_change(&self) -> bool
+        ensures { IsTrue result ↔ (self.now.fault ≡ Device IoReason.Changing) }
+    {
         matches!(self.fault, FolderFault::Device(IoReason::Changing))
     }
 
     /// Whether it failed since something stands there that is neither a file nor a folder.
-    pub fn is_foreign(&self) -> bool {
+    pub fn is_foreign(&self) -> bool
+        ensures { IsTrue result ↔ (self.now.fault ≡ Device IoReason.Foreign) }
+    {
         matches!(self.fault, FolderFault::Device(IoReason::Foreign))
     }
 }
@@ -48,7 +55,9 @@ pub struct LastFailure {
 
 impl LastFailure {
     /// None has failed.
-    pub fn none() -> LastFailure {
+    pub fn none() -> LastFailure
+        ensures { result.failure ≡ None }
+    {
         LastFailure { failure: None }
     }
 
@@ -72,7 +81,10 @@ impl LastFailure {
     }
 
     /// The call that failed, which is forgotten here.
-    pub fn take(&mut self) -> Option<Failure> {
+    pub fn take(&mut self) -> Option<Failure>
+        ensures failure { result ≡ self.old.failure }
+        ensures forgotten { self.new.failure ≡ None }
+    {
         self.failure.take()
     }
 }

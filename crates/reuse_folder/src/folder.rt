@@ -1,5 +1,5 @@
 //! A folder of the file system: its regular files by their paths.
-ghost use Rattle.std.specs.Prelude.{◌≡◌, All, false, length, IfOk, IsTrue, None, OnErr, Some, true};
+ghost use Rattle.std.specs.Prelude.{◌≡◌, ◌↔◌, All, false, length, IfOk, IsTrue, None, OnErr, Some, true};
 ghost use Rattle.std.specs.List.Sorted.{IsSorted};
 ghost use Rattle.std.specs.Ordering.{nat_cmp};
 ghost use Rattle.std.specs.Cmp.Lexicographic.{slice_cmp};
@@ -65,6 +65,7 @@ impl<S: DiskSystem + Drop> RootFolder<S> {
     ghost use Rattle.reuse_system.specs.declared.fault.FolderFault.TheVariants.{Device};
     ghost use Rattle.reuse_system.specs.declared.fault.IoReason.{IoReason};
     ghost use Rattle.reuse_system.specs.declared.syncs.Syncs.TheVariants.{Kept};
+    ghost use Rattle.reuse_folder.specs.declared.ownership.PutGuard.TheVariants.{Held, Off, Watching};
     ghost use Rattle.reuse_disk.specs.OpenFolders.{current_of};
     ghost use Rattle.reuse_system.specs.FolderPlaces.{IsNoFile};
     /// The folder at this path, in which what is written is made durable or not.
@@ -97,7 +98,9 @@ impl<S: DiskSystem + Drop> RootFolder<S> {
     }
 
     /// How files keep their owners here.
-    pub fn ownership(&self) -> &OwnershipPolicy {
+    pub fn ownership(&self) -> &OwnershipPolicy
+        ensures { result.now ≡ self.now.ownership }
+    {
         &self.ownership
     }
 
@@ -105,6 +108,7 @@ impl<S: DiskSystem + Drop> RootFolder<S> {
     /// owner.
     pub fn watch_writes(&mut self)
         ensures unsynced { self.new.unsynced ≡ self.old.unsynced }
+        ensures watched { self.new.ownership ≡ record self.old.ownership { guard = Watching } }
     {
         self.ownership.watch();
     }
@@ -112,6 +116,8 @@ impl<S: DiskSystem + Drop> RootFolder<S> {
     /// No call is held any more; whether one was.
     pub fn release_writes(&mut self) -> bool
         ensures unsynced { self.new.unsynced ≡ self.old.unsynced }
+        ensures held { IsTrue result ↔ (self.old.ownership.guard ≡ Held) }
+        ensures off { self.new.ownership ≡ record self.old.ownership { guard = Off } }
     {
         self.ownership.release()
     }
@@ -177,6 +183,7 @@ impl<S: DiskSystem + Drop> RootFolder<S> {
         ensures reads { ReadsOnly S.System self.old.system self.new.system }
         ensures unsynced { self.new.unsynced ≡ self.old.unsynced }
         ensures remembered { self.new.remembered ≡ self.old.remembered }
+        ensures same_reads { self.new.reads ≡ self.old.reads }
         ensures lies { S.honest self.new.system
             → IfOk result (LiesIn (S.folders self.new.system) path.now (current_of self.new.open_folders)) }
         ensures seen { S.honest self.new.system
@@ -199,6 +206,7 @@ impl<S: DiskSystem + Drop> RootFolder<S> {
         ensures new_file { self.new.new_file ≡ self.old.new_file }
         ensures ownership { self.new.ownership ≡ self.old.ownership }
         ensures remembered { self.new.remembered ≡ self.old.remembered }
+        ensures same_reads { self.new.reads ≡ self.old.reads }
         ensures lies { S.honest self.new.system
             → IfOk result (LiesIn (S.folders self.new.system) path.now (current_of self.new.open_folders)) }
         // What was seen may be another file by now; what is no file is reported as it is.

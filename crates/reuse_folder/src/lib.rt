@@ -8,18 +8,20 @@
 #![tactic(auto)]
 
 ghost use Rattle.std.specs.Prelude.{◌≡◌, ◌≢◌, ◌⊎◌, ◌+◌, [], IfOk, IsErr, MatchResult, OnErr, Some, is_ok, length, min};
-ghost use Rattle.std.specs.Prelude.{true};
+ghost use Rattle.std.specs.Prelude.{◌↔◌, IsTrue, if◌then◌else◌, true};
 ghost use Rattle.std.specs.FinMap as map;
 ghost use Rattle.std.specs.List.{Contains};
 ghost use Rattle.reuse_store.specs.Store.{reading_of};
 ghost use Rattle.reuse_folder.specs.FolderReads.{IsReadWith};
+ghost use Rattle.reuse_folder.specs.OwnerChanges.{is_due};
 ghost use Rattle.reuse_folder.specs.Barriers.{HasNoted, HaveNoted};
 ghost use Rattle.reuse_folder.specs.Batches.{disk_of, IsBatch};
 ghost use Rattle.reuse_folder.specs.FolderWrites.{IsGone, IsPutTidily, IsRemovedIn, IsStoredAt};
 ghost use Rattle.reuse_system.specs.declared.fault.IoReason.{IoReason};
 ghost use Rattle.reuse_system.specs.declared.place.Identity.{Identity};
-ghost use Rattle.reuse_folder.specs.RolledBack.{foreign_of};
-ghost use Rattle.reuse_folder.specs.Seen.{LoseNoEdits, LosesNoEditAfter};
+ghost use Rattle.reuse_folder.specs.RolledBack.{after_writing, foreign_of};
+ghost use Rattle.reuse_folder.specs.declared.ownership.PutGuard.TheVariants.{Held, Off, Watching};
+ghost use Rattle.reuse_folder.specs.Seen.{IsReadOnceMore, LoseNoEdits, LosesNoEditAfter};
 ghost use Rattle.reuse_disk.specs.LeftFiles.{ClearsLeft};
 ghost use Rattle.reuse_disk.specs.Noted.{IsNoted, StayNoted};
 ghost use Rattle.reuse_disk.specs.Synced.{AreAbove, AreSynced, IsSyncedAt};
@@ -40,6 +42,7 @@ mod noted_listing;
 mod notes;
 mod ownership;
 mod remembered;
+mod reports;
 mod rolled_back;
 
 pub use failure::Failure;
@@ -59,7 +62,6 @@ use reuse_system::system::HostSystem;
 use rolled_back::RolledBack;
 use std::alloc::Global;
 use std::fs::File;
-use std::io;
 use std::rt::{Env, Files};
 use std::time::Duration;
 
@@ -140,6 +142,7 @@ impl<S: DiskSystem + Drop> DiskStore<S> {
     pub fn watch_writes(&mut self)
         ensures reads { OnlyReads ⟦<DiskStore<S> as Store>⟧ self.old self.new }
         ensures unsynced { self.new.folder.unsynced ≡ self.old.folder.unsynced }
+        ensures watched { self.new.folder.ownership ≡ record self.old.folder.ownership { guard = Watching } }
     {
         self.folder.watch_writes();
     }
@@ -176,19 +179,17 @@ impl<S: DiskSystem + Drop> DiskStore<S> {
     pub fn expect_rollback(&mut self)
         ensures reads { OnlyReads ⟦<DiskStore<S> as Store>⟧ self.old self.new }
         ensures unsynced { self.new.folder.unsynced ≡ self.old.folder.unsynced }
+        ensures expected { self.new.rolled_back ≡ record self.old.rolled_back { is_pending = true } }
     {
         self.rolled_back.expect();
-    }
-
-    /// Why the root, or a folder above it, couldn't be locked, where one couldn't.
-    pub fn lock_error(&self) -> Option<io::Error> {
-        self.lock.error()
     }
 
     /// No put fails for that any more, but those of such files; whether one has failed.
     pub fn release_writes(&mut self) -> bool
         ensures reads { OnlyReads ⟦<DiskStore<S> as Store>⟧ self.old self.new }
         ensures unsynced { self.new.folder.unsynced ≡ self.old.folder.unsynced }
+        ensures held { IsTrue result ↔ (self.old.folder.ownership.guard ≡ Held) }
+        ensures off { self.new.folder.ownership ≡ record self.old.folder.ownership { guard = Off } }
     {
         self.folder.release_writes()
     }
@@ -201,34 +202,6 @@ impl<S: DiskSystem + Drop> DiskStore<S> {
     {
         let answer = self.folder.may_write(alloc, path);
         answer.map_err(StoreFault::from)
-    }
-
-    /// What was done so far to owners and names of files.
-    pub fn owner_report(&self) -> OwnerReport {
-        self.folder.ownership().owner_report()
-    }
-
-    /// How many files were rolled back, if a step was pending and isn't any more.
-    pub fn rolled_back(&self) -> Option<usize> {
-        self.rolled_back.files()
-    }
-
-    /// Whether folders are searched for by their paths, since the system doesn't show open ones.
-    pub fn is_by_path(&self) -> bool {
-        self.folder.is_by_path()
-    }
-
-    /// The folders that listings found and passed over.
-    pub fn passed_over(&self) -> &[String] {
-        self.folder.passed_over()
-    }
-
-    /// The last call that failed, where one did since the last asking.
-    pub fn take_failure(&mut self) -> Option<Failure>
-        ensures reads { OnlyReads ⟦<DiskStore<S> as Store>⟧ self.old self.new }
-        ensures unsynced { self.new.folder.unsynced ≡ self.old.folder.unsynced }
-    {
-        self.failure.take()
     }
 }
 
@@ -279,6 +252,9 @@ impl<S: DiskSystem + Drop> Store for DiskStore<S> {
         ensures read { S.honest self.new.folder.system → self.old.folder.remembered.files.items ≡ []
             → IfOk result (IsReadWith (foreign_of self.old.rolled_back) (S.folders self.new.folder.system)
             (S.holds self.new.folder.system) path.now limit) }
+        // What was read is what a write expects there.
+        ensures once_more { IfOk result
+            (λ _. IsReadOnceMore self.old.folder.reads.items self.new.folder.reads.items path.now) }
     {
         let foreign = self.rolled_back.foreign();
         let answer = self.folder.read_with(alloc, path, limit, foreign);
@@ -309,6 +285,9 @@ impl<S: DiskSystem + Drop> Store for DiskStore<S> {
         // The file at the path stays if it isn't what was read there.
         ensures keeps_edits { LosesNoEditAfter self.old.folder.reads.items path.now (S.changes self.old.folder.system)
             (S.changes self.new.folder.system) (S.holds self.old.folder.system) (S.holds self.new.folder.system) }
+        // A call that is held puts nothing.
+        ensures held { IsTrue (is_due self.old.folder.ownership.guard) → IsErr result }
+        ensures rolled_back { self.new.rolled_back ≡ after_writing path.now (is_ok result) self.old.rolled_back }
     {
         let answer = self.folder.put(alloc, path, parts);
         self.note_put(alloc, path, parts, answer)
@@ -333,6 +312,7 @@ impl<S: DiskSystem + Drop> Store for DiskStore<S> {
         // The file at the path stays if it isn't what was read there.
         ensures keeps_edits { LosesNoEditAfter self.old.folder.reads.items path.now (S.changes self.old.folder.system)
             (S.changes self.new.folder.system) (S.holds self.old.folder.system) (S.holds self.new.folder.system) }
+        ensures rolled_back { self.new.rolled_back ≡ after_writing path.now (is_ok result) self.old.rolled_back }
     {
         let answer = self.folder.remove(alloc, path);
         self.note_removal(alloc, path, answer)

@@ -2,6 +2,7 @@
 ghost use Rattle.std.specs.Prelude.{◌≡◌, ◌<◌, ◌+◌, IfErr, is_ok, length, min};
 ghost use Rattle.reuse_folder.specs.Batches.{made_of};
 ghost use Rattle.reuse_folder.specs.Reported.{IsReported};
+ghost use Rattle.reuse_folder.specs.RolledBack.{after_writing};
 ghost use Rattle.reuse_store.specs.Asked.{IsLater, IsPut, IsRemoval, IsWrite, AreWrites};
 ghost use Rattle.reuse_change.specs.Parts.{joined};
 
@@ -27,6 +28,7 @@ impl<S: DiskSystem + Drop> DiskStore<S> {
         ensures later { IsLater ⟦<DiskStore<S> as Store>⟧ self.old self.new }
         ensures folder { self.new.folder ≡ self.old.folder }
         ensures answers { IsReported answer result }
+        ensures rolled_back { self.new.rolled_back ≡ after_writing path.now (is_ok answer) self.old.rolled_back }
     {
         files_stay_good();
         let answer = self.note_answer(alloc, StoreRequest::Write, path.text(), answer);
@@ -45,6 +47,7 @@ impl<S: DiskSystem + Drop> DiskStore<S> {
         ensures later { IsLater ⟦<DiskStore<S> as Store>⟧ self.old self.new }
         ensures folder { self.new.folder ≡ self.old.folder }
         ensures answers { IsReported answer result }
+        ensures rolled_back { self.new.rolled_back ≡ after_writing path.now (is_ok answer) self.old.rolled_back }
     {
         files_stay_good();
         let answer = self.note_answer(alloc, StoreRequest::Remove, path.text(), answer);
@@ -63,6 +66,7 @@ impl<S: DiskSystem + Drop> DiskStore<S> {
         ensures calls { self.new.calls ≡ self.old.calls }
         ensures folder { self.new.folder ≡ self.old.folder }
         ensures answers { IsReported answer result }
+        ensures rolled_back { self.new.rolled_back ≡ after_writing path.now (is_ok answer) self.old.rolled_back }
     {
         self.rolled_back.note(path, answer.is_ok());
         self.failure.note(alloc, request, path, &answer);

@@ -2,11 +2,13 @@
 //! anew, unless that is allowed. A call is held before its first put if it has read such a file, or
 //! asked for one whose name is too long, so that it can be looked at, before it begins, whether it
 //! would write that file.
-ghost use Rattle.std.specs.Prelude.{◌≡◌, ◌↔◌, IsErr, IfErr, IfOk, true};
+ghost use Rattle.std.specs.Prelude.{◌≡◌, ◌↔◌, ℕ, List, IsErr, IfErr, IfOk, IsTrue, is_err, length};
+ghost use Rattle.std.specs.Prelude.{nat_lt, true};
 ghost use Rattle.reuse_system.specs.Ignored.{begins_journal};
 ghost use Rattle.reuse_system.specs.Owners.{cannot_keep, rights_of_mode};
-ghost use Rattle.reuse_folder.specs.OwnerChanges.{is_lost, may_write, owner_for, MayReplace};
-ghost use Rattle.reuse_system.specs.Names.{between_slashes};
+ghost use Rattle.reuse_folder.specs.OwnerChanges.{after_asking, is_due, is_lost, is_lost_at, may_write, owner_for};
+ghost use Rattle.reuse_folder.specs.OwnerChanges.{report_after, MayReplace};
+ghost use Rattle.reuse_system.specs.Names.{between_slashes, IsNameOf};
 ghost use Rattle.reuse_system.specs.declared.fault.FolderFault.TheVariants.{Device};
 ghost use Rattle.reuse_system.specs.declared.fault.IoReason.TheVariants.{Owned};
 
@@ -66,28 +68,40 @@ impl OwnershipPolicy {
     }
 
     /// The process' user.
-    pub fn user(&self) -> u32 {
+    pub fn user(&self) -> u32
+        ensures { result ≡ self.now.process.user }
+    {
         self.process.user
     }
 
     /// Which process it is, and whose.
-    pub fn process(&self) -> ProcessIds {
+    pub fn process(&self) -> ProcessIds
+        ensures number { result.number ≡ self.now.process.number }
+        ensures user { result.user ≡ self.now.process.user }
+    {
         self.process.ids()
     }
 
     /// What was done so far.
-    pub fn owner_report(&self) -> OwnerReport {
+    pub fn owner_report(&self) -> OwnerReport
+        ensures { result ≡ self.now.report }
+    {
         self.report
     }
 
     /// From now on a call is held before its first put if it reads a file that can't keep its
     /// owner, unless such files may be written, or if it asks for a name that no file can have.
-    pub fn watch(&mut self) {
+    pub fn watch(&mut self)
+        ensures { self.new ≡ record self.old { guard = PutGuard.Watching } }
+    {
         self.guard = PutGuard::Watching;
     }
 
     /// No call is held any more; whether one was.
-    pub fn release(&mut self) -> bool {
+    pub fn release(&mut self) -> bool
+        ensures held { IsTrue result ↔ (self.old.guard ≡ PutGuard.Held) }
+        ensures off { self.new ≡ record self.old { guard = PutGuard.Off } }
+    {
         let was_held = self.guard == PutGuard::Held;
         self.guard = PutGuard::Off;
         was_held
@@ -103,15 +117,21 @@ impl OwnershipPolicy {
     }
 
     /// The file at this path was read.
-    pub fn note_read(&mut self, path: &str, status: FileStatus) {
+    pub fn note_read(&mut self, path: &str, status: FileStatus)
+        ensures { self.new ≡ after_asking (is_lost_at self.old path.now status) self.old }
+    {
         if self.guard == PutGuard::Watching && self.check(path, status).is_err() {
             self.guard = PutGuard::Due;
         }
     }
 
     /// This path was asked for: whether a file stands there, or below.
-    pub fn note_path(&mut self, path: &str) {
-        if self.guard == PutGuard::Watching && ends_in_long_name(path) {
+    pub fn note_path(&mut self, path: &str)
+        ensures { (name : List ℕ) × IsNameOf path.now name
+            × (self.new ≡ after_asking (nat_lt 255 (length name)) self.old) }
+    {
+        let is_long = ends_in_long_name(path);
+        if self.guard == PutGuard::Watching && is_long {
             self.guard = PutGuard::Due;
         }
     }
@@ -120,6 +140,9 @@ impl OwnershipPolicy {
     pub fn check_guard(&mut self) -> Result<(), FolderFault>
         ensures process { self.new.process ≡ self.old.process }
         ensures owner_change { self.new.owner_change ≡ self.old.owner_change }
+        ensures held { is_err result ≡ is_due self.old.guard }
+        ensures fault { IfErr result (λ fault. (fault ≡ Device Owned) × (self.new.guard ≡ PutGuard.Held)) }
+        ensures report { self.new.report ≡ self.old.report }
     {
         if matches!(self.guard, PutGuard::Due | PutGuard::Held) {
             self.guard = PutGuard::Held;
@@ -162,7 +185,11 @@ impl OwnershipPolicy {
     }
 
     /// A file was written anew, and has this owner.
-    pub fn note_written(&mut self, path: &str, found: Option<FileStatus>, owner: Option<Owner>) {
+    pub fn note_written(&mut self, path: &str, found: Option<FileStatus>, owner: Option<Owner>)
+        ensures { self.new ≡ record self.old {
+          report = report_after (begins_journal (between_slashes path.now)) found owner self.old.report;
+        } }
+    {
         let Some(status) = found else {
             return;
         };

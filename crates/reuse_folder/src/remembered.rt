@@ -5,7 +5,8 @@
 //!
 //! A file that was changed right before the call isn't remembered: the stamp of a further change
 //! could be the same, since the system's stamps go by ticks.
-ghost use Rattle.std.specs.Prelude.{◌≡◌, [], None};
+ghost use Rattle.std.specs.Prelude.{◌≡◌, [], IfSome, IsSome, IsTrue, None, false};
+ghost use Rattle.reuse_folder.specs.RememberedFiles.{IsRemembered, IsRememberedNow};
 
 use reuse_change::PathText;
 use reuse_system::place::{FileStatus, FileVersion};
@@ -24,7 +25,7 @@ const LONGEST: usize = 64 * 1_024;
 #[derive(Drop)]
 struct RememberedFile {
     path: PathText,
-    version: FileVersion,
+    status: FileStatus,
     /// Its bytes, until they are asked for.
     bytes: Option<Bytes>,
 }
@@ -44,7 +45,10 @@ pub struct Remembered {
 
 impl Remembered {
     /// No file, and none that is read will be remembered.
-    pub fn nothing(alloc: Global) -> Remembered {
+    pub fn nothing(alloc: Global) -> Remembered
+        ensures files { result.files.items ≡ [] }
+        ensures since { result.since ≡ None }
+    {
         Remembered {
             since: None,
             files: Vec::new(alloc),
@@ -55,12 +59,16 @@ impl Remembered {
 
     /// Files that are read from now on are remembered, for a call that began at this time since
     /// 1970.
-    pub fn begin(&mut self, since: Option<Duration>) {
+    pub fn begin(&mut self, since: Option<Duration>)
+        ensures { self.new ≡ record self.old { since = since } }
+    {
         self.since = since;
     }
 
     /// Whether a file of this path, version and length is to be remembered.
-    fn takes(&self, path: &PathText, version: &FileVersion, len: usize) -> bool {
+    fn takes(&self, path: &PathText, version: &FileVersion, len: usize) -> bool
+        ensures { IsTrue result → IsSome self.now.since }
+    {
         let is_settled = match self.since {
             Some(since) => version.is_settled_at(since),
             None => false,
@@ -80,7 +88,12 @@ impl Remembered {
         path: &PathText,
         status: &FileStatus,
         bytes: &Bytes,
-    ) -> bool {
+    ) -> bool
+        ensures remembered { IsTrue result
+            → IsRememberedNow self.old self.new path.now status.now bytes.now }
+        ensures same { result ≡ false → self.new.files.items ≡ self.old.files.items }
+        ensures since { self.new.since ≡ self.old.since }
+    {
         let len = bytes.len();
         let version = status.version();
         if !self.takes(path, &version, len) {
@@ -91,7 +104,7 @@ impl Remembered {
         };
         let file = RememberedFile {
             path,
-            version,
+            status: *status,
             bytes: Some(bytes),
         };
         if self.files.push(file).is_err() {
@@ -113,7 +126,9 @@ impl Remembered {
     /// The bytes of the file, if it is remembered and is still as it was. It isn't remembered any
     /// more, however it is.
     pub fn take(&mut self, path: &PathText, status: &FileStatus) -> Option<Bytes>
-        ensures { self.old.files.items ≡ [] → result ≡ None }
+        ensures none { self.old.files.items ≡ [] → result ≡ None }
+        // They are those of a file of the very version that the system reports now.
+        ensures version { IfSome result (IsRemembered self.old status.now.version) }
     {
         if self.files.is_empty() {
             return None;
@@ -121,7 +136,7 @@ impl Remembered {
         let at = self.place_of(path)?;
         self.next = at.saturating_add(1);
         let file = self.files.get_mut(at)?;
-        let is_same = file.version == status.version();
+        let is_same = file.status.is_same(status);
         let bytes = file.bytes.take()?;
         self.bytes = self.bytes.saturating_sub(bytes.len());
         if is_same { Some(bytes) } else { None }

@@ -1,7 +1,8 @@
 //! Reading a file. The file that is read is the one that was looked at: if something else has taken
 //! its place, a link too, it isn't read.
-ghost use Rattle.std.specs.Prelude.{◌≡◌, ◌≤◌, ◌⊎◌, ℕ, [], IfOk, IfSome, IsTrue, None, Some, length};
-ghost use Rattle.reuse_folder.specs.Seen.{expected_of, IsNoted, IsSeenBefore};
+ghost use Rattle.std.specs.Prelude.{◌≡◌, ◌≤◌, ◌<◌, ◌⊎◌, ℕ, [], IfOk, IfSome, IsTrue, MatchOption, None, Some};
+ghost use Rattle.std.specs.Prelude.{length};
+ghost use Rattle.reuse_folder.specs.Seen.{expected_of, IsNoted, IsReadOnceMore, IsSeenBefore};
 ghost use Rattle.reuse_system.specs.Ignored.{is_ignored};
 ghost use Rattle.reuse_system.specs.Within.{IsWithin};
 
@@ -41,6 +42,7 @@ impl<S: DiskSystem + Drop> RootFolder<S> {
         ensures read { S.honest self.new.system → self.old.remembered.files.items ≡ []
             → IfOk result (IsReadAt (S.folders self.new.system) (S.holds self.new.system) path.now limit) }
         ensures noted { IfOk result (λ _. IsNoted self.new.reads.items path.now) }
+        ensures once_more { IfOk result (λ _. IsReadOnceMore self.old.reads.items self.new.reads.items path.now) }
     {
         match self.find_file(alloc, path)? {
             Some(status) => match self.take_remembered(path, status, limit) {
@@ -69,6 +71,9 @@ impl<S: DiskSystem + Drop> RootFolder<S> {
             → IfOk result (IsFoundAt (S.folders self.new.system) (S.holds self.new.system) path.now
             (current_of self.new.open_folders)) }
         ensures noted { IfOk result (λ seen. seen ≡ None → IsNoted self.new.reads.items path.now) }
+        ensures once_more { IfOk result
+            (λ seen. MatchOption seen (IsReadOnceMore self.old.reads.items self.new.reads.items path.now)
+            (λ _. self.new.reads ≡ self.old.reads)) }
     {
         match self.look(alloc, path)? {
             Place::File(status) => {
@@ -95,6 +100,7 @@ impl<S: DiskSystem + Drop> RootFolder<S> {
         ensures unsynced { self.new.unsynced ≡ self.old.unsynced }
         ensures read { S.honest self.new.system → self.old.remembered.files.items ≡ []
             → IfOk result (IsReadWith foreign (S.folders self.new.system) (S.holds self.new.system) path.now limit) }
+        ensures once_more { IfOk result (λ _. IsReadOnceMore self.old.reads.items self.new.reads.items path.now) }
     {
         let reading = self.read(alloc, path, limit)?;
         self.mounted.note(alloc, &self.open_folders);
@@ -115,6 +121,7 @@ impl<S: DiskSystem + Drop> RootFolder<S> {
         reading: Reading,
     ) -> Result<Reading, FolderFault>
         ensures within { (limit : ℕ) → IsWithin limit reading → IfOk result (IsWithin limit) }
+        ensures same_reads { self.new.reads ≡ self.old.reads }
         ensures reads { ReadsOnly S.System self.old.system self.new.system }
         ensures unsynced { self.new.unsynced ≡ self.old.unsynced }
         ensures reported { S.honest self.new.system
@@ -139,6 +146,7 @@ impl<S: DiskSystem + Drop> RootFolder<S> {
         ensures system { self.new.system ≡ self.old.system }
         ensures unsynced { self.new.unsynced ≡ self.old.unsynced }
         ensures open_folders { self.new.open_folders ≡ self.old.open_folders }
+        ensures same_reads { self.new.reads ≡ self.old.reads }
         ensures within { IfSome result (λ bytes. length bytes ≤ limit) }
         ensures none { self.old.remembered.files.items ≡ [] → result ≡ None }
     {
@@ -171,6 +179,7 @@ impl<S: DiskSystem + Drop> RootFolder<S> {
             (current_of self.old.open_folders) (Place.File status)
             → IfOk result (IsReadAt (S.folders self.new.system) (S.holds self.new.system) path.now limit) }
         ensures noted { IfOk result (λ _. IsNoted self.new.reads.items path.now) }
+        ensures once_more { IfOk result (λ _. IsReadOnceMore self.old.reads.items self.new.reads.items path.now) }
     {
         match self.read_anew(alloc, path, limit, status)? {
             Some(reading) => Ok(reading),
@@ -191,6 +200,7 @@ impl<S: DiskSystem + Drop> RootFolder<S> {
         ensures read { S.honest self.new.system
             → IfOk result (IsReadAt (S.folders self.new.system) (S.holds self.new.system) path.now limit) }
         ensures noted { IfOk result (λ _. IsNoted self.new.reads.items path.now) }
+        ensures once_more { IfOk result (λ _. IsReadOnceMore self.old.reads.items self.new.reads.items path.now) }
     {
         match self.find_file(alloc, path)? {
             Some(status) => match self.read_anew(alloc, path, limit, status)? {
@@ -220,6 +230,8 @@ impl<S: DiskSystem + Drop> RootFolder<S> {
             → IfOk result (λ read. IfSome read (IsReadIn (current_of self.old.open_folders) path.now limit
             (S.holds self.old.system))) }
         ensures noted { IfOk result (λ read. IfSome read (λ _. IsNoted self.new.reads.items path.now)) }
+        ensures once_more { IfOk result (λ read. MatchOption read (self.new.reads ≡ self.old.reads)
+            (λ _. IsReadOnceMore self.old.reads.items self.new.reads.items path.now)) }
     {
         if status.len > limit as u64 {
             self.note_read(alloc, path, Some(status))?;
@@ -247,6 +259,7 @@ impl<S: DiskSystem + Drop> RootFolder<S> {
         ensures unsynced { self.new.unsynced ≡ self.old.unsynced }
         ensures open_folders { self.new.open_folders ≡ self.old.open_folders }
         ensures noted { IfOk result (λ _. IsNoted self.new.reads.items path.now) }
+        ensures once_more { IfOk result (λ _. IsReadOnceMore self.old.reads.items self.new.reads.items path.now) }
     {
         if let Reading::Found(bytes) = reading {
             self.remembered.note(alloc, path, &status, bytes);
@@ -259,6 +272,7 @@ impl<S: DiskSystem + Drop> RootFolder<S> {
         ensures system { self.new.system ≡ self.old.system }
         ensures unsynced { self.new.unsynced ≡ self.old.unsynced }
         ensures open_folders { self.new.open_folders ≡ self.old.open_folders }
+        ensures few { length self.old.reads.items < 1_024 → self.new.reads ≡ self.old.reads }
     {
         if self.reads.len() >= MOST_SEEN {
             self.reads.reverse();
@@ -279,6 +293,7 @@ impl<S: DiskSystem + Drop> RootFolder<S> {
         ensures open_folders { self.new.open_folders ≡ self.old.open_folders }
         ensures seen { IfOk result (λ _. IsSeenBefore self.new.reads.items path.now (expected_of seen)) }
         ensures noted { IfOk result (λ _. IsNoted self.new.reads.items path.now) }
+        ensures once_more { IfOk result (λ _. IsReadOnceMore self.old.reads.items self.new.reads.items path.now) }
     {
         self.forget_older_reads();
         let path = path.try_clone(alloc)?;

@@ -20,7 +20,7 @@ impl<S: DiskSystem + Drop> RootFolder<S> {
     ghost use Rattle.reuse_disk.specs.Noted.{StayNoted};
     ghost use Rattle.reuse_disk.specs.Written.{is_kept, LeavesNone};
     ghost use Rattle.reuse_folder.specs.Barriers.{HasNoted, IsNotedAbove};
-    ghost use Rattle.reuse_folder.specs.OwnerChanges.{MayReplace};
+    ghost use Rattle.reuse_folder.specs.OwnerChanges.{is_due, MayReplace};
     ghost use Rattle.reuse_system.specs.declared.syncs.Syncs.TheVariants.{Kept};
     ghost use Rattle.reuse_folder.specs.Seen.{IsSeenAs, IsSeenBefore, LosesNoEdit, LosesNoEditAfter};
     ghost use Rattle.reuse_change.specs.Parts.{joined};
@@ -30,6 +30,7 @@ impl<S: DiskSystem + Drop> RootFolder<S> {
         ensures kept { self.new.system ≡ self.old.system }
         ensures open_folders { self.new.open_folders ≡ self.old.open_folders }
         ensures unsynced { self.new.unsynced ≡ self.old.unsynced }
+        ensures ownership { self.new.ownership ≡ self.old.ownership }
         ensures expected { IsSeenBefore self.old.reads.items path.now result }
     {
         let expected = expected_at(&self.reads, path);
@@ -59,6 +60,8 @@ impl<S: DiskSystem + Drop> RootFolder<S> {
         // The file at the path stays if it isn't what was read there.
         ensures keeps_edits { LosesNoEditAfter self.old.reads.items path.now (S.changes self.old.system)
             (S.changes self.new.system) (S.holds self.old.system) (S.holds self.new.system) }
+        // A call that is held puts nothing.
+        ensures held { IsTrue (is_due self.old.ownership.guard) → IsErr result }
     {
         let expected = self.take_expected(path);
         let found = self.make_room(alloc, path, expected)?;
@@ -82,6 +85,7 @@ impl<S: DiskSystem + Drop> RootFolder<S> {
         ensures seen { IfOk result (IsSeenAs expected) }
         // A file that can't keep its owner stays, unless that may change.
         ensures may { IfOk result (λ found. IfSome found (MayReplace self.old.ownership path.now)) }
+        ensures held { IsTrue (is_due self.old.ownership.guard) → IsErr result }
     {
         let (folder, _) = folder_and_name(path.text());
         self.ownership.check_guard()?;
