@@ -17,4 +17,5 @@ pub mod Places
 pub mod PrefixNames
 pub mod RefusalTexts
 pub mod Requests
+pub mod FoundParts
 pub mod StyleWords

@@ -15,20 +15,24 @@ use Rattle.reuse_command.specs.declared.request.Request.TheVariants as requests
 abbrev pub made_or_seen : Call → ℕ → Bool → Request
 made_or_seen call moment dry_run = if dry_run then requests.Preview call else requests.Make call moment
 
+-- a call, and a request, whose command is changed, if it has one
+abbrev pub call_with : (Command → Command) → Call → Call
+call_with change (calls.Run command) = calls.Run (change command)
+call_with change call = call
+
+abbrev pub request_with : (Command → Command) → Request → Request
+request_with change (requests.Make call when) = requests.Make (call_with change call) when
+request_with change (requests.Preview call) = requests.Preview (call_with change call)
+request_with change request = request
+
 -- ---- with the texts that were found for a download
 
 abbrev pub command_with_texts : List LicenceText → Command → Command
 command_with_texts texts (Download ids none) = Download ids texts
 command_with_texts texts command = command
 
-abbrev pub call_with_texts : List LicenceText → Call → Call
-call_with_texts texts (calls.Run command) = calls.Run (command_with_texts texts command)
-call_with_texts texts call = call
-
 abbrev pub with_texts : List LicenceText → Request → Request
-with_texts texts (requests.Make call when) = requests.Make (call_with_texts texts call) when
-with_texts texts (requests.Preview call) = requests.Preview (call_with_texts texts call)
-with_texts texts request = request
+with_texts texts request = request_with (command_with_texts texts) request
 
 -- ---- with a list of files
 
@@ -39,14 +43,8 @@ command_listed paths (Annotate places additions how scope) =
 command_listed paths (Amend places amendment scope) = Amend places amendment (record scope { listed = Some paths })
 command_listed paths command = command
 
-abbrev pub call_listed : List (List ℕ) → Call → Call
-call_listed paths (calls.Run command) = calls.Run (command_listed paths command)
-call_listed paths call = call
-
 abbrev pub request_listed : List (List ℕ) → Request → Request
-request_listed paths (requests.Make call when) = requests.Make (call_listed paths call) when
-request_listed paths (requests.Preview call) = requests.Preview (call_listed paths call)
-request_listed paths request = request
+request_listed paths request = request_with (command_listed paths) request
 
 -- ---- with the texts of headers
 
@@ -63,11 +61,5 @@ command_with_header_texts texts (Amend places amendment scope) =
     Amend places (amendment_with_header_texts texts amendment) scope
 command_with_header_texts texts command = command
 
-abbrev pub call_with_header_texts : List (List (List ℕ)) → Call → Call
-call_with_header_texts texts (calls.Run command) = calls.Run (command_with_header_texts texts command)
-call_with_header_texts texts call = call
-
 abbrev pub request_with_header_texts : List (List (List ℕ)) → Request → Request
-request_with_header_texts texts (requests.Make call when) = requests.Make (call_with_header_texts texts call) when
-request_with_header_texts texts (requests.Preview call) = requests.Preview (call_with_header_texts texts call)
-request_with_header_texts texts request = request
+request_with_header_texts texts request = request_with (command_with_header_texts texts) request

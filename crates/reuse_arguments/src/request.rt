@@ -1,10 +1,10 @@
 //! The request of a line, made whole: with the texts of a download, a list of files, or the texts of
 //! headers.
 ghost use Rattle.std.specs.Prelude.{◌≡◌, if◌then◌else◌};
-ghost use Rattle.reuse_arguments.specs.Requests.{made_or_seen, with_texts, call_with_texts, command_with_texts};
-ghost use Rattle.reuse_arguments.specs.Requests.{request_listed, call_listed, command_listed};
-ghost use Rattle.reuse_arguments.specs.Requests.{request_with_header_texts, call_with_header_texts};
-ghost use Rattle.reuse_arguments.specs.Requests.{command_with_header_texts, amendment_with_header_texts};
+ghost use Rattle.reuse_arguments.specs.Requests.{made_or_seen, with_texts, request_listed, request_with_header_texts};
+ghost use Rattle.reuse_arguments.specs.Requests.{command_with_texts, command_listed, command_with_header_texts};
+ghost use Rattle.reuse_arguments.specs.Requests.{amendment_with_header_texts, call_with, request_with};
+ghost use Rattle.reuse_arguments.specs.FoundParts.{command_with};
 
 use reuse_change::Moment;
 use reuse_command::choice::PathList;
@@ -39,66 +39,78 @@ pub fn ids_of(request: &Request) -> Option<&Ids> {
     }
 }
 
+/// What files give a request.
+#[derive(Drop)]
+enum FoundPart {
+    /// The texts of a download.
+    LicenceTexts(LicenceTexts),
+    /// A list of files.
+    Listed(PathList),
+    /// The texts of headers.
+    HeaderTexts(HeaderTexts),
+}
+
 /// The request with the texts that were found for a download.
 pub fn with_texts(request: Request, texts: LicenceTexts) -> Request
     ensures { result ≡ with_texts texts request }
 {
-    match request {
-        Request::Make(call, when) => Request::Make(call_with_texts(call, texts), when),
-        Request::Preview(call) => Request::Preview(call_with_texts(call, texts)),
-        request => {
-            drop(texts);
-            request
-        }
-    }
-}
-
-fn call_with_texts(call: Call, texts: LicenceTexts) -> Call
-    ensures { result ≡ call_with_texts texts call }
-{
-    match call {
-        Call::Run(command) => Call::Run(command_with_texts(command, texts)),
-        call => {
-            drop(texts);
-            call
-        }
-    }
-}
-
-fn command_with_texts(command: Command, texts: LicenceTexts) -> Command
-    ensures { result ≡ command_with_texts texts command }
-{
-    match command {
-        Command::Download { ids, texts: none } => {
-            drop(none);
-            Command::Download { ids, texts }
-        }
-        command => {
-            drop(texts);
-            command
-        }
-    }
+    let mut request = request;
+    set_found(&mut request, FoundPart::LicenceTexts(texts));
+    request
 }
 
 /// Of the files beneath folders the command goes through those of the list alone.
 pub fn set_listed(request: &mut Request, listed: PathList)
     ensures { request.new ≡ request_listed listed request.old }
 {
+    set_found(request, FoundPart::Listed(listed));
+}
+
+/// The command adds these texts to headers, or takes them out, if it is one of texts.
+pub fn set_header_texts(request: &mut Request, texts: HeaderTexts)
+    ensures { request.new ≡ request_with_header_texts texts request.old }
+{
+    set_found(request, FoundPart::HeaderTexts(texts));
+}
+
+// The command of the request gets what was found, if the request has one.
+fn set_found(request: &mut Request, found: FoundPart)
+    ensures { request.new ≡ request_with (command_with found) request.old }
+{
     match request {
-        Request::Make(call, _) => set_call_listed(call, listed),
-        Request::Preview(call) => set_call_listed(call, listed),
+        Request::Make(call, _) => set_found_in_call(call, found),
+        Request::Preview(call) => set_found_in_call(call, found),
         Request::Log | Request::Show(_) | Request::Forget(_) | Request::Recover { .. } => {
-            drop(listed);
+            drop(found);
         }
     }
 }
 
-fn set_call_listed(call: &mut Call, listed: PathList)
-    ensures { call.new ≡ call_listed listed call.old }
+fn set_found_in_call(call: &mut Call, found: FoundPart)
+    ensures { call.new ≡ call_with (command_with found) call.old }
 {
     match call {
-        Call::Run(command) => set_command_listed(command, listed),
-        _ => drop(listed),
+        Call::Run(command) => set_found_in_command(command, found),
+        _ => drop(found),
+    }
+}
+
+fn set_found_in_command(command: &mut Command, found: FoundPart)
+    ensures { command.new ≡ command_with found command.old }
+{
+    match found {
+        FoundPart::LicenceTexts(texts) => set_command_licence_texts(command, texts),
+        FoundPart::Listed(listed) => set_command_listed(command, listed),
+        FoundPart::HeaderTexts(texts) => set_command_header_texts(command, texts),
+    }
+}
+
+fn set_command_licence_texts(command: &mut Command, texts: LicenceTexts)
+    ensures { command.new ≡ command_with_texts texts command.old }
+{
+    match command {
+        Command::Download { texts: none, .. } => *none = texts,
+        _ => drop(texts),
     }
 }
 
@@ -109,28 +121,6 @@ fn set_command_listed(command: &mut Command, listed: PathList)
         Command::Annotate { scope, .. } => scope.listed = Some(listed),
         Command::Amend { scope, .. } => scope.listed = Some(listed),
         _ => drop(listed),
-    }
-}
-
-/// The command adds these texts to headers, or takes them out, if it is one of texts.
-pub fn set_header_texts(request: &mut Request, texts: HeaderTexts)
-    ensures { request.new ≡ request_with_header_texts texts request.old }
-{
-    match request {
-        Request::Make(call, _) => set_call_header_texts(call, texts),
-        Request::Preview(call) => set_call_header_texts(call, texts),
-        Request::Log | Request::Show(_) | Request::Forget(_) | Request::Recover { .. } => {
-            drop(texts);
-        }
-    }
-}
-
-fn set_call_header_texts(call: &mut Call, texts: HeaderTexts)
-    ensures { call.new ≡ call_with_header_texts texts call.old }
-{
-    match call {
-        Call::Run(command) => set_command_header_texts(command, texts),
-        _ => drop(texts),
     }
 }
 
