@@ -5,8 +5,9 @@
 # time set back, or by another file of the same length and time. Nothing of such a change may be
 # lost. The call sees it, as it does where it reads a file again: it changes its own lines and keeps
 # the others, or it is interrupted and the file stays as the other program left it. Then
-# `recover --skip-moved` leads out. Prints how many changes were kept and how many system calls a
-# file takes; ends with status 1 at the first fault.
+# `recover --skip-moved` leads out. Or a file is changed a moment before the call, to the same
+# length: the call sees it, and reads what was written in its own moment anew. Prints how many
+# changes were kept and how many system calls a file takes; ends with status 1 at the first fault.
 # usage: tests/remembered_files.sh PROGRAM
 # The tags below are data: REUSE-IgnoreStart
 set -euo pipefail
@@ -135,13 +136,49 @@ change_files() {
   done
 }
 
+# A file is changed a moment before a call, and to the same length: the call sees that text.
+change_before() {
+  local round file=$tree/102.py
+  for ((round = 0; round < 20; round++)); do
+    make_tree 5 20
+    printf '%s\n' {1..9} 'x = 1' > "$file"
+    printf '%s\n' {1..9} 'y = 2' > "$file"
+    "$program" --root "$tree" --no-sync "${annotate[@]}" > "$room/out"
+    [[ $(tail -n 1 "$file") == 'y = 2' ]] || fail 'a change right before annotate is lost'
+    in_place "$file"
+    "$program" --root "$tree" --no-sync undo > "$room/out" 2>&1 &&
+      fail 'undo takes a file that was changed right before for its own'
+    "$program" --root "$tree" --no-sync revert 1 > "$room/out"
+    [[ $(tail -n 1 "$file") == 'y = y' && $(head -n 1 "$file") == 1 ]] ||
+      fail 'a change right before undo and revert is lost'
+    kept=$((kept + 2))
+  done
+}
+
+# How many system calls a file takes that was written in the very moment of the call, as its time
+# says: it is read anew.
+count_fresh() {
+  local few many
+  make_tree 100 3
+  touch -d '+10 seconds' "$tree"/*.py
+  few=$(calls_of "${annotate[@]}")
+  make_tree 300 3
+  touch -d '+10 seconds' "$tree"/*.py
+  many=$(calls_of "${annotate[@]}")
+  echo "$(((many - few + 100) / 200))"
+}
+
 short=$(count_calls 3)
+fresh=$(count_fresh)
 long=$(count_calls 20000)
 change_files 3
 change_files 20000
+change_before
+((fresh >= ${short%% *} + 4)) || fail "a file written right before takes $fresh system calls"
 read -r -a each <<< "$short"
 for calls in "${each[@]}"; do
   ((calls <= 13)) || fail "a short file takes $short system calls"
 done
 echo "$kept changes beside a call were kept, $interrupted of them by an interruption; system calls a" \
-  "file in annotate, undo and redo: $short of short files, $long of long ones"
+  "file in annotate, undo and redo: $short of short files, $long of long ones; $fresh in annotate" \
+  "of short ones that were written right before"
