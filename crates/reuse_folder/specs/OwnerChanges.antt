@@ -23,17 +23,15 @@ may_write Refused cannot_keep = not cannot_keep
 abbrev pub is_lost : (in_journal : Bool) → OwnerChange → (cannot_keep : Bool) → Bool
 is_lost in_journal change cannot_keep = not in_journal && not (may_write change cannot_keep)
 
--- this file may be written anew at the path
-abbrev pub MayReplace : OwnershipPolicy → (path : List ℕ) → FileStatus → Type 0
-MayReplace ownership path seen =
-    is_lost (begins_journal (between_slashes path)) ownership.owner_change
-    (cannot_keep ownership.process seen.owner (rights_of_mode seen.mode)) ≡ false
-
 -- this file may not be written anew at the path
 abbrev pub is_lost_at : OwnershipPolicy → (path : List ℕ) → FileStatus → Bool
 is_lost_at ownership path seen =
     is_lost (begins_journal (between_slashes path)) ownership.owner_change
     (cannot_keep ownership.process seen.owner (rights_of_mode seen.mode))
+
+-- it may be written anew there
+abbrev pub MayReplace : OwnershipPolicy → (path : List ℕ) → FileStatus → Type 0
+MayReplace ownership path seen = is_lost_at ownership path seen ≡ false
 
 -- the owner of the file that was seen, or that of one which is made anew in a folder of this owner
 abbrev pub owner_for : Process → (seen : Option FileStatus) → (folder : Owner) → (passes_group : Bool) → Owner
