@@ -1,11 +1,12 @@
 -- Open folders, and what entering a path reports.
 use Rattle.std.specs.Prelude.{◌≡◌, ◌≢◌, ◌⊎◌, ℕ, ◌-◌, ◌<◌, ◌++◌, List, [], ◌∷◌, length, Option, None, Some, IfSome}
-use Rattle.std.specs.Prelude.{Result, Ok, Err, slice_get, slice_index, string_bytes}
+use Rattle.std.specs.Prelude.{Result, Ok, Err, IfOk, slice_get, slice_index, string_bytes}
 use Rattle.std.specs.List.{All}
 use Rattle.std.specs.Option.{option_map, option_or, unwrap_or}
 use Rattle.reuse_system.specs.Names.{between_slashes}
 use Rattle.reuse_system.specs.FileStates.{FileState}
 use Rattle.reuse_system.specs.Folders.{Folders, folder_along, folder_at, IsBarredAlong, IsBarred}
+use Rattle.reuse_system.specs.SystemLaws.{IsOpenedBelow}
 use Rattle.reuse_system.specs.declared.fault.FolderFault.{FolderFault}
 use Rattle.reuse_system.specs.declared.handle.Below.{Below}
 use Rattle.reuse_system.specs.declared.handle.Below.TheVariants as below
@@ -76,6 +77,11 @@ IsOpenedFrom folders current name (Ok (below.Folder folder)) =
     folder_along folders current (name ∷ []) ≡ Some folder.identity
 IsOpenedFrom folders current name (Ok (below.Other found)) = Unit {0}
 IsOpenedFrom folders current name (Err fault) = Unit {0}
+
+-- what was opened has this name in the folder that was entered last, which is one
+abbrev pub IsOpenedInLast : Folders → FileState → Option Identity → List ℕ → Result Below FolderFault → Type 0
+IsOpenedInLast folders held current name result =
+    IfOk result (λ below. (at : Identity) × (current ≡ Some at) × IsOpenedBelow folders held at name (Ok below))
 
 -- the path of this name in the folder of this path
 abbrev pub path_below : List ℕ → List ℕ → List ℕ

@@ -47,7 +47,7 @@ pub struct OpenFolders {
 
 impl OpenFolders {
     ghost use Rattle.reuse_disk.specs.OpenFolders.{current_of, AreOpened, AreOpenedIf, HasNoSlash, IsEntered, IsOnWay};
-    ghost use Rattle.reuse_disk.specs.OpenFolders.{IsRootOpened, path_of};
+    ghost use Rattle.reuse_disk.specs.OpenFolders.{IsOpenedInLast, IsRootOpened, path_of};
     ghost use Rattle.reuse_disk.specs.ReadsOnly.{EntersOnly};
 
     /// The open folders of this process, from the root at this path on. Nothing is asked of the
@@ -201,6 +201,39 @@ impl OpenFolders {
         self.push(path, folder)
     }
 
+    /// Closes all folders below the root but the one that was entered last.
+    fn keep_last(&mut self)
+        ensures opened { (folders : Folders) → AreOpened folders self.old → AreOpened folders self.new }
+        ensures current { current_of self.new ≡ current_of self.old }
+        ensures path { path_of self.new ≡ path_of self.old }
+    {
+        while self.steps.len() > 1 {
+            self.steps.remove(0);
+        }
+    }
+
+    /// Opens what has this name in the folder that was entered last. If that fails, the folders
+    /// above that one are closed, and it is tried once more: no handle may have been left.
+    fn open_next<S: System>(
+        &mut self,
+        system: &mut S,
+        alloc: Global,
+        name: &str,
+    ) -> Result<Below, FolderFault>
+        ensures enters { EntersOnly S.System system.old system.new self.old self.new }
+        ensures no_sync { S.synced system.new ≡ S.synced system.old }
+        ensures current { current_of self.new ≡ current_of self.old }
+        ensures below { S.honest system.new
+            → IsOpenedInLast (S.folders system.new) (S.holds system.new) (current_of self.old) name.now result }
+    {
+        let below = system.open_below(alloc, self.current()?, name);
+        if below.is_ok() || self.steps.len() <= 1 {
+            return below;
+        }
+        self.keep_last();
+        system.open_below(alloc, self.current()?, name)
+    }
+
     /// Enters the folder at this path, which is empty for the root. If a part of the path is no
     /// folder, what a path below it is; the folder that was entered last is then the one that this
     /// part would lie in.
@@ -218,7 +251,7 @@ impl OpenFolders {
     {
         let mut rest = self.go_back(system, alloc, folder)?;
         while let Some((name, below)) = next_name(rest) {
-            match system.open_below(alloc, self.current()?, name)? {
+            match self.open_next(system, alloc, name)? {
                 Below::Folder(opened) => self.step_into(alloc, name, opened)?,
                 Below::Other(found) => return Ok(Some(found.into_place_below())),
             }
