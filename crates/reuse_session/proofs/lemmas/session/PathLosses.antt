@@ -18,7 +18,7 @@ use Rattle.reuse_tree.specs.Head.{direction_of}
 use Rattle.reuse_tree.specs.declared.journal.head.PendingDirection.{PendingDirection}
 use Rattle.reuse_journal.specs.CommittedState.{BetweenStates, IsCommittedState, IsPending, IsStep, IsTree}
 use Rattle.reuse_journal.specs.Journal.{Recorded, State}
-use Rattle.reuse_journal.specs.JournalFiles.{KeepsJournal, IsKeptIn}
+use Rattle.reuse_journal.specs.JournalFiles.{KeepsJournal, IsKeptIn, number_of}
 use Rattle.reuse_journal.specs.Losses.{Earlier, IsSafe}
 use Rattle.reuse_journal.specs.Opening.{NoFileAbove}
 use Rattle.reuse_journal.specs.Recovery.{HasPending}
@@ -73,8 +73,8 @@ module _ {S : Type 0} (store : Ghosts S) (new : S) where
   pub within : (state : Snapshots) (next : Option Snapshots) (forgetting : Bool)
       → CrashStatesWithin store new state next forgetting
       → Leaves store new (λ left. IsTreeOf state next (tree_of left))
-  within state None forgetting (earlier, held, holds, stands, safe) =
-      within_one (record { state = earlier; forgetting = forgetting }) held safe state holds
+  within state None forgetting (earlier, held, holds, stands, safe) left may path =
+      within_one (record { state = earlier; forgetting = forgetting }) held safe state holds left may path
   within state (Some next) forgetting (earlier, first, second, holds, follows, inl (stands, safe)) left may path =
       inl (within_one (record { state = earlier; forgetting = forgetting }) first safe state holds left may path)
   within state (Some next) forgetting (earlier, first, second, holds, follows, inr (inl (stands, safe))) left may path =
@@ -116,6 +116,7 @@ pub pending_beside : (direction : PendingDirection) (step : Recorded) (files lef
     → HasPending direction step held.journal left
 pending_beside direction step files left held pending same good = record {
   above = none_above left good;
-  keeps = subst (λ folder. KeepsJournal folder held.journal _) (sym same) pending.journal;
+  keeps = subst (λ folder. KeepsJournal folder held.journal
+      (Some (record { entry = number_of step; direction = direction }))) (sym same) pending.journal;
   kept = subst (λ folder. IsKeptIn folder step) (sym same) pending.kept;
 }
