@@ -29,9 +29,9 @@ pub fn lines_run_as_the_model<S: Store, O: Sink>()
 /// A folder was left by a run with stops, and its record supposes that each file of the tree was
 /// durable at the start. Whatever else might really have been left then, what a loss of power leaves
 /// now has at each path the file of the run's state; or that of the next state, if a call was
-/// interrupted. Only a file that the run has not changed may be what might have been left at the
-/// start.
-pub fn folders_lose_no_file_that_a_run_has_changed<S: DiskSystem + Drop>(folder: &DiskStore<S>)
+/// interrupted. Only where one of these is the file of the start, it may be what might have been
+/// left there at the start. So a file that a call has changed is safe once the call has succeeded.
+pub fn losses_spare_files_that_calls_have_changed<S: DiskSystem + Drop>(folder: &DiskStore<S>)
     ensures { (state : Snapshots) (next : Option Snapshots) (forgetting : Bool) (initial : List Files) (left : Files)
         → CrashStatesWithin ⟦<DiskStore<S> as Store>⟧ folder.now state next forgetting
         → SupposesDurableTree folder.now.calls.start initial folder.now.calls.initial_crash_states

@@ -1,5 +1,5 @@
 use Rattle.reuse_undo.proofs.lemmas.run.PathsFoundLemmas.{found_by_paths}
-use Rattle.reuse_undo.proofs.laws.folders_lose_no_file_that_a_run_has_changed.Goals as goal
+use Rattle.reuse_undo.proofs.laws.losses_spare_files_that_calls_have_changed.Goals as goal
 
 pub returns : goal.returns
 returns g c =
