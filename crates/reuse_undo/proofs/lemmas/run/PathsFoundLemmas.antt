@@ -35,9 +35,11 @@ module _ (MayBe : Files → Type 0) (state : Snapshots) (next : Option Snapshots
       (λ (same : get left path ≡ get other path). inl (subst (IsFileOf state next path)
       (outside other path beside ∙ sym same ∙ sym (outside left path beside)) (trees other may path)))
       (λ was. let first = unsynced path beside was.1 in
-      inr (outside left path beside ∙ was.0 ∙ sym (outside kept path beside),
-      subst (IsFileOf state next path) (outside first.0 path beside ∙ first.2 ∙ sym (outside start path beside))
-      (trees first.0 first.1 path)))
+      inr (
+        outside left path beside ∙ was.0 ∙ sym (outside kept path beside),
+        subst (IsFileOf state next path) (outside first.0 path beside ∙ first.2 ∙ sym (outside start path beside))
+            (trees first.0 first.1 path),
+      ))
       (is.each path)
 
   pub found_by_paths : (kept other left : Files) → MayBe other → IsOtherOrKept calls kept other left
