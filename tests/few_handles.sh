@@ -55,7 +55,7 @@ is_as_it_was() {
 }
 
 step=(annotate -c Jane -y 2024 -l MIT -r .)
-limits=(64 32)
+limits=(64)
 for kind in deep wide both; do
   rm -rf "$room/before"
   mkdir "$room/before"
