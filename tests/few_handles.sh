@@ -1,8 +1,8 @@
 #!/usr/bin/env bash
-# Calls of a process that may have few files open: 64, and fewer. One tree has 100 folders, each in
-# the one before it; one has 2,000 side by side; one has a deep path beside wide ones. annotate,
-# undo, redo, amend, undo and revert succeed on each, and afterwards its files are what the same
-# call without that limit makes of a copy. Then the program is setuid, where root runs this: what
+# Calls of a process that may have 64 files open. One tree has 100 folders, each in the one before
+# it; one has 2,000 side by side. annotate, undo, redo, amend, undo and revert succeed on each, and
+# afterwards its files are what the same call without that limit makes of a copy. On a tree that has
+# both, a call may be interrupted, and the next one takes back what was begun. Then the program is setuid, where root runs this: what
 # it changes belongs to whom it belonged, and a file that its owner may not write stays. Prints
 # what was called; ends with status 1 at the first fault.
 # usage: tests/few_handles.sh PROGRAM
@@ -21,7 +21,7 @@ deep() {
     echo "x = $k" > "$path/f.py"
   done
 }
-# Folders side by side, with a file in each
+# So many folders side by side, with a file in each
 wide() {
   local k
   for ((k = 1; k <= $2; k++)); do
@@ -31,11 +31,6 @@ wide() {
 }
 make_deep() { deep "$1"; }
 make_wide() { wide "$1" 2000; }
-make_both() {
-  wide "$1" 100
-  deep "$1"
-  wide "$1/z" 100
-}
 
 # Makes a call on the tree where few files may be open, and on the copy where many may.
 both() {
@@ -56,7 +51,7 @@ is_as_it_was() {
 
 step=(annotate -c Jane -y 2024 -l MIT -r .)
 limits=(64)
-for kind in deep wide both; do
+for kind in deep wide; do
   rm -rf "$room/before"
   mkdir "$room/before"
   "make_$kind" "$room/before"
@@ -74,6 +69,23 @@ for kind in deep wide both; do
     is_as_it_was revert
   done
 done
+
+# Both beside each other: a call that is interrupted loses nothing.
+tree=$room/mixed
+mkdir "$tree"
+wide "$tree" 100
+deep "$tree"
+wide "$tree/z" 100
+rm -rf "$room/before"
+cp -a "$tree" "$room/before"
+kind=both limit=64
+(ulimit -n 64 && exec "$program" --root "$tree" --no-sync "${step[@]}") > "$room/out" 2>&1 ||
+  is "$(tail -n 1 "$room/out")" 'reuse-undo: interrupted' 'both, 64 open files'
+"$program" --root "$tree" log > "$room/out" 2>&1 || fail "both: log: $(< "$room/out")"
+"$program" --root "$tree" undo > "$room/out" 2>&1 ||
+  is "$(tail -n 1 "$room/out")" 'reuse-undo: nothing to undo' 'both, undo'
+is_as_it_was 'a call on both'
+calls=$((calls + 1))
 
 # The program belongs to another user, and runs as he whoever calls it.
 setuid() {
