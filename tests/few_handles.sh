@@ -2,9 +2,9 @@
 # Calls of a process that may have 64 files open. One tree has 100 folders, each in the one before
 # it; one has 2,000 side by side. annotate, undo, redo, amend, undo and revert succeed on each, and
 # afterwards its files are what the same call without that limit makes of a copy. On a tree that has
-# both, a call may be interrupted, and the next one takes back what was begun. Then the program is setuid, where root runs this: what
-# it changes belongs to whom it belonged, and a file that its owner may not write stays. Prints
-# what was called; ends with status 1 at the first fault.
+# both, a call may be interrupted, and the next one takes back what was begun. Then the program is
+# setuid, where root runs this: what it changes belongs to whom it belonged, and a file that its
+# owner may not write stays. Prints what was called; ends with status 1 at the first fault.
 # usage: tests/few_handles.sh PROGRAM
 # The tags below are data: REUSE-IgnoreStart
 set -euo pipefail

@@ -71,7 +71,8 @@ is_least() {
 }
 
 for words in 'annotate -y 2024 -c Roe' 'amend --remove-license MIT' \
-  'annotate -l ISC --merge-copyrights' 'amend --replace-holder Jane?Doe A' 'annotate -c Joe -y 2022 --no-replace' 'amend --until 2031' \
+  'annotate -l ISC --merge-copyrights' \
+  'amend --replace-holder Jane?Doe A' 'annotate -c Joe -y 2022 --no-replace' 'amend --until 2031' \
   'amend --remove-header'; do
   read -ra call <<< "$words"
   call=("${call[@]//\?/ }")
