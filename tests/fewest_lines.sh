@@ -82,7 +82,7 @@ for words in 'annotate -y 2024 -c Roe' 'amend --remove-license MIT' \
   cp -a "$tree" "$before"
   "$program" --root "$tree" "${call[@]}" -r . > "$room/out" 2> "$room/error" ||
     fail "$words: $(< "$room/error")"
-  rm -r "$tree/.reuse"
+  rm -rf "$tree/.reuse"
   is_least "$words"
 done
 echo "$compared diffs with $lines changed lines have as few as git's smallest"
