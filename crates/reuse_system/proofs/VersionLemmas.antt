@@ -1,5 +1,5 @@
 -- Versions of files whose parts are the same are the same.
-use Rattle.std.proofs.Common.{◌≡◌, Bool, true, false, ◌&&◌, ◌==◌, refl, ap₂, true≢false, sym}
+use Rattle.std.proofs.Common.{◌≡◌, Bool, true, false, ◌&&◌, ◌==◌, refl, ap, ap₂, true≢false, sym, ◌∙◌, eq-eqb}
 use Rattle.std.proofs.lemmas.Bool.{eqb-true}
 use Rattle.std.proofs.lemmas.Bool.Decides.{Decides-int_eq}
 use Rattle.std.specs.Ordering.{int_eq}
@@ -42,3 +42,27 @@ same_version a b e =
     (ap₂ (λ (s : Stamp) (t : Stamp).
     let one : FileVersion = record { identity = a.identity; len = a.len; written = s; changed = t } in one)
     (same_stamp a.written b.written three.0) (same_stamp a.changed b.changed three.1)))
+
+abbrev is_same_stamp : Stamp → Stamp → Bool
+is_same_stamp a b = int_eq a.seconds b.seconds && int_eq a.nanos b.nanos
+
+abbrev is_same : FileVersion → FileVersion → Bool
+is_same a b =
+    ((a.identity.device == b.identity.device) && (a.identity.number == b.identity.number))
+    && ((a.len == b.len) && (is_same_stamp a.written b.written && is_same_stamp a.changed b.changed))
+
+both_true : (a b : Bool) → a ≡ true → b ≡ true → (a && b) ≡ true
+both_true a b e f = ap₂ (λ x y. x && y) e f
+
+own_stamp : (a : Stamp) → is_same_stamp a a ≡ true
+own_stamp a =
+    both_true _ _ ((Decides-int_eq a.seconds a.seconds).1 refl) ((Decides-int_eq a.nanos a.nanos).1 refl)
+
+own_version : (a : FileVersion) → is_same a a ≡ true
+own_version a =
+    both_true _ _
+    (both_true _ _ (eq-eqb a.identity.device a.identity.device refl) (eq-eqb a.identity.number a.identity.number refl))
+    (both_true _ _ (eq-eqb a.len a.len refl) (both_true _ _ (own_stamp a.written) (own_stamp a.changed)))
+
+pub same_if_version : (a b : FileVersion) → a ≡ b → is_same a b ≡ true
+same_if_version a b e = ap (λ other. is_same a other) (sym e) ∙ own_version a

@@ -37,6 +37,10 @@ folder_along folders (Some at) (name ∷ names) = folder_along folders (folder_i
 abbrev pub folder_at : Folders → List ℕ → Option Identity
 folder_at folders path = folder_along folders (Some folders.root) (between_slashes path)
 
+-- where a folder is at this path, it stays there
+abbrev pub StaysAt : List ℕ → Folders → Folders → Type 0
+StaysAt path old new = (folder : Identity) → folder_at old path ≡ Some folder → folder_at new path ≡ Some folder
+
 -- the regular file of this name in a folder
 abbrev pub file_in : FileState → Option Identity → List ℕ → Option StateFile
 file_in held None name = None
@@ -53,6 +57,10 @@ file_along folders held (Some at) (name ∷ next ∷ names) =
 -- the regular file at this path below the root
 abbrev pub file_at : Folders → FileState → List ℕ → Option StateFile
 file_at folders held path = file_along folders held (Some folders.root) (between_slashes path)
+
+-- each path leads to the same file in both
+abbrev pub HaveSameFiles : Folders → Folders → FileState → Type 0
+HaveSameFiles old new held = (path : List ℕ) → file_at new held path ≡ file_at old held path
 
 -- all names but the last one
 abbrev pub without_last : List (List ℕ) → List (List ℕ)

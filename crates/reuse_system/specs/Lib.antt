@@ -3,12 +3,15 @@ pub mod FileStates
 pub mod FolderFault
 pub mod FolderPlaces
 pub mod Folders
+pub mod Handles
 pub mod Ignored
 pub mod NameChanges
+pub mod NameTree
 pub mod Names
 pub mod NewFiles
 pub mod Owners
 pub mod Readings
+pub mod Stamps
 pub mod SystemCall
 pub mod SystemCalls
 pub mod SystemLaws

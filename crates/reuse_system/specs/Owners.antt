@@ -7,6 +7,10 @@ use Rattle.reuse_system.specs.declared.owner.Rights.{Rights}
 
 -- ---- who may do what
 
+-- the bits of a file's mode that a rewritten file keeps: who may read, write and run it
+abbrev pub kept_bits : ℕ → ℕ
+kept_bits mode = bit_and mode 0o777
+
 -- each three bits of a mode: for the owner, for the group, and for all others
 abbrev pub rights_of_mode : ℕ → Rights
 rights_of_mode mode = record { owner = mode / 64 % 8; group = mode / 8 % 8; others = mode % 8 }

@@ -7,6 +7,7 @@ use Rattle.std.specs.Str.{bytes_eq}
 use Rattle.reuse_system.specs.FileStates.{FileKey, StateFile, Place, FileState, file, place_in}
 use Rattle.reuse_system.specs.FileStates.FileKey.{Found, Made}
 use Rattle.reuse_system.specs.Folders.{Folders, folder_in}
+use Rattle.reuse_system.specs.NameTree.{IsNameTree}
 use Rattle.reuse_system.specs.NameChanges.{Look, NameChange, change_at, change_of_free, change_to}
 use Rattle.reuse_system.specs.SystemCall.{SystemCall, made_of}
 use Rattle.reuse_system.specs.SystemCall.SystemCall.{MakeCall, AppendCall, SyncCall, RenameCall, LinkCall, RemoveCall}
@@ -223,12 +224,19 @@ abbrev pub synced_of : List SystemCall → List Identity
 synced_of [] = []
 synced_of (call ∷ calls) = synced_by call ++ synced_of calls
 
--- each of these calls was answered so
+-- each of these calls was answered so, and the names formed a tree before and behind each
 abbrev pub IsHonest : FolderStart → List (Place × (ℕ × (List ℕ × Bool))) → List ℕ → List SystemCall → Type 0
-IsHonest start files effects [] = Unit {0}
+IsHonest start files effects [] = IsNameTree (folders_of start) (held_at_start files)
 IsHonest start files effects (call ∷ calls) =
     MayAnswer (folders_after start effects calls) (held_after files effects calls) call
+    × IsNameTree (folders_after start effects (call ∷ calls)) (held_after files effects (call ∷ calls))
     × IsHonest start files effects calls
+
+pub names_form_a_tree : (start : FolderStart) (files : List (Place × (ℕ × (List ℕ × Bool)))) (effects : List ℕ)
+    (calls : List SystemCall) → IsHonest start files effects calls
+    → IsNameTree (folders_after start effects calls) (held_after files effects calls)
+names_form_a_tree start files effects [] honest = honest
+names_form_a_tree start files effects (call ∷ calls) honest = honest.1
 
 -- a call by its kind and the names or the bytes that this kind has
 abbrev pub call_of : CallKind → List ℕ → List ℕ → SystemCall

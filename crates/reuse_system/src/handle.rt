@@ -3,16 +3,22 @@
 //! through its handle, so a folder that is moved or replaced meanwhile is worked where it is, and
 //! no link is followed that has taken its place. Races with other programs are tested by
 //! tests/races.sh.
-ghost use Rattle.std.specs.Prelude.{◌≡◌, ◌++◌, IfOk, Ok, length, nat_lt, string_bytes, true};
+ghost use Rattle.std.specs.Prelude.{◌≡◌, ◌≢◌, ◌++◌, ◌∷◌, [], Err, IfErr, IfOk, IfSome, IsTrue};
+ghost use Rattle.std.specs.Prelude.{MatchResult, Ok, OnErr, bit_and, false, length, nat_lt, string_bytes, true};
+ghost use Rattle.std.specs.Fd.{file_raw_fd};
+ghost use Rattle.std.specs.Fs.{metadata_mode};
+ghost use Rattle.reuse_system.specs.Handles.{handle_path, IsOpenedWell, IsThroughHandle};
+
+mod errors;
 
 use crate::bare::is_bare_repository;
 use crate::fault::{FolderFault, IoReason};
 use crate::owner::Owner;
 use crate::place::{FileStatus, Found, Identity, is_long_name, look_at};
 use crate::process::ProcessIds;
+use errors::{is_of_change, is_of_writing, is_without_sync, seen_file};
 use std::alloc::{AllocError, Global};
 use std::fs::{self, File, Metadata, OpenOptions};
-use std::io::{self, ErrorKind};
 use std::os::fd::AsRawFd;
 use std::os::unix::fs::{MetadataExt, fchown};
 use std::rt::Files;
@@ -77,7 +83,10 @@ impl OpenFolder {
         root: &str,
         process: ProcessIds,
         start: Start,
-    ) -> Result<OpenFolder, FolderFault> {
+    ) -> Result<OpenFolder, FolderFault>
+        ensures through { IfOk result IsThroughHandle }
+        ensures empty { root.now ≡ [] → result ≡ Err (FolderFault.Device IoReason.NoRoot) }
+    {
         let path = root_path(alloc, root)?;
         let identity = root_identity(rt, path.as_str())?;
         let handle = open_folder(rt, path.as_str())?;
@@ -100,7 +109,10 @@ impl OpenFolder {
         handle: File,
         path: String,
         environment: Environment,
-    ) -> Result<OpenFolder, FolderFault> {
+    ) -> Result<OpenFolder, FolderFault>
+        ensures through { IfOk result IsThroughHandle }
+        ensures environment { IfOk result (λ folder. folder.environment ≡ environment) }
+    {
         let metadata = handle.metadata()?;
         let prefix = if environment.is_shown {
             handle_path(alloc, &handle, environment)?
@@ -121,7 +133,12 @@ impl OpenFolder {
     /// From now on paths through the folder, and through those below it, start there. If
     /// handles aren't shown they stay.
     pub fn set_path_start(&mut self, alloc: Global, start: Start) -> Result<(), AllocError>
-        ensures { self.new.identity ≡ self.old.identity }
+        ensures identity { self.new.identity ≡ self.old.identity }
+        ensures through { IsThroughHandle self.old → IsThroughHandle self.new }
+        ensures start { IsTrue self.old.environment.is_shown
+            → IfOk result (λ _. self.new.environment ≡ record self.old.environment { start = start }) }
+        ensures stays { self.old.environment.is_shown ≡ false → self.new ≡ self.old }
+        ensures err { OnErr result (self.new ≡ self.old) }
     {
         if self.environment.is_shown {
             let environment = Environment {
@@ -135,7 +152,10 @@ impl OpenFolder {
     }
 
     /// This folder, if it is the one that was looked at.
-    fn seen_as(self, seen: Identity) -> Result<OpenFolder, FolderFault> {
+    fn seen_as(self, seen: Identity) -> Result<OpenFolder, FolderFault>
+        ensures { MatchResult result (λ folder. (folder ≡ self) × (self.identity ≡ seen))
+            (λ fault. (fault ≡ FolderFault.Device IoReason.Changing) × (self.identity ≢ seen)) }
+    {
         if self.identity == seen {
             Ok(self)
         } else {
@@ -155,7 +175,9 @@ impl OpenFolder {
     }
 
     /// The folder's own path, as the system takes it.
-    pub fn path(&self) -> &str {
+    pub fn path(&self) -> &str
+        ensures { result.now ≡ string_bytes self.now.prefix }
+    {
         self.prefix.as_str()
     }
 
@@ -185,7 +207,9 @@ impl OpenFolder {
     }
 
     /// Whether calls go through the handle, and not by the folder's path.
-    pub fn is_shown(&self) -> bool {
+    pub fn is_shown(&self) -> bool
+        ensures { result ≡ self.now.environment.is_shown }
+    {
         self.environment.is_shown
     }
 
@@ -230,7 +254,10 @@ impl OpenFolder {
         rt: &impl Files<File = File>,
         alloc: Global,
         name: &str,
-    ) -> Result<Below, FolderFault> {
+    ) -> Result<Below, FolderFault>
+        ensures long { nat_lt 255 (length name.now) ≡ true → result ≡ Ok (Below.Other Found.Nothing) }
+        ensures opened { IfOk result IsOpenedWell }
+    {
         let identity = match self.look(rt, alloc, name)? {
             Found::Folder(identity) => identity,
             found => return Ok(Below::Other(found)),
@@ -277,7 +304,10 @@ impl OpenFolder {
     }
 
     /// A second handle of this folder.
-    pub fn try_clone(&self, alloc: Global) -> Result<OpenFolder, FolderFault> {
+    pub fn try_clone(&self, alloc: Global) -> Result<OpenFolder, FolderFault>
+        ensures through { IfOk result IsThroughHandle }
+        ensures environment { IfOk result (λ folder. folder.environment ≡ self.now.environment) }
+    {
         let handle = self.handle.try_clone()?;
         let path = String::from_str(alloc, self.prefix.as_str())?;
         OpenFolder::of(alloc, handle, path, self.environment)
@@ -296,7 +326,11 @@ impl OpenFolder {
 }
 
 /// The path of the root with a slash at its end, which leads to a folder or nowhere.
-fn root_path(alloc: Global, root: &str) -> Result<String, FolderFault> {
+fn root_path(alloc: Global, root: &str) -> Result<String, FolderFault>
+    ensures path { IfOk result (λ path. string_bytes path ≡ root.now ++ 47 ∷ []) }
+    ensures empty { root.now ≡ [] → result ≡ Err (FolderFault.Device IoReason.NoRoot) }
+    ensures memory { root.now ≢ [] → IfErr result (λ fault. fault ≡ FolderFault.Memory) }
+{
     if root.is_empty() {
         return Err(FolderFault::Device(IoReason::NoRoot));
     }
@@ -321,42 +355,10 @@ fn open_folder(rt: &impl Files<File = File>, path: &str) -> Result<File, FolderF
     }
 }
 
-/// Whether this reports that what was seen isn't there any more.
-fn is_of_change(error: &io::Error) -> bool {
-    matches!(
-        error.kind(),
-        ErrorKind::NotFound
-            | ErrorKind::NotADirectory
-            | ErrorKind::IsADirectory
-            | ErrorKind::FilesystemLoop
-    )
-}
-
-/// Whether this reports that a file can't be opened for writing.
-fn is_of_writing(error: &io::Error) -> bool {
-    matches!(
-        error.kind(),
-        ErrorKind::PermissionDenied | ErrorKind::ReadOnlyFilesystem | ErrorKind::ExecutableFileBusy
-    )
-}
-
-/// The file that was opened, if it is the regular file that was seen.
-fn seen_file(opened: io::Result<File>, seen: FileStatus) -> Result<Option<File>, FolderFault> {
-    match opened {
-        Ok(file) => {
-            if seen.is_of(&file.metadata()?) {
-                Ok(Some(file))
-            } else {
-                Ok(None)
-            }
-        }
-        Err(error) if is_of_change(&error) => Ok(None),
-        Err(error) => Err(error.into()),
-    }
-}
-
 /// Whether others than this user, and root, may put something else at a name in this folder.
-fn is_shared(folder: &Metadata, user: u32) -> bool {
+fn is_shared(folder: &Metadata, user: u32) -> bool
+    ensures { bit_and (metadata_mode folder.now) 0o022 ≢ 0 → IsTrue result }
+{
     let owner = folder.uid();
     let is_of_other = owner != 0 && owner != user;
     is_of_other || folder.mode() & WRITTEN_BY_OTHERS != 0
@@ -364,23 +366,14 @@ fn is_shared(folder: &Metadata, user: u32) -> bool {
 
 /// The path at which the system shows an open folder of this process. By the number of the process
 /// the system comes there sooner than by `self`, which is a link.
-fn handle_path(
-    alloc: Global,
-    handle: &File,
-    environment: Environment,
-) -> Result<String, AllocError> {
+fn handle_path(alloc: Global, handle: &File, environment: Environment) -> Result<String, AllocError>
+    ensures { IfOk result (λ path. string_bytes path
+        ≡ handle_path environment.start environment.process.number (file_raw_fd handle.now)) }
+{
     let handle = handle.as_raw_fd();
     match (environment.start, environment.process.number) {
         (Start::Handles, _) => format!(in alloc; "{handle}/"),
         (Start::Root, Some(number)) => format!(in alloc; "/proc/{number}/fd/{handle}/"),
         (Start::Root, None) => format!(in alloc; "/proc/self/fd/{handle}/"),
     }
-}
-
-/// Whether folders can't be synced there at all, as on some file systems.
-fn is_without_sync(error: &io::Error) -> bool {
-    matches!(
-        error.kind(),
-        ErrorKind::InvalidInput | ErrorKind::Unsupported
-    )
 }

@@ -1,5 +1,5 @@
 //! Names of new files: in the journal's folder, or beside the files that they are to be.
-ghost use Rattle.std.specs.Prelude.{◌≡◌, IfOk, IsTrue, string_bytes, true};
+ghost use Rattle.std.specs.Prelude.{◌≡◌, IfOk, IsTrue, MatchOption, false, string_bytes, true};
 ghost use Rattle.reuse_system.specs.TempFiles.{beside_name, new_name};
 ghost use Rattle.reuse_system.specs.Ignored.{is_new_name};
 
@@ -21,7 +21,10 @@ pub struct NewName {
 
 impl NewName {
     /// This name, if it is one of a new file.
-    fn of(alloc: Global, name: &str) -> Result<Option<NewName>, AllocError> {
+    fn of(alloc: Global, name: &str) -> Result<Option<NewName>, AllocError>
+        ensures { IfOk result (λ new. MatchOption new (is_new_name name.now ≡ false)
+            (λ new. string_bytes new.name ≡ name.now)) }
+    {
         if !is_new_name(name) {
             return Ok(None);
         }

@@ -27,6 +27,7 @@ pub fn write_parts<S: System>(
     ensures still { S.folders system.new ≡ S.folders system.old }
     ensures earlier { S.honest system.new → S.honest system.old }
     ensures changes { S.changes system.new ≡ S.changes system.old }
+    ensures no_sync { S.synced system.new ≡ S.synced system.old }
 {
     let Pieces {
         front,

@@ -1,7 +1,10 @@
 //! What stands at a path below a root. No link is followed.
-ghost use Rattle.std.specs.Prelude.{◌≡◌, ℕ, List, IsTrue, length, nat_lt};
+ghost use Rattle.std.specs.Prelude.{◌≡◌, ◌↔◌, ℕ, List, IsTrue, length, nat_lt};
+ghost use Rattle.std.specs.Duration.{as_nanos};
+ghost use Rattle.std.specs.Fs.{IsFile, file_type, metadata_len, metadata_mode};
 ghost use Rattle.reuse_system.specs.TempFiles.{is_elsewhere};
-ghost use Rattle.reuse_system.specs.Owners.{rights_of_mode};
+ghost use Rattle.reuse_system.specs.Owners.{kept_bits, rights_of_mode};
+ghost use Rattle.reuse_system.specs.Stamps.{is_settled, is_settled_stamp};
 ghost use Rattle.reuse_system.specs.Names.{IsNameOf, IsSplit};
 
 use crate::fault::FolderFault;
@@ -74,22 +77,25 @@ struct Stamp {
     nanos: i64,
 }
 
-/// How many milliseconds the system's stamps may lie behind its clock: it takes them at its ticks.
-const TICKS: u64 = 50;
+/// How many nanoseconds the system's stamps may lie behind its clock: it takes them at its ticks.
+const TICKS: u128 = 50_000_000;
 
 /// The same of a file system whose stamps are of whole seconds, or of two.
-const WHOLE_SECONDS: u64 = 3_000;
+const WHOLE_SECONDS: u128 = 3_000_000_000;
+
+const NANOS_OF_SECOND: u128 = 1_000_000_000;
 
 impl Stamp {
     /// Whether what is done at this time since 1970 or later has another stamp.
-    fn is_settled_at(&self, since: Duration) -> bool {
+    fn is_settled_at(&self, since: Duration) -> bool
+        ensures { result ≡ is_settled_stamp self.now (as_nanos since) }
+    {
         let (Ok(seconds), Ok(nanos)) = (u64::try_from(self.seconds), u64::try_from(self.nanos))
         else {
             return false;
         };
         let behind = if nanos == 0 { WHOLE_SECONDS } else { TICKS };
-        let stamp = Duration::from_secs(seconds).saturating_add(Duration::from_nanos(nanos));
-        stamp.saturating_add(Duration::from_millis(behind)) < since
+        seconds as u128 * NANOS_OF_SECOND + nanos as u128 + behind < since.as_nanos()
     }
 }
 
@@ -104,7 +110,9 @@ pub struct FileVersion {
 }
 
 impl FileVersion {
-    fn of(metadata: &Metadata) -> FileVersion {
+    fn of(metadata: &Metadata) -> FileVersion
+        ensures { result.len ≡ metadata_len metadata.now }
+    {
         FileVersion {
             identity: Identity::of(metadata),
             len: metadata.len(),
@@ -120,7 +128,9 @@ impl FileVersion {
     }
 
     /// Whether a file that is changed at this time since 1970 or later has another version.
-    pub fn is_settled_at(&self, since: Duration) -> bool {
+    pub fn is_settled_at(&self, since: Duration) -> bool
+        ensures { result ≡ is_settled self.now (as_nanos since) }
+    {
         self.written.is_settled_at(since) && self.changed.is_settled_at(since)
     }
 }
@@ -141,7 +151,11 @@ pub struct FileStatus {
 
 impl FileStatus {
     /// What the system reports here.
-    pub fn of(metadata: &Metadata) -> FileStatus {
+    pub fn of(metadata: &Metadata) -> FileStatus
+        ensures len { result.len ≡ metadata_len metadata.now }
+        ensures mode { result.mode ≡ kept_bits (metadata_mode metadata.now) }
+        ensures version { result.version.len ≡ result.len }
+    {
         FileStatus {
             len: metadata.len(),
             mode: kept_bits(metadata),
@@ -159,13 +173,15 @@ impl FileStatus {
     }
 
     /// Whether the system reports this of the same regular file.
-    pub fn is_of(&self, metadata: &Metadata) -> bool {
+    pub fn is_of(&self, metadata: &Metadata) -> bool
+        ensures { IsTrue result → IsFile (file_type metadata.now) }
+    {
         metadata.is_file() && Identity::of(metadata) == self.version.identity
     }
 
     /// Whether the system reports this of the same file with the same bytes.
     pub fn is_same(&self, other: &FileStatus) -> bool
-        ensures { IsTrue result → self.now.version ≡ other.now.version }
+        ensures { IsTrue result ↔ (self.now.version ≡ other.now.version) }
     {
         self.version == other.version
     }
@@ -179,7 +195,9 @@ impl FileStatus {
 }
 
 /// The bits of a file's mode that a rewritten file keeps.
-pub fn kept_bits(metadata: &Metadata) -> u32 {
+pub fn kept_bits(metadata: &Metadata) -> u32
+    ensures { result ≡ kept_bits (metadata_mode metadata.now) }
+{
     metadata.permissions().mode() & KEPT_BITS
 }
 

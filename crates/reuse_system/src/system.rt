@@ -5,6 +5,7 @@ ghost use Rattle.std.specs.Prelude.{◌≡◌, ◌∷◌, List, Option, Some, is
 ghost use Rattle.reuse_system.specs.FileStates.{FileState};
 ghost use Rattle.reuse_system.specs.Folders.{Folders};
 ghost use Rattle.reuse_system.specs.NameChanges.{Look, NameChange};
+ghost use Rattle.reuse_system.specs.NameTree.{IsNameTree};
 ghost use Rattle.reuse_system.specs.declared.place.Identity.{Identity};
 
 mod grants;
@@ -78,8 +79,8 @@ pub trait System {
     /// The folders that were synced so far, the newest first.
     ghost synced: { Self → List Identity };
 
-    /// So far nobody else has written in the folders, and what was reported of a file is what it
-    /// is. A call can lose this, and never gain it.
+    /// So far nobody else has written in the folders, what was reported of a file is what it is,
+    /// and the names below the root formed a tree. A call can lose this, and never gain it.
     ghost honest: { Self → Type 0 };
 
     /// Makes an empty file of this name, and of this mode where one is given. It fails where
@@ -257,4 +258,8 @@ pub trait System {
         ensures read { honest self.new → IsReadOf said limit (holds self.new (opened_at opened)) result }
         ensures changes { changes self.new ≡ changes self.old }
         ensures no_sync { synced self.new ≡ synced self.old };
+
+    /// No folder has two names, as by a mount of it at a second place, and one that is made or
+    /// removed is empty.
+    ghost is_tree: { (system : Self) → honest system → IsNameTree (folders system) (holds system) };
 }

@@ -2,9 +2,9 @@
 //! file's own value, and the contracts speak of that: that each method makes the call that it notes
 //! has to be read here. All files that a run makes in one folder belong to one owner, and bits that
 //! were granted to one of them are granted to the next one that asks for them.
-ghost use Rattle.std.specs.Prelude.{◌≡◌, IfOk, Some};
+ghost use Rattle.std.specs.Prelude.{◌≡◌, ◌⊎◌, IfErr, IfOk, IfSome, IsOk, None, Ok, OnErr, Some, true};
 ghost use Rattle.reuse_system.specs.NewFiles.{IsSameFile};
-ghost use Rattle.reuse_system.specs.declared.system.new_status.NewMode.TheVariants.{Known};
+ghost use Rattle.reuse_system.specs.declared.system.new_status.NewMode.TheVariants.{Asked, Known};
 
 use crate::owner::Owner;
 use crate::place::kept_bits;
@@ -25,7 +25,10 @@ pub struct Grants {
 
 impl Grants {
     /// Of a folder in which nothing was made yet.
-    pub fn none() -> Grants {
+    pub fn none() -> Grants
+        ensures mode { result.mode ≡ None }
+        ensures owner { result.owner ≡ None }
+    {
         Grants {
             mode: None,
             owner: None,
@@ -37,6 +40,9 @@ impl Grants {
         ensures same { IsSameFile temp_file.old temp_file.new }
         ensures mode { temp_file.new.status.mode ≡ temp_file.old.status.mode }
         ensures owner { IfOk result (λ owner. temp_file.new.status.owner ≡ Some owner) }
+        ensures noted { IfOk result (λ owner. self.new ≡ record self.old { owner = Some owner }) }
+        ensures known { IfSome self.old.owner (λ owner. result ≡ Ok owner) }
+        ensures err { OnErr result ((self.new ≡ self.old) × (temp_file.new ≡ temp_file.old)) }
     {
         let owner = match self.owner {
             Some(owner) => owner,
@@ -53,6 +59,8 @@ impl Grants {
         ensures same { IsSameFile temp_file.old temp_file.new }
         ensures owner { temp_file.new.status.owner ≡ temp_file.old.status.owner }
         ensures mode { IfOk result (λ _. temp_file.new.status.mode ≡ Known mode) }
+        ensures granted { self.new.owner ≡ self.old.owner }
+        ensures err { OnErr result (temp_file.new ≡ temp_file.old) }
     {
         if !self.has_mode(temp_file, mode)? {
             temp_file
@@ -65,7 +73,11 @@ impl Grants {
 
     /// Whether a file that was made in the folder has these bits. One that asked for them has them if
     /// another one got them so.
-    fn has_mode(&mut self, temp_file: &TempFile, mode: u32) -> io::Result<bool> {
+    fn has_mode(&mut self, temp_file: &TempFile, mode: u32) -> io::Result<bool>
+        ensures known { temp_file.now.status.mode ≡ Asked mode → self.old.mode ≡ Some mode → result ≡ Ok true }
+        ensures noted { (self.new ≡ self.old) ⊎ ((temp_file.now.status.mode ≡ Asked mode)
+            × (result ≡ Ok true) × (self.new ≡ record self.old { mode = Some mode })) }
+    {
         let asked = matches!(temp_file.status.mode, NewMode::Asked(bits) if bits == mode);
         if asked && self.mode == Some(mode) {
             return Ok(true);
@@ -84,6 +96,8 @@ impl TempFile {
         ensures same { IsSameFile self.old self.new }
         ensures mode { self.new.status.mode ≡ self.old.status.mode }
         ensures owner { IfOk result (λ _. self.new.status.owner ≡ Some owner) }
+        ensures known { self.old.status.owner ≡ Some owner → IsOk result }
+        ensures err { OnErr result (self.new ≡ self.old) }
     {
         let had = self.status.owner;
         if had == Some(owner) {

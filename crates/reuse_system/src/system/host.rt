@@ -113,7 +113,7 @@ fn remove_folder_in<R: Files<File = File> + AllocGlobal>(
 
 impl<R: Files<File = File> + AllocGlobal + Drop> System for HostSystem<R> {
     ghost use Rattle.reuse_system.specs.SystemCalls.{changes_of, folders_after, held_after, looked_of, synced_of};
-    ghost use Rattle.reuse_system.specs.SystemCalls.{IsHonest};
+    ghost use Rattle.reuse_system.specs.SystemCalls.{names_form_a_tree, IsHonest};
 
     ghost holds = { λ system. held_after system.noted.files system.noted.effects system.noted.calls };
 
@@ -274,4 +274,7 @@ impl<R: Files<File = File> + AllocGlobal + Drop> System for HostSystem<R> {
             .note_read(folder, name.as_str(), said, limit, &answer);
         answer
     }
+
+    ghost is_tree = { λ system.
+        names_form_a_tree system.noted.folders system.noted.files system.noted.effects system.noted.calls };
 }
