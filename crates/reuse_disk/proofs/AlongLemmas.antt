@@ -9,6 +9,13 @@ use Rattle.reuse_system.specs.Names.{IsNameOf, IsSplit}
 use Rattle.reuse_system.specs.declared.place.Identity.{Identity}
 use Rattle.reuse_disk.proofs.LastNames.{between-append, between-some, by_parts, no_slash}
 
+pub named_of : (path folder name : List ℕ) → IsSplit path folder name → IsNameOf path name
+named_of path folder name split = by_parts split.parts
+  where
+    by_parts : ((folder ≡ []) × (name ≡ path)) ⊎ (path ≡ folder ++ 47 ∷ name) → IsNameOf path name
+    by_parts (inl (none, is)) = record { behind = inl is; last = split.last }
+    by_parts (inr is) = record { behind = inr (folder, is); last = split.last }
+
 module _ (folders : Folders) (held : FileState) where
   along_none : (names : List (List ℕ)) → folder_along folders None names ≡ None
   along_none [] = refl

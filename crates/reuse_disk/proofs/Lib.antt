@@ -1,15 +1,19 @@
 pub mod AlongLemmas
 pub mod AtLemmas
+pub mod JournalStays
 pub mod LastNames
 pub mod Listed
 pub mod MadeFolders
 pub mod NextNames
+pub mod OneWay
 pub mod PlaceLemmas
 pub mod OpenFoldersLemmas
 pub mod WrittenLemmas
 mod DueLemmas
 pub mod EditLemmas
+pub mod FilledLemmas
 pub mod LeftLemmas
 pub mod NoteLemmas
 pub mod ReadsOnlyLemmas
+pub mod SameFiles
 pub mod SyncLemmas

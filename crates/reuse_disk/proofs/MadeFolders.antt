@@ -35,7 +35,7 @@ module _ (old new : Folders) (grown : IsGrown old new) where
       along_name names one (place_in at (byte ∷ name)) (old.below (place_in at (byte ∷ name))) refl
       (λ below. along_grown names below one) e
 
-  at_grown : (path : List ℕ) (one : Identity) → folder_at old path ≡ Some one → folder_at new path ≡ Some one
+  pub at_grown : (path : List ℕ) (one : Identity) → folder_at old path ≡ Some one → folder_at new path ≡ Some one
   at_grown path one e =
       subst (λ root. folder_along new (Some root) (between_slashes path) ≡ Some one) (sym grown.root)
       (along_grown (between_slashes path) old.root one e)

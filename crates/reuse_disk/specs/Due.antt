@@ -1,6 +1,8 @@
 -- What a file that is written is to be when it gets its name.
-use Rattle.std.specs.Prelude.{ℕ, Option, None, Some}
+use Rattle.std.specs.Prelude.{◌≡◌, ℕ, Option, None, Some}
 use Rattle.reuse_system.specs.NewFiles.{Due}
+use Rattle.reuse_system.specs.Owners.{kept_owner}
+use Rattle.reuse_system.specs.declared.owner.Owner.{Owner}
 use Rattle.reuse_system.specs.declared.place.FileStatus.{FileStatus}
 use Rattle.reuse_disk.specs.declared.new_file.Content.{Content}
 
@@ -15,3 +17,7 @@ due_of content = record {
   owner = content.wanted.owner;
   process = content.wanted.process.now;
 }
+
+-- the owner of a file that was written: the one that it is to have, as far as the process may give it
+abbrev pub IsOwnerFor : Due → Option Owner → Type 0
+IsOwnerFor due owner = (made : Owner) × (owner ≡ Some (kept_owner due.process due.owner made))

@@ -1,8 +1,11 @@
 pub mod Due
+pub mod KeptPaths
 pub mod LeftFiles
+pub mod Listings
 pub mod Named
 pub mod Noted
 pub mod OpenFolders
 pub mod ReadsOnly
+pub mod StartFolder
 pub mod Synced
 pub mod Written

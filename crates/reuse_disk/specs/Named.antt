@@ -1,5 +1,7 @@
 -- A new file that is to get the name of a target.
-use Rattle.std.specs.Prelude.{◌≡◌, ◌≢◌, Option, None, IfOk, MatchResult, Result}
+use Rattle.std.specs.Prelude.{◌≡◌, ◌≢◌, Bool, true, false, Option, None, IfOk, MatchResult, Result}
+use Rattle.std.specs.declared.io.ErrorKind.{ErrorKind}
+use Rattle.std.specs.declared.io.ErrorKind.TheVariants.{PermissionDenied, Unsupported, TooManyLinks}
 use Rattle.reuse_system.specs.FileStates.{Place}
 use Rattle.reuse_system.specs.NameChanges.{IsGuarded}
 use Rattle.reuse_system.specs.NewFiles.{Due, IsAsDue}
@@ -9,6 +11,13 @@ use Rattle.reuse_system.specs.declared.fault.FolderFault.{FolderFault}
 use Rattle.reuse_system.specs.declared.place.FileStatus.{FileStatus}
 use Rattle.reuse_system.specs.declared.system.System.{Ghosts}
 use Rattle.reuse_system.specs.declared.system.TempFile.{TempFile}
+
+-- the file system has no links, or this one may not be made
+abbrev pub is_without_links : ErrorKind → Bool
+is_without_links PermissionDenied = true
+is_without_links Unsupported = true
+is_without_links TooManyLinks = true
+is_without_links kind = false
 
 -- The file at this place has the target's name then, or may have it where that failed. If the name wasn't another one
 -- of this file, it has left its old one. No folder differs.

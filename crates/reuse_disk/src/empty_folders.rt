@@ -1,11 +1,14 @@
 //! Removing folders that hold nothing but folders.
 ghost use Rattle.std.specs.Prelude.{◌≡◌, IfOk, string_bytes};
+ghost use Rattle.reuse_disk.specs.KeptPaths.{KeepsPaths};
 ghost use Rattle.reuse_disk.specs.OpenFolders.{AreOpenedIf, path_below};
 ghost use Rattle.reuse_disk.specs.ReadsOnly.{EntersOnly};
 
 use crate::disk_system::DiskSystem;
-use crate::listing::{MOST_NAMES, push_text};
+use crate::listing::MOST_NAMES;
 use crate::open_folders::OpenFolders;
+use reuse_change::PathText;
+use reuse_change::layout::{ABOVE_JOURNAL, JOURNAL};
 use reuse_system::fault::{FolderFault, IoReason};
 use reuse_system::place::folder_and_name;
 use std::alloc::{AllocError, Global};
@@ -29,12 +32,17 @@ fn push_folder<R: Files>(
     alloc: Global,
     folder: &str,
     entry: &DirEntry<R>,
-    folders: &mut Vec<String>,
+    folders: &mut Vec<PathText>,
 ) -> Result<(), FolderFault> {
     if !entry.file_type()?.is_dir() {
         return Err(FolderFault::Device(IoReason::Foreign));
     }
     let path = path_in(alloc, folder, entry.file_name())?;
+    push_path(alloc, path.as_str(), folders)
+}
+
+fn push_path(alloc: Global, text: &str, folders: &mut Vec<PathText>) -> Result<(), FolderFault> {
+    let path = PathText::new(alloc, text)?;
     folders.push(path).map_err(AllocError::from)?;
     Ok(())
 }
@@ -45,7 +53,7 @@ fn push_folders<S: DiskSystem>(
     alloc: Global,
     open_folders: &mut OpenFolders,
     folder: &str,
-    folders: &mut Vec<String>,
+    folders: &mut Vec<PathText>,
 ) -> Result<(), FolderFault>
     ensures enters { EntersOnly S.System system.old system.new open_folders.old open_folders.new }
 {
@@ -62,23 +70,23 @@ fn folders_below<S: DiskSystem>(
     alloc: Global,
     open_folders: &mut OpenFolders,
     folder: &str,
-) -> Result<Vec<String>, FolderFault>
+) -> Result<Vec<PathText>, FolderFault>
     ensures enters { EntersOnly S.System system.old system.new open_folders.old open_folders.new }
 {
     let mut folders = Vec::new(alloc);
-    push_text(alloc, &mut folders, folder)?;
+    push_path(alloc, folder, &mut folders)?;
     for index in 0..MOST_NAMES {
         let Some(folder) = folders.get(index) else {
             return Ok(folders);
         };
-        let folder = String::from_str(alloc, folder.as_str())?;
-        push_folders(system, alloc, open_folders, folder.as_str(), &mut folders)?;
+        let folder = folder.try_clone(alloc)?;
+        push_folders(system, alloc, open_folders, folder.text(), &mut folders)?;
     }
     Err(FolderFault::Device(IoReason::TooManyNames))
 }
 
 /// Removes the folder and those below it. Where anything but folders lies in one, nothing is
-/// removed.
+/// removed. The journal's folder stays, since files may be written there just now.
 pub fn remove_folders<S: DiskSystem>(
     system: &mut S,
     alloc: Global,
@@ -86,6 +94,9 @@ pub fn remove_folders<S: DiskSystem>(
     folder: &str,
 ) -> Result<(), FolderFault>
     ensures kept { S.holds system.new ≡ S.holds system.old }
+    // A folder that is removed is empty.
+    ensures paths { AreOpenedIf (S.honest system.old) (S.folders system.old) open_folders.old → S.honest system.new
+        → KeepsPaths (S.holds system.new) (S.folders system.old) (S.folders system.new) }
     ensures changes { S.changes system.new ≡ S.changes system.old }
     ensures earlier { S.honest system.new → S.honest system.old }
     ensures opened { AreOpenedIf (S.honest system.old) (S.folders system.old) open_folders.old
@@ -93,7 +104,10 @@ pub fn remove_folders<S: DiskSystem>(
 {
     let folders = folders_below(system, alloc, open_folders, folder)?;
     for folder in folders.iter().rev() {
-        let (above, name) = folder_and_name(folder.as_str());
+        if folder.text() == ABOVE_JOURNAL || folder.text() == JOURNAL {
+            return Err(FolderFault::Device(IoReason::Foreign));
+        }
+        let (above, name) = folder_and_name(folder.text());
         open_folders.enter_seen(system, alloc, above)?;
         let removed = system.remove_folder(open_folders.current()?, name);
         open_folders.close();

@@ -1,9 +1,10 @@
 //! The files below a folder.
-ghost use Rattle.std.specs.Prelude.{◌≡◌, All, false};
-ghost use Rattle.std.specs.List.Sorted.{IsSorted};
+ghost use Rattle.std.specs.Prelude.{◌≡◌, ◌++◌, ◌∷◌, [], All, IfOk, OnErr, false, map, not, string_bytes};
+ghost use Rattle.std.specs.List.Sorted.{IsPermutation, IsSorted};
 ghost use Rattle.std.specs.Ordering.{nat_cmp};
 ghost use Rattle.std.specs.Cmp.Lexicographic.{slice_cmp};
 ghost use Rattle.reuse_system.specs.Ignored.{is_ignored};
+ghost use Rattle.reuse_disk.specs.Listings.{is_looked_at, is_passed_over, with_if};
 ghost use Rattle.reuse_disk.specs.ReadsOnly.{EntersOnly};
 
 use crate::disk_system::DiskSystem;
@@ -20,7 +21,11 @@ use std::rt::Files;
 pub const MOST_NAMES: usize = 100_000_000;
 
 /// Adds a text to others.
-pub fn push_text(alloc: Global, texts: &mut Vec<String>, text: &str) -> Result<(), AllocError> {
+pub fn push_text(alloc: Global, texts: &mut Vec<String>, text: &str) -> Result<(), AllocError>
+    ensures pushed { IfOk result
+        (λ _. map string_bytes texts.new.items ≡ map string_bytes texts.old.items ++ text.now ∷ []) }
+    ensures err { OnErr result (texts.new.items ≡ texts.old.items) }
+{
     texts.push(String::from_str(alloc, text)?)?;
     Ok(())
 }
@@ -39,7 +44,10 @@ pub struct Listing<'a, P: Pruning> {
 
 impl<'a, P: Pruning> Listing<'a, P> {
     /// Nothing found, and nothing to look at.
-    pub fn new(alloc: Global, pruning: &'a P) -> Listing<'a, P> {
+    pub fn new(alloc: Global, pruning: &'a P) -> Listing<'a, P>
+        ensures pruning { result.pruning.now ≡ pruning.now }
+        ensures none { (result.folders.items ≡ []) × (result.files.items ≡ []) × (result.passed.items ≡ []) }
+    {
         Listing {
             pruning,
             names: 0,
@@ -51,7 +59,18 @@ impl<'a, P: Pruning> Listing<'a, P> {
 
     /// Takes in a folder that is to be looked at; empty for the root, which is always looked at.
     /// One that is no part of the tree, or is pruned, is passed over.
-    pub fn take_folder(&mut self, alloc: Global, folder: &str) -> Result<(), FolderFault> {
+    pub fn take_folder(&mut self, alloc: Global, folder: &str) -> Result<(), FolderFault>
+        ensures looked_at { IfOk result (λ _. map string_bytes self.new.folders.items
+            ≡ with_if (is_looked_at (P.prunes self.old.pruning.now folder.now) folder.now)
+            (map string_bytes self.old.folders.items) folder.now) }
+        ensures passed_over { IfOk result (λ _. map string_bytes self.new.passed.items
+            ≡ with_if (is_passed_over (P.prunes self.old.pruning.now folder.now) folder.now)
+            (map string_bytes self.old.passed.items) folder.now) }
+        ensures pruning { self.new.pruning.now ≡ self.old.pruning.now }
+        ensures files { self.new.files ≡ self.old.files }
+        ensures err { OnErr result
+            ((self.new.folders.items ≡ self.old.folders.items) × (self.new.passed.items ≡ self.old.passed.items)) }
+    {
         if !folder.is_empty() {
             if is_folder_ignored(folder) {
                 return Ok(());
@@ -66,7 +85,14 @@ impl<'a, P: Pruning> Listing<'a, P> {
     }
 
     /// Takes in a regular file.
-    pub fn take_file(&mut self, alloc: Global, text: &str) -> Result<(), FolderFault> {
+    pub fn take_file(&mut self, alloc: Global, text: &str) -> Result<(), FolderFault>
+        ensures taken { IfOk result
+            (λ _. self.new.files.items ≡ with_if (not (is_ignored text.now)) self.old.files.items text.now) }
+        ensures pruning { self.new.pruning.now ≡ self.old.pruning.now }
+        ensures folders { self.new.folders ≡ self.old.folders }
+        ensures passed { self.new.passed ≡ self.old.passed }
+        ensures err { OnErr result (self.new.files.items ≡ self.old.files.items) }
+    {
         if !is_ignored(text) {
             let path = PathText::new(alloc, text)?;
             self.files.push(path).map_err(AllocError::from)?;
@@ -75,7 +101,9 @@ impl<'a, P: Pruning> Listing<'a, P> {
     }
 
     /// Whether the folder is pruned.
-    pub fn passes_over(&self, folder: &str) -> bool {
+    pub fn passes_over(&self, folder: &str) -> bool
+        ensures { result ≡ P.prunes self.now.pruning.now folder.now }
+    {
         self.pruning.prunes(folder)
     }
 
@@ -150,6 +178,8 @@ impl<'a, P: Pruning> Listing<'a, P> {
     pub fn into_found(self) -> (Vec<PathText>, Vec<String>)
         ensures sorted { IsSorted (slice_cmp nat_cmp) result.0.items }
         ensures ignored { All (λ path. is_ignored path ≡ false) result.0.items }
+        ensures all { IsPermutation self.entry.files.items result.0.items }
+        ensures passed { result.1 ≡ self.entry.passed }
     {
         let mut files = self.files;
         files.sort_unstable();

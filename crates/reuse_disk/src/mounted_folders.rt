@@ -1,19 +1,22 @@
 //! Folders on another device than the journal's, as below a mount. No file is renamed to there from
 //! the journal's folder: a new one is written beside the file that it is to be, and a run that is
 //! stopped may leave it. Tested by `odd_folders.sh` in `tests/`.
-ghost use Rattle.std.specs.Prelude.{IfOk};
+ghost use Rattle.std.specs.Prelude.{◌≡◌, ◌≢◌, ℕ, List, IfOk, IsTrue, None, Some, true};
+ghost use Rattle.std.specs.BTreeSet.{contains_text, IsEmpty};
+ghost use Rattle.reuse_change.specs.Layout.{journal_folder};
+ghost use Rattle.reuse_system.specs.TempFiles.{is_elsewhere};
 ghost use Rattle.reuse_disk.specs.LeftFiles.{ClearsLeft, IsClearedAt, IsJournalIf};
-ghost use Rattle.reuse_disk.specs.OpenFolders.{AreOpenedIf};
+ghost use Rattle.reuse_disk.specs.OpenFolders.{AreOpenedIf, current_of, path_of};
 ghost use Rattle.reuse_disk.specs.ReadsOnly.{NotesOnly};
 
 use crate::open_folders::OpenFolders;
-use crate::syncs::Unsynced;
+use crate::syncs::{Unsynced, add};
 use reuse_change::layout::JOURNAL;
 use reuse_system::fault::FolderFault;
 use reuse_system::new_name::beside_name;
 use reuse_system::place::{Found, Identity};
 use reuse_system::system::System;
-use std::alloc::{AllocError, Global};
+use std::alloc::Global;
 use std::collections::BTreeSet;
 
 /// The folders of that kind which were entered.
@@ -27,7 +30,10 @@ pub struct MountedFolders {
 
 impl MountedFolders {
     /// None so far.
-    pub fn none(alloc: Global) -> MountedFolders {
+    pub fn none(alloc: Global) -> MountedFolders
+        ensures journal { result.journal ≡ None }
+        ensures paths { IsEmpty result.paths }
+    {
         MountedFolders {
             journal: None,
             paths: BTreeSet::new(alloc),
@@ -36,11 +42,25 @@ impl MountedFolders {
 
     /// Notes the folder that was entered last, if it is of that kind. For an allocation failure it
     /// is left out.
-    pub fn note(&mut self, alloc: Global, open_folders: &OpenFolders) {
+    pub fn note(&mut self, alloc: Global, open_folders: &OpenFolders)
+        ensures same_journal { path_of open_folders.now ≢ journal_folder → self.new.journal ≡ self.old.journal }
+        ensures kept { (other : List ℕ) → contains_text self.old.paths other ≡ true
+            → contains_text self.new.paths other ≡ true }
+    {
         let _ = self.try_note(alloc, open_folders);
     }
 
-    fn try_note(&mut self, alloc: Global, open_folders: &OpenFolders) -> Result<(), FolderFault> {
+    fn try_note(&mut self, alloc: Global, open_folders: &OpenFolders) -> Result<(), FolderFault>
+        ensures journal { path_of open_folders.now ≡ journal_folder
+            → IfOk result (λ _. self.new.journal ≡ current_of open_folders.now) }
+        ensures same_journal { path_of open_folders.now ≢ journal_folder → self.new.journal ≡ self.old.journal }
+        // A folder on another device than the journal's is noted.
+        ensures noted { (journal folder : Identity) → self.new.journal ≡ Some journal
+            → current_of open_folders.now ≡ Some folder → IsTrue (is_elsewhere journal folder)
+            → IfOk result (λ _. contains_text self.new.paths (path_of open_folders.now) ≡ true) }
+        ensures kept { (other : List ℕ) → contains_text self.old.paths other ≡ true
+            → contains_text self.new.paths other ≡ true }
+    {
         let folder = open_folders.current()?.identity();
         let path = open_folders.path();
         if path == JOURNAL {
@@ -50,9 +70,8 @@ impl MountedFolders {
             Some(journal) => journal.is_elsewhere(folder),
             None => false,
         };
-        if is_mounted && !self.paths.contains(path) {
-            let path = String::from_str(alloc, path)?;
-            self.paths.insert(path).map_err(AllocError::from)?;
+        if is_mounted {
+            add(alloc, &mut self.paths, path)?;
         }
         Ok(())
     }

@@ -1,12 +1,13 @@
 //! Names that files get and lose. A name changes only if what was seen there stands there directly
 //! before, and a file that is made takes its name by a link, which takes no name that is there.
-ghost use Rattle.std.specs.Prelude.{◌≡◌, ◌≢◌, Bool, List, ℕ, MatchResult, None, Some, IfOk, IsTrue};
+ghost use Rattle.std.specs.Prelude.{◌≡◌, ◌≢◌, Bool, List, ℕ, MatchResult, None, Some, IfErr, IfOk, IsErr, IsTrue};
+ghost use Rattle.std.specs.IoError.{error_kind};
 ghost use Rattle.reuse_system.specs.NameChanges.{IsExpected, IsGuarded};
 ghost use Rattle.reuse_system.specs.NewFiles.{Due};
 ghost use Rattle.reuse_system.specs.SystemLaws.{IsAlikeBut, IsOneFile, IsRemoved};
 ghost use Rattle.reuse_system.specs.TempFiles.{name_in, place_of, key_of};
 ghost use Rattle.reuse_system.specs.FileStates.{file};
-ghost use Rattle.reuse_disk.specs.Named.{GivesName, IsNamedAsSeen};
+ghost use Rattle.reuse_disk.specs.Named.{GivesName, IsNamedAsSeen, is_without_links};
 ghost use Rattle.reuse_disk.specs.Written.{IsMoved, IsWritten, is_named};
 
 use reuse_system::fault::{FolderFault, IoReason};
@@ -29,7 +30,9 @@ pub struct Target<'a> {
 
 /// Fails if what stands at a name isn't what was seen there.
 fn check_found(found: Found, seen: Option<FileStatus>) -> Result<(), FolderFault>
-    ensures { IfOk result (λ _. IsExpected seen (Some found)) }
+    ensures ok { IfOk result (λ _. IsExpected seen (Some found)) }
+    ensures refused { IsErr result → ¬ (IsExpected seen (Some found)) }
+    ensures err { IfErr result (λ fault. fault ≡ FolderFault.Device IoReason.Changing) }
 {
     let is_same = match (found, seen) {
         (Found::File(status), Some(seen)) => status.is_same(&seen),
@@ -44,7 +47,9 @@ fn check_found(found: Found, seen: Option<FileStatus>) -> Result<(), FolderFault
 }
 
 /// Whether this reports that the file system has no links, or that this one may not be made.
-fn is_without_links(error: &io::Error) -> bool {
+fn is_without_links(error: &io::Error) -> bool
+    ensures { result ≡ is_without_links (error_kind error.now) }
+{
     matches!(
         error.kind(),
         ErrorKind::PermissionDenied | ErrorKind::Unsupported | ErrorKind::TooManyLinks

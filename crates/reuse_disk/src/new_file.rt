@@ -1,6 +1,6 @@
 //! Writing a file as a whole or not at all: a new one is written to a temporary file, and its data
 //! is synced before it is given its name.
-ghost use Rattle.std.specs.Prelude.{◌≡◌, ◌⊎◌, [], None, Some, MatchResult, false, is_ok, IfOk, IsErr, codes};
+ghost use Rattle.std.specs.Prelude.{◌≡◌, ◌⊎◌, ◌↔◌, ◌<◌, ◌^◌, [], None, Some, MatchResult, false, is_ok, IfOk, IsErr, IsTrue, codes};
 ghost use Rattle.reuse_change.specs.Parts.{joined};
 ghost use Rattle.reuse_system.specs.NameChanges.{IsGuarded, OnlyChanges};
 ghost use Rattle.reuse_system.specs.NewFiles.{made_mode, made_status, IsAsDue, IsSameFile};
@@ -9,7 +9,7 @@ ghost use Rattle.reuse_system.specs.SystemLaws.{IsAlikeBut, IsAlikeButFile, IsFi
 ghost use Rattle.reuse_system.specs.TempFiles.{name_in, place_of, key_of, beside_name, IsNewNameIn};
 ghost use Rattle.reuse_system.specs.TempFiles.{IsNewPlace};
 ghost use Rattle.reuse_system.specs.declared.owner.Owner.{Owner};
-ghost use Rattle.reuse_disk.specs.Due.{asked_for, due_of};
+ghost use Rattle.reuse_disk.specs.Due.{IsOwnerFor, asked_for, due_of};
 ghost use Rattle.reuse_disk.specs.Noted.{StayNoted};
 ghost use Rattle.reuse_disk.specs.Written.{StandsAlone, IsWritten, IsPlaced, LeavesNone, is_kept, is_named};
 
@@ -111,8 +111,18 @@ impl NewFile {
         }
     }
 
+    /// Whether this is the folder of the new files.
+    pub fn is_in(&self, folder: &OpenFolder) -> bool
+        ensures same { IsTrue result ↔ (self.now.folder.identity ≡ folder.now.identity) }
+        ensures number { self.now.folder.identity.number < 2 ^ 64 }
+    {
+        self.folder.identity() == folder.identity()
+    }
+
     /// Whose the file is that was written last.
-    pub fn kept(&self) -> Option<Owner> {
+    pub fn kept(&self) -> Option<Owner>
+        ensures { result ≡ self.now.kept }
+    {
         self.kept
     }
 
@@ -124,6 +134,7 @@ impl NewFile {
         ensures mode { temp_file.new.status.mode ≡ temp_file.old.status.mode }
         ensures owner { IfOk result (λ _. (made : Owner)
             × (temp_file.new.status.owner ≡ Some (kept_owner wanted.entry.process.now wanted.entry.owner made))) }
+        ensures reported { IfOk result (λ _. self.new.kept ≡ temp_file.new.status.owner) }
     {
         let made = self.grants.owner_of(temp_file)?;
         let owner = wanted.process.kept_owner(wanted.owner, made);
@@ -146,6 +157,7 @@ impl NewFile {
         ensures same { IsSameFile temp_file.old temp_file.new }
         ensures kept { temp_file.old.status.mode ≡ made_mode (asked_for content.entry.found)
             → IfOk result (λ _. IsAsDue (due_of content.entry) temp_file.new.status) }
+        ensures reported { IfOk result (λ _. IsOwnerFor (due_of content.entry) self.new.kept) }
         ensures still { S.folders system.new ≡ S.folders system.old }
         ensures earlier { S.honest system.new → S.honest system.old }
         ensures changes { S.changes system.new ≡ S.changes system.old }
@@ -177,6 +189,7 @@ impl NewFile {
         ensures same { IsSameFile temp_file.old temp_file.new }
         ensures kept { temp_file.old.status.mode ≡ made_mode (asked_for content.entry.found)
             → IfOk result (λ _. IsAsDue (due_of content.entry) temp_file.new.status) }
+        ensures reported { IfOk result (λ _. IsOwnerFor (due_of content.entry) self.new.kept) }
         ensures still { S.folders system.new ≡ S.folders system.old }
         ensures earlier { S.honest system.new → S.honest system.old }
         ensures changes { S.changes system.new ≡ S.changes system.old }
@@ -205,6 +218,7 @@ impl NewFile {
         ensures same { IsSameFile temp_file.old temp_file.new }
         ensures still { S.folders system.new ≡ S.folders system.old }
         ensures earlier { S.honest system.new → S.honest system.old }
+        ensures reported { IfOk result (λ _. IsOwnerFor (due_of content.entry) self.new.kept) }
         ensures guarded { StandsAlone (place_of temp_file.old) (key_of temp_file.old) [] false (S.holds system.old)
             → temp_file.old.status.mode ≡ made_mode (asked_for content.entry.found)
             → IsGuarded (λ place. place ≡ place_of temp_file.old)
@@ -234,6 +248,7 @@ impl NewFile {
         ensures same { IsSameFile temp_file.old temp_file.new }
         ensures still { S.folders system.new ≡ S.folders system.old }
         ensures earlier { S.honest system.new → S.honest system.old }
+        ensures reported { IfOk result (λ _. IsOwnerFor (due_of content.entry) self.new.kept) }
         ensures guarded { StandsAlone (place_of temp_file.old) (key_of temp_file.old) [] false (S.holds system.old)
             → temp_file.old.status.mode ≡ made_mode (asked_for content.entry.found)
             → IsGuarded (λ place. place ≡ place_of temp_file.old)
@@ -253,7 +268,8 @@ impl NewFile {
 
     /// What was granted, and to whom, is known of the one folder alone.
     fn forget_granted(&mut self)
-        ensures { self.new.folder ≡ self.old.folder }
+        ensures folder { self.new.folder ≡ self.old.folder }
+        ensures kept { self.new.kept ≡ self.old.kept }
     {
         self.grants = Grants::none();
     }
@@ -290,6 +306,7 @@ impl NewFile {
             (is_kept unsynced.old.syncs) (S.holds system.old) (S.holds system.new) (is_named result) (is_ok result) }
         ensures still { S.folders system.new ≡ S.folders system.old }
         ensures earlier { S.honest system.new → S.honest system.old }
+        ensures reported { IfOk result (λ _. IsOwnerFor (due_of content.entry) self.new.kept) }
         ensures guarded { IsGuarded (IsNewPlace self.old.folder.identity target.entry.folder.now.identity)
             (name_in target.entry.folder.now target.entry.name.now) (due_of content.entry)
             (S.changes system.old) (S.changes system.new) (S.holds system.old) (S.holds system.new) }
@@ -316,6 +333,7 @@ impl NewFile {
             (is_kept unsynced.old.syncs) (S.holds system.old) (S.holds system.new) (is_ok result) (is_ok result) }
         ensures still { S.folders system.new ≡ S.folders system.old }
         ensures earlier { S.honest system.new → S.honest system.old }
+        ensures reported { IfOk result (λ _. IsOwnerFor (due_of content.entry) self.new.kept) }
         ensures guarded { IsGuarded (IsNewPlace self.old.folder.identity target.entry.folder.now.identity)
             (name_in target.entry.folder.now target.entry.name.now) (due_of content.entry)
             (S.changes system.old) (S.changes system.new) (S.holds system.old) (S.holds system.new) }
@@ -357,6 +375,7 @@ impl NewFile {
             (S.holds system.old) (S.holds system.new)) }
         ensures still { S.folders system.new ≡ S.folders system.old }
         ensures earlier { S.honest system.new → S.honest system.old }
+        ensures reported { IfOk result (λ _. IsOwnerFor (due_of content.entry) self.new.kept) }
         ensures guarded { IsGuarded (IsNewPlace self.old.folder.identity target.entry.folder.now.identity)
             (name_in target.entry.folder.now target.entry.name.now) (due_of content.entry)
             (S.changes system.old) (S.changes system.new) (S.holds system.old) (S.holds system.new) }

@@ -1,6 +1,10 @@
 //! The folder that the process was called in. While files are worked, the process stays where the
 //! system shows its handles: from there a path through an open folder is short, and the system
 //! comes to its end sooner. Then it comes back.
+ghost use Rattle.std.specs.Prelude.{◌≡◌, IfOk, string_bytes};
+ghost use Rattle.std.specs.Fd.{file_raw_fd};
+ghost use Rattle.reuse_disk.specs.StartFolder.{path_from};
+
 use reuse_system::place::Identity;
 use reuse_system::process::ProcessIds;
 use std::alloc::{AllocError, Global};
@@ -43,7 +47,9 @@ impl StartFolder {
     }
 
     /// A path that started in the start folder, as the system takes it now.
-    pub fn path_from(&self, alloc: Global, path: &str) -> Result<String, AllocError> {
+    pub fn path_from(&self, alloc: Global, path: &str) -> Result<String, AllocError>
+        ensures { IfOk result (λ taken. string_bytes taken ≡ path_from (file_raw_fd self.now.handle) path.now) }
+    {
         if path.starts_with('/') {
             return String::from_str(alloc, path);
         }

@@ -2,8 +2,8 @@
 //! synced before the file is given its name. Which folders got or lost a name is noted, and a
 //! barrier syncs each of them once. The system reports a fault of a sync once, and may then drop
 //! what it could not write: so a store whose sync has failed believes no later one.
-ghost use Rattle.std.specs.Prelude.{◌≡◌, ℕ, List, IfErr, IfOk, IfSome, IsOk, MatchResult, None, OnErr, OnOk, Some};
-ghost use Rattle.std.specs.Prelude.{true, false, length};
+ghost use Rattle.std.specs.Prelude.{◌≡◌, ◌⊎◌, ℕ, List, [], IfErr, IfOk, IfSome, IsOk, MatchResult, None, OnErr, OnOk};
+ghost use Rattle.std.specs.Prelude.{Some, true, false, length, string_bytes};
 ghost use Rattle.std.specs.BTreeSet.{contains_text, IsEmpty};
 ghost use Rattle.std.specs.Option.{unwrap_or};
 ghost use Rattle.reuse_system.specs.SystemLaws.{IsAlikeButFile};
@@ -45,7 +45,7 @@ pub struct Unsynced {
 }
 
 /// Adds a path to these.
-fn add(alloc: Global, paths: &mut BTreeSet<String>, path: &str) -> Result<(), AllocError>
+pub fn add(alloc: Global, paths: &mut BTreeSet<String>, path: &str) -> Result<(), AllocError>
     ensures added { IfOk result (λ _. contains_text paths.new path.now ≡ true) }
     ensures kept { (other : List ℕ) → contains_text paths.old other ≡ true → contains_text paths.new other ≡ true }
 {
@@ -73,7 +73,9 @@ impl Unsynced {
     }
 
     /// The folder that was synced last, or the file whose sync failed; empty for the root.
-    pub fn last(&self) -> &str {
+    pub fn last(&self) -> &str
+        ensures { result.now ≡ string_bytes self.now.last }
+    {
         self.last.as_str()
     }
 
@@ -82,6 +84,7 @@ impl Unsynced {
         ensures noted { self.old.syncs ≡ Syncs.Kept → IfOk result (λ _. IsListed self.new folder.now) }
         ensures listed { (other : List ℕ) → IsListed self.old other → IsListed self.new other }
         ensures kept { StayNoted self.old self.new }
+        ensures left_out { self.old.syncs ≡ Syncs.LeftOut → self.new ≡ self.old }
         ensures syncs { self.new.syncs ≡ self.old.syncs }
         ensures failed { self.new.failed ≡ self.old.failed }
     {
@@ -138,6 +141,7 @@ impl Unsynced {
         ensures syncs { self.new.syncs ≡ self.old.syncs }
         ensures noted { StayNoted self.old self.new }
         ensures failed { self.new.failed ≡ self.old.failed }
+        ensures last { (string_bytes self.new.last ≡ path.now) ⊎ (string_bytes self.new.last ≡ []) }
     {
         self.last.clear();
         let _ = self.last.push_str(path);

@@ -5,7 +5,7 @@ ghost use Rattle.reuse_system.specs.NameChanges.{OnlyChanges};
 ghost use Rattle.reuse_system.specs.NewFiles.{IsAsDue};
 ghost use Rattle.reuse_system.specs.SystemLaws.{IsAlikeBut, IsAlikeUnless};
 ghost use Rattle.reuse_system.specs.TempFiles.{name_in, place_of, key_of, new_name, IsNewIn};
-ghost use Rattle.reuse_disk.specs.Due.{due_of};
+ghost use Rattle.reuse_disk.specs.Due.{IsOwnerFor, due_of};
 ghost use Rattle.reuse_disk.specs.ReadsOnly.{ReadsOnly};
 ghost use Rattle.reuse_disk.specs.Written.{StandsAlone, LeavesNone};
 
@@ -30,6 +30,7 @@ impl NewFile {
             × StandsAlone (place_of temp_file) (key_of temp_file) (joined content.entry.parts) false
             (S.holds system.new)) }
         ensures kept { IfOk result (λ temp_file. IsAsDue (due_of content.entry) temp_file.status) }
+        ensures reported { IfOk result (λ _. IsOwnerFor (due_of content.entry) self.new.kept) }
         ensures others { IsAlikeBut (name_in self.old.folder (new_name number)) (S.holds system.old)
             (S.holds system.new) }
         ensures still { S.folders system.new ≡ S.folders system.old }

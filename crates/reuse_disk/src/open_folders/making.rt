@@ -3,6 +3,7 @@ ghost use Rattle.std.specs.Prelude.{◌≡◌, ◌⊎◌, Some};
 ghost use Rattle.reuse_system.specs.Folders.{IsGrown};
 ghost use Rattle.reuse_system.specs.declared.syncs.Syncs.TheVariants.{Kept};
 ghost use Rattle.reuse_system.specs.SystemLaws.{IsOpenedBelow};
+ghost use Rattle.reuse_disk.specs.KeptPaths.{KeepsPaths};
 ghost use Rattle.reuse_disk.specs.ReadsOnly.{ReadsOnly};
 
 use super::{OpenFolders, next_name};
@@ -34,6 +35,9 @@ impl OpenFolders {
         ensures kept { S.holds system.new ≡ S.holds system.old }
         ensures changes { S.changes system.new ≡ S.changes system.old }
         ensures grown { IsGrown (S.folders system.old) (S.folders system.new) }
+        // A folder that is made is empty.
+        ensures paths { S.honest system.new
+            → KeepsPaths (S.holds system.new) (S.folders system.old) (S.folders system.new) }
         ensures earlier { S.honest system.new → S.honest system.old }
         ensures opened { AreOpenedIf (S.honest system.old) (S.folders system.old) self.old
             → AreOpenedIf (S.honest system.new) (S.folders system.new) self.new }
@@ -63,6 +67,9 @@ impl OpenFolders {
         ensures kept { S.holds system.new ≡ S.holds system.old }
         ensures changes { S.changes system.new ≡ S.changes system.old }
         ensures grown { IsGrown (S.folders system.old) (S.folders system.new) }
+        // A folder that is made is empty.
+        ensures paths { S.honest system.new
+            → KeepsPaths (S.holds system.new) (S.folders system.old) (S.folders system.new) }
         ensures earlier { S.honest system.new → S.honest system.old }
         ensures opened { S.honest system.new
             → IsOpenedFrom (S.folders system.new) (current_of self.now) name.now result }

@@ -1,4 +1,5 @@
 use Rattle.std.proofs.Common.{◌≡◌}
+use Rattle.reuse_disk.specs.KeptPaths.{KeepsPaths}
 use Rattle.reuse_disk.specs.OpenFolders.{AreOpenedIf}
 use Rattle.reuse_disk.proofs.empty_folders.remove_folders.Given as goal
 
@@ -13,4 +14,6 @@ invariant-loop-folder g l =
     (s.honest now → s.honest first) ×
     (AreOpenedIf (s.honest first) (s.folders first) l.fn.open_folders → AreOpenedIf (s.honest now)
     (s.folders now) l.open_folders) ×
-    (s.changes now ≡ s.changes first)
+    (s.changes now ≡ s.changes first) ×
+    (AreOpenedIf (s.honest first) (s.folders first) l.fn.open_folders → s.honest now
+    → KeepsPaths (s.holds now) (s.folders first) (s.folders now))

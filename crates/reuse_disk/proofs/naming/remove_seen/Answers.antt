@@ -14,7 +14,7 @@ removed_as_seen : (g : Over) (c : After-remove g) (due : Due) → due.seen ≡ S
 removed_as_seen g c due is =
     guarded_look (λ _. ⊥) _ due c.in_ok-found.found (g.S.System.looked c.look.new.self) _
     (g.S.System.changes c.look.new.self) _ _ _ c.look.ensures.changes c.in_ok-found.ensures.looked
-    (expected_due due (Some c.args.seen) c.in_ok-found.found is c.in_ok-check_found.ensures) c.remove.ensures.changes
+    (expected_due due (Some c.args.seen) c.in_ok-found.found is c.in_ok-check_found.ensures.ok) c.remove.ensures.changes
 
 pub returns-in_err-remove-clause-guarded : goal.returns-in_err-remove-clause-guarded
 returns-in_err-remove-clause-guarded g c =

@@ -16,7 +16,7 @@ renamed_as_seen g c due is as_due =
     guarded_name (λ place. place ≡ place_of c.args.temp_file.now) _ due c.in_ok-found.found c.args.temp_file.now.status
     (g.S.System.looked c.look.new.self) _ (g.S.System.changes c.look.new.self) _ _ _ c.look.ensures.changes
     c.in_ok-found.ensures.looked
-    (expected_due due c.args.seen c.in_ok-found.found is c.in_ok-check_found.ensures) as_due c.rename.ensures.changes
+    (expected_due due c.args.seen c.in_ok-found.found is c.in_ok-check_found.ensures.ok) as_due c.rename.ensures.changes
 
 pub returns-in_err-rename-clause-guarded : goal.returns-in_err-rename-clause-guarded
 returns-in_err-rename-clause-guarded g c =

@@ -2,6 +2,7 @@ use Rattle.std.proofs.Common.{◌≡◌, length}
 use denote.Text.{Utf8}
 use denote.Shadow.{shadow}
 use Rattle.reuse_system.specs.Folders.{IsGrown}
+use Rattle.reuse_disk.specs.KeptPaths.{KeepsPaths}
 use Rattle.reuse_disk.specs.Noted.{StayNoted}
 use Rattle.reuse_disk.specs.OpenFolders.{AreOpenedIf}
 use Rattle.reuse_disk.proofs.open_folders.OpenFolders.make.Given as goal
@@ -19,7 +20,8 @@ invariant-loop-name g l =
     (AreOpenedIf (s.honest first) (s.folders first) l.fn.self → AreOpenedIf (s.honest now)
     (s.folders now) l.self) ×
     (s.changes now ≡ s.changes first) ×
-    StayNoted l.fn.unsynced l.unsynced
+    StayNoted l.fn.unsynced l.unsynced ×
+    (s.honest now → KeepsPaths (s.holds now) (s.folders first) (s.folders now))
 
 abbrev pub decreases-loop-name : goal.decreases-loop-name
 decreases-loop-name g l = length l.rest

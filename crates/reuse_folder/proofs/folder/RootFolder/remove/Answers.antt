@@ -6,3 +6,6 @@ returns-clause-keeps_edits g c = (
   c.take_expected-expected.ensures.expected,
   rw c.take_expected-expected.ensures.kept at c.remove_expected.ensures.keeps_edits,
 )
+
+pub returns-clause-place : goal.returns-clause-place
+returns-clause-place g c honest = rw c.take_expected-expected.ensures.kept at (c.remove_expected.ensures.place honest)
