@@ -2,6 +2,7 @@
 pub mod Calls
 pub mod SessionSlot
 pub mod Forgetting
+pub mod Found
 pub mod Fresh
 pub mod Machine
 pub mod Model

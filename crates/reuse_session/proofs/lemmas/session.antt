@@ -10,6 +10,9 @@ pub mod ForgottenDoubt
 pub mod ForgottenFiles
 pub mod ForgottenSteps
 pub mod ForgottenTrees
+pub mod FoundAnswers
+pub mod FoundPoints
+pub mod FoundSteps
 pub mod FreshTrees
 pub mod KnownCommands
 pub mod LaterSteps
@@ -18,6 +21,7 @@ pub mod Modelling
 pub mod PathLosses
 pub mod Peeking
 pub mod Previewing
+pub mod QuietAnswers
 pub mod ReachedFiles
 pub mod Recording
 pub mod ReplayAnswers

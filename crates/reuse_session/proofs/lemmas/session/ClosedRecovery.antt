@@ -160,7 +160,7 @@ module _ (skip_moved : Bool) (before after : Files) (reported : Recovered) (old 
         by_doubt (inr (inl committed)) = absurd (none second committed)
         by_doubt (inr (inr under)) = under
 
-    at_first : RecoversFiles skip_moved before after reported → ReportsRecovery old reported old.state
+    pub at_first : RecoversFiles skip_moved before after reported → ReportsRecovery old reported old.state
     at_first (inl (journal, none, nothing, same)) = inl (nothing, inl refl)
     at_first (inr (direction, step, journal, has, states, recovered)) =
         let under = becomes_pending direction step journal has in
@@ -173,7 +173,7 @@ module _ (skip_moved : Bool) (before after : Files) (reported : Recovered) (old 
         )
 
     -- the step that was pending was rolled back, so that the next state isn't reached
-    at_second : RecoversFiles skip_moved before after reported → IsCommittedState after second
+    pub at_second : RecoversFiles skip_moved before after reported → IsCommittedState after second
         → ReportsRecovery old reported next
     at_second (inl (journal, none, nothing, same)) committed = inl (nothing, inr is_next)
     at_second (inr (direction, step, journal, has, states, recovered)) committed =

@@ -1,8 +1,7 @@
 -- What a session that stands at a state of the model answers and leaves, from how it answers a request.
-use Rattle.std.proofs.Common.{◌≡◌, ⊎_elim, inl, ℕ, ◌||◌, ◌&&◌, Bool, true, false, not, List, [], ◌∷◌, Some, Result, Ok}
-use Rattle.std.proofs.Common.{Err, IfErr, refl, sym, ap, subst, ◌∙◌}
-use Rattle.reuse_store.specs.Asked.{IsSynced}
-use Rattle.reuse_change.specs.Files.{Files}
+use Rattle.std.proofs.Common.{◌≡◌, ◌⊎◌, ⊎_elim, inl, inr, ℕ, ◌||◌, ◌&&◌, Bool, true, false, not, List, [], ◌∷◌, Some}
+use Rattle.std.proofs.Common.{Result, Ok, Err, IfErr, refl, sym, ap, subst, ◌∙◌}
+use Rattle.reuse_store.specs.Asked.{Leaves}
 use Rattle.reuse_store.specs.declared.cause.Cause.{Cause}
 use Rattle.reuse_store.specs.declared.store.Store.{Ghosts}
 use Rattle.reuse_change.specs.declared.direction.Direction.{Direction}
@@ -42,7 +41,6 @@ use Rattle.reuse_session.proofs.lemmas.session.Forgetting.{none_in_order}
 use Rattle.reuse_session.proofs.lemmas.session.ForgottenTrees.{same_besides}
 use Rattle.reuse_session.proofs.lemmas.session.Modelling.{after_as_model, gives_to, reverts_one, stopped_near}
 use Rattle.reuse_command.proofs.OnlyReading.{at_stop}
-use Rattle.reuse_session.proofs.lemmas.journal.StepDoubt.{synced_is_safe}
 
 -- ---- where no step is made, the state stays
 
@@ -133,53 +131,49 @@ one_result (Err one) (Ok other) e = absurd (none_refused other one (sym e))
 -- ---- what may be left is safe on the next state
 
 module _ {S : Type 0} (store : Ghosts S) (earlier : Earlier) (held left : State) (new : S) where
+  -- all that may be left is the next state; or nothing was made durable, and all is safe as it was before
+  abbrev pub IsSafeBehind : Result Response Refusal → Type 0
+  IsSafeBehind step = Leaves store new (λ file. IsCommittedState file left)
+      ⊎ ((is_durable step ≡ false) × (left ≡ held) × AllRecoverToTree store earlier held new)
+
   -- all that may be left is safe on the next state, and where nothing was made durable as it was before
   abbrev IsSafeAfter : Result Response Refusal → Type 0
   IsSafeAfter step = (first : State) × AllRecoverToTree store
       (record { state = first; forgetting = not (is_durable step) && earlier.forgetting }) left new
 
-  as_before : left ≡ held → AllRecoverToTree store earlier held new
-      → (first : State) × AllRecoverToTree store (record { state = first; forgetting = earlier.forgetting }) left new
-  as_before same safe = (earlier.state, subst (λ s. AllRecoverToTree store earlier s new) (sym same) safe)
-
-  as_quiet : (step : Result Response Refusal) → is_durable step ≡ false → left ≡ held
-      → AllRecoverToTree store earlier held new → IsSafeAfter step
-  as_quiet step quiet same safe =
+  behind_is_after : (step : Result Response Refusal) → IsSafeBehind step → IsSafeAfter step
+  behind_is_after step (inl stands) =
+      (left, λ file is. inl (record { tree = (stands file is).tree; opens = inl (stands file is) }))
+  behind_is_after step (inr (quiet, same, safe)) =
       subst (λ b. (first : State) × AllRecoverToTree store
-      (record { state = first; forgetting = not b && earlier.forgetting }) left new) (sym quiet) (as_before same safe)
+      (record { state = first; forgetting = not b && earlier.forgetting }) left new) (sym quiet)
+      (earlier.state, subst (λ s. AllRecoverToTree store earlier s new) (sym same) safe)
 
-  as_synced : (step : Result Response Refusal) → IsCommittedState (store.files new) left → IsSynced store new
-      → IsSafeAfter step
-  as_synced step committed synced = (
-    left,
-    synced_is_safe store
-        (record { state = left; forgetting = not (is_durable step) && earlier.forgetting }) left new committed synced,
-  )
-
-  safe_after_step : (IsNext : State → Type 0) (step : Result Response Refusal) → (IsNoStep step → left ≡ held)
+  safe_behind_step : (IsNext : State → Type 0) (step : Result Response Refusal) → (IsNoStep step → left ≡ held)
       → DidNotFail step → IsCommittedState (store.files new) left → Survives store IsNext earlier held step new
-      → IsSafeAfter step
-  safe_after_step IsNext (Ok (responses.NothingChanged leaves)) stays reported committed survives =
-      as_before (stays tt) survives
-  safe_after_step IsNext (Ok reply) stays reported committed survives = as_synced (Ok reply) committed survives
-  safe_after_step IsNext (Err (Failed failure)) stays reported committed survives = absurd reported
-  safe_after_step IsNext (Err refusal) stays reported committed survives = as_before (stays reported) survives
+      → IsSafeBehind step
+  safe_behind_step IsNext (Ok (responses.NothingChanged leaves)) stays reported committed survives =
+      inr (refl, stays tt, survives)
+  safe_behind_step IsNext (Ok reply) stays reported committed survives =
+      inl (λ file is. subst (λ f. IsCommittedState f left) (sym (survives file is)) committed)
+  safe_behind_step IsNext (Err (Failed failure)) stays reported committed survives = absurd reported
+  safe_behind_step IsNext (Err refusal) stays reported committed survives = inr (refl, stays reported, survives)
 
   -- forgetting leaves nothing else than the next state, or where there is no number what was there
-  safe_after_forgetting : (numbers : List ℕ) (forgotten : Result (List ℕ) Refusal) → Forgets numbers held forgotten left
-      → DidNotFail (as_answer responses.Forgotten forgotten)
+  safe_behind_forgetting : (numbers : List ℕ) (forgotten : Result (List ℕ) Refusal)
+      → Forgets numbers held forgotten left → DidNotFail (as_answer responses.Forgotten forgotten)
       → SurvivesForgetting store numbers earlier held forgotten new
-      → IsSafeAfter (as_answer responses.Forgotten forgotten)
-  safe_after_forgetting numbers (Ok []) forgets reported survives = as_before
-      (forgets.2 ∙ ap (λ ns. state_besides ns held) (none_in_order numbers forgets.1) ∙ same_besides held) survives
-  safe_after_forgetting numbers (Ok (number ∷ more)) forgets reported survives =
-      (left, λ file is. inl (record { tree = (stands file is).tree; opens = inl (stands file is) }))
-    where
-      stands : (file : Files) → store.crash_states new file → IsCommittedState file left
-      stands file is = subst (IsCommittedState file) (sym forgets.2) (survives file is)
-  safe_after_forgetting numbers (Err (NoSuchStep number)) forgets reported survives = as_before forgets.1 survives
-  safe_after_forgetting numbers (Err (Failed failure)) forgets reported survives = absurd reported
-  safe_after_forgetting numbers (Err refusal) forgets reported survives = absurd forgets
+      → IsSafeBehind (as_answer responses.Forgotten forgotten)
+  safe_behind_forgetting numbers (Ok []) forgets reported survives = inr (
+    refl,
+    forgets.2 ∙ ap (λ ns. state_besides ns held) (none_in_order numbers forgets.1) ∙ same_besides held,
+    survives,
+  )
+  safe_behind_forgetting numbers (Ok (number ∷ more)) forgets reported survives =
+      inl (λ file is. subst (IsCommittedState file) (sym forgets.2) (survives file is))
+  safe_behind_forgetting numbers (Err (NoSuchStep number)) forgets reported survives = inr (refl, forgets.1, survives)
+  safe_behind_forgetting numbers (Err (Failed failure)) forgets reported survives = absurd reported
+  safe_behind_forgetting numbers (Err refusal) forgets reported survives = absurd forgets
 
   reported_as_step : (answer : Result Response Refusal) → DidNotFail answer → DidNotFail (as_step answer)
   reported_as_step (Ok (responses.Reverted reverted)) reported = tt
@@ -187,26 +181,33 @@ module _ {S : Type 0} (store : Ghosts S) (earlier : Earlier) (held left : State)
   reported_as_step (Err (Failed failure)) reported = absurd reported
   reported_as_step (Err refusal) reported = reported
 
+  pub safe_behind : (request : Request) (answer : Result Response Refusal) → LeadsTo request held answer left
+      → DidNotFail answer → IsCommittedState (store.files new) left
+      → SurvivesRequest store request earlier held answer new
+      → IsSafeBehind (as_step answer)
+  safe_behind (requests.Make call when) answer leads reported committed survives =
+      safe_behind_step (IsAfterCall call when held) (as_step answer) (makes_stay call when held left answer leads)
+      (reported_as_step answer reported) committed survives
+  safe_behind (requests.Forget steps) answer leads reported committed survives =
+      subst IsSafeBehind (sym (ap as_step leads.1 ∙ forgotten_as_step leads.0))
+      (safe_behind_forgetting (asked_numbers steps held.journal) leads.0 leads.2 (subst DidNotFail leads.1 reported)
+      (subst (λ f. SurvivesForgetting store (asked_numbers steps held.journal) earlier held f new)
+      (one_result survives.0 leads.0 (sym survives.1 ∙ leads.1)) survives.2))
+  safe_behind (requests.Preview call) answer leads reported committed survives =
+      inr (ap (λ a. is_durable (as_step a)) leads.1 ∙ preview_quiet leads.0, leads.3, survives)
+  safe_behind (requests.Recover skip_moved) answer leads reported committed survives =
+      inr (ap (λ a. is_durable (as_step a)) leads.0, leads.1, survives)
+  safe_behind requests.Log answer leads reported committed survives =
+      inr (ap (λ a. is_durable (as_step a)) leads.0, leads.1, survives)
+  safe_behind (requests.Show number) answer leads reported committed survives =
+      inr (ap (λ a. is_durable (as_step a)) leads.1 ∙ shown_quiet leads.0, leads.3, survives)
+
   safe_after : (request : Request) (answer : Result Response Refusal) → LeadsTo request held answer left
       → DidNotFail answer → IsCommittedState (store.files new) left
       → SurvivesRequest store request earlier held answer new
       → IsSafeAfter (as_step answer)
-  safe_after (requests.Make call when) answer leads reported committed survives =
-      safe_after_step (IsAfterCall call when held) (as_step answer) (makes_stay call when held left answer leads)
-      (reported_as_step answer reported) committed survives
-  safe_after (requests.Forget steps) answer leads reported committed survives =
-      subst IsSafeAfter (sym (ap as_step leads.1 ∙ forgotten_as_step leads.0))
-      (safe_after_forgetting (asked_numbers steps held.journal) leads.0 leads.2 (subst DidNotFail leads.1 reported)
-      (subst (λ f. SurvivesForgetting store (asked_numbers steps held.journal) earlier held f new)
-      (one_result survives.0 leads.0 (sym survives.1 ∙ leads.1)) survives.2))
-  safe_after (requests.Preview call) answer leads reported committed survives =
-      as_quiet (as_step answer) (ap (λ a. is_durable (as_step a)) leads.1 ∙ preview_quiet leads.0) leads.3 survives
-  safe_after (requests.Recover skip_moved) answer leads reported committed survives =
-      as_quiet (as_step answer) (ap (λ a. is_durable (as_step a)) leads.0) leads.1 survives
-  safe_after requests.Log answer leads reported committed survives =
-      as_quiet (as_step answer) (ap (λ a. is_durable (as_step a)) leads.0) leads.1 survives
-  safe_after (requests.Show number) answer leads reported committed survives =
-      as_quiet (as_step answer) (ap (λ a. is_durable (as_step a)) leads.1 ∙ shown_quiet leads.0) leads.3 survives
+  safe_after request answer leads reported committed survives = behind_is_after (as_step answer)
+      (safe_behind request answer leads reported committed survives)
 
 -- one that failed left what was safe, or files in doubt
 module _ {S : Type 0} (store : Ghosts S) (earlier : Earlier) (held : State) (new : S) where
@@ -219,22 +220,15 @@ module _ {S : Type 0} (store : Ghosts S) (earlier : Earlier) (held : State) (new
       absurd (subst IsEarly (one_refusal refusal (Failed (Interrupted cause)) is) early)
   forget_failed numbers (Err other) refusal early is survives = survives
 
-  forget_stopped : (numbers : List ℕ) (forgotten : Result (List ℕ) Refusal) (cause : Cause)
+  pub forget_stopped : (numbers : List ℕ) (forgotten : Result (List ℕ) Refusal) (cause : Cause)
       → refused (Failed (Interrupted cause)) ≡ as_answer responses.Forgotten forgotten
       → SurvivesForgetting store numbers earlier held forgotten new
-      → AreBetweenStates store (record { state = earlier.state; forgetting = true }) held
-      (state_besides numbers held) new
+      → SurvivesForgetting store numbers earlier held (Err (Failed (Interrupted cause))) new
   forget_stopped numbers forgotten cause is survives =
-      by_result forgotten (sym (one_result (Err (Failed (Interrupted cause))) forgotten is)) survives
-    where
-      by_result : (forgotten : Result (List ℕ) Refusal) → forgotten ≡ Err (Failed (Interrupted cause))
-          → SurvivesForgetting store numbers earlier held forgotten new
-          → AreBetweenStates store (record { state = earlier.state; forgetting = true }) held
-          (state_besides numbers held) new
-      by_result forgotten same survives =
-          (subst (λ f. SurvivesForgetting store numbers earlier held f new) same survives).1
+      subst (λ f. SurvivesForgetting store numbers earlier held f new)
+      (sym (one_result (Err (Failed (Interrupted cause))) forgotten is)) survives
 
-  failed_safe : (request : Request) (refusal : Refusal) → IsEarly refusal
+  pub failed_safe : (request : Request) (refusal : Refusal) → IsEarly refusal
       → SurvivesRequest store request earlier held (Err refusal) new → AllRecoverToTree store earlier held new
   failed_safe (requests.Make call when) (Failed (Interrupted cause)) early survives = absurd early
   failed_safe (requests.Make call when) refusal early survives = survives
@@ -253,7 +247,7 @@ module _ {S : Type 0} (store : Ghosts S) (earlier : Earlier) (held : State) (new
   stopped_safe (requests.Make call when) cause may survives stopped = survives
   stopped_safe (requests.Forget steps) cause may survives stopped =
       let numbers = asked_numbers steps held.journal in
-      let doubt = forget_stopped numbers survives.0 cause survives.1 survives.2 in (
+      let doubt = (forget_stopped numbers survives.0 cause survives.1 survives.2).1 in (
         stopped.0,
         stopped.1,
         subst (λ s. AreBetweenStates store (record { state = earlier.state; forgetting = true }) held s new)
