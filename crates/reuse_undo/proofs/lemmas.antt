@@ -1,3 +1,2 @@
 -- Lemmas that several proofs share, by rooms.
-pub mod print
 pub mod run

@@ -1,2 +1,1 @@
-pub mod print
 pub mod run

@@ -2,13 +2,11 @@
 pub mod AfterStops
 pub mod Called
 pub mod RunResult
-pub mod Drawn
+pub mod DryRuns
 pub mod FoundNames
 pub mod LineRuns
 pub mod LinesInTurn
 pub mod OneCall
 pub mod PathsFound
 pub mod Recoveries
-pub mod RefusalTexts
 pub mod RunLine
-pub mod Texts

@@ -7,6 +7,7 @@ ghost use Rattle.reuse_folder.specs.PathLosses.{SupposesDurableTree};
 ghost use Rattle.reuse_session.specs.session.Machine.{Snapshots};
 ghost use Rattle.reuse_session.specs.session.Stops.{CrashStatesWithin, RunState, FilesAt};
 ghost use Rattle.reuse_undo.specs.run.LinesInTurn.{CarriedLine, HoldsSame, AreInTurn, RunAsModel};
+ghost use Rattle.reuse_undo.specs.run.LinesInTurn.{LineAndLoss, AreInTurnWithLosses, RunWithLosses};
 ghost use Rattle.reuse_undo.specs.run.PathsFound.{IsFoundByPaths};
 
 use reuse_disk::DiskSystem;
@@ -24,6 +25,19 @@ pub fn lines_run_as_the_model<S: Store, O: Sink>()
         → AreInTurn (HoldsSame S.Store) S.Store O.contents O.failed first lines last
         → FilesAt (S.files first) start.state start.next → (end : RunState) × RunAsModel O.contents lines start end
         × FilesAt (S.files last) end.state end.next }
+{}
+
+/// Lines are carried out so, and behind some of them the power is lost, any number of times: behind
+/// a line that ended, or that was stopped in the middle of its work. The next line finds any files
+/// that such a loss may leave, and what it finds is durable. Then what the lines report is a run of
+/// the model with stops and losses, and the files are left where that run is. A loss leads to the
+/// state where the line ended, and to no other behind a step that was made. It may lead to a step
+/// that was stopped, pending or made.
+pub fn lines_run_on_after_losses<S: Store, O: Sink>()
+    ensures { (lines : List (LineAndLoss S O)) (first last : S) (start : RunState)
+        → AreInTurnWithLosses S.Store O.contents O.failed first lines last
+        → FilesAt (S.files first) start.state start.next
+        → (end : RunState) × RunWithLosses O.contents lines start end × FilesAt (S.files last) end.state end.next }
 {}
 
 /// A folder was left by a run with stops, and its record supposes that each file of the tree was

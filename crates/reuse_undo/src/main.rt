@@ -1,7 +1,7 @@
 //! `reuse-undo`: adds licensing information to the files of a tree, and takes it back.
 //!
 //! It reads the words of the command line, runs what they ask for (`run`), prints what there is to
-//! say (`print`), and ends with the status of that. Every script of `tests/` runs it.
+//! say, and ends with the status of that (reuse_report). Every script of `tests/` runs it.
 #![tactic(auto)]
 
 ghost use Rattle.std.specs.Prelude.{◌≡◌, if◌then◌else◌, map, string_bytes, true};
@@ -10,22 +10,21 @@ ghost use Rattle.reuse_arguments.specs.HeaderTexts.{IsReadWhole};
 ghost use Rattle.reuse_shown.specs.declared.shown_name.NameDisplay.TheVariants as names;
 
 mod laws;
-mod print;
 mod run;
 
-use print::report::{report_arguments, report_outcome};
-use print::status::{Ending, exit_status};
 use reuse_arguments::file_list::with_list;
 use reuse_arguments::header_texts::{WorkingFiles, with_header_texts};
 use reuse_arguments::line::{Line, LineFault};
 use reuse_arguments::words::finder::Clap;
 use reuse_arguments::words::{ParsedArguments, words_to_command};
+use reuse_report::around::{SurroundingTree, surrounding_tree};
+use reuse_report::report::{report_arguments, report_outcome};
+use reuse_report::run_result::RunResult;
+use reuse_report::status::{Ending, exit_status};
 use reuse_session::Moment;
 use reuse_shown::error_output::ErrorOutput;
 use reuse_shown::shown_name::NameDisplay;
-use run::around::{SurroundingTree, surrounding_tree};
 use run::locked::{RunOptions, run_line};
-use run::run_result::RunResult;
 use std::alloc::Global;
 use std::env;
 use std::fs::File;

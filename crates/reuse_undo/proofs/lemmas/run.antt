@@ -2,15 +2,13 @@
 pub mod AfterStopLemmas
 pub mod CallLemmas
 pub mod CarriedInside
-pub mod DiffLemmas
-pub mod DrawnLemmas
 pub mod DrawnLines
 pub mod FoundInside
+pub mod LossesInTurn
 pub mod OneCallLemmas
 pub mod PathsFoundLemmas
 pub mod PreviewedLemmas
 pub mod ModelLemmas
 pub mod RecoveryLemmas
 pub mod SafeCalls
-pub mod TextLemmas
 pub mod TreeDiffLemmas

@@ -1,18 +1,18 @@
 -- What comes of a request on a store before its answer is printed, for private clauses.
 use Rattle.std.specs.Prelude.{◌<◌, ◌≤◌, ℕ, Result, IfOk, IfErr}
 use Rattle.std.specs.declared.vec.Vec.{Vec}
-use Rattle.reuse_store.specs.Asked.{OnlyReads}
+use Rattle.reuse_store.specs.Asked.{IsSynced, OnlyReads}
 use Rattle.reuse_change.specs.Files.{Files}
 use Rattle.reuse_store.specs.declared.store.Store.{Ghosts}
 use Rattle.reuse_command.specs.Answer.{HasCause}
 use Rattle.reuse_journal.specs.Journal.{State}
 use Rattle.reuse_journal.specs.CommittedState.{IsCommittedState}
+use Rattle.reuse_session.specs.session.Found.{AllAreAtSome, IsAfterLoss}
 use Rattle.reuse_session.specs.session.Requests.{HasCallClash, IsReading}
-use Rattle.reuse_session.specs.session.Stops.{RunState, CrashStatesWithin}
-use Rattle.reuse_undo.specs.run.Drawn.{IsDiffOfCall}
-use Rattle.reuse_undo.specs.run.RunLine.{IfNoDiff}
-use Rattle.reuse_undo.specs.print.Responses.{IsDiffOf, IsDrawnPreview}
-use Rattle.reuse_undo.specs.print.WriterFaults.{IsUndrawn}
+use Rattle.reuse_session.specs.session.Stops.{RunState, CrashStatesWithin, FilesAt}
+use Rattle.reuse_undo.specs.run.DryRuns.{IsDiffOfCall}
+use Rattle.reuse_report.specs.Responses.{IsDiffOf, IsDrawnPreview}
+use Rattle.reuse_report.specs.WriterFaults.{IfNoDiff, IsUndrawn}
 use Rattle.reuse_command.specs.declared.reply.Refusal.{Refusal}
 use Rattle.reuse_command.specs.declared.reply.Response.{Response}
 use Rattle.reuse_command.specs.declared.request.Request.{Request}
@@ -31,6 +31,9 @@ pub record IsCalled {S A : Type 0} (store : Ghosts S)
       → CrashStatesWithin store old start.state start.next start.forgetting
       → (end : RunState) × Answers request answer start end
       × CrashStatesWithin store new end.state end.next end.forgetting
+  pub after_loss : store.honest new → (start : RunState) → FilesAt (store.files old) start.state start.next
+      → IsSynced store old
+      → (end : RunState) × Answers request answer start end × AllAreAtSome store (IsAfterLoss answer start end) new
   pub reads_only : store.honest new → IsReading request → (held : State) → IsCommittedState (store.files old) held
       → OnlyReads store old new
   pub fault : IfErr answer (HasCause (store.failures old < store.failures new))

@@ -32,10 +32,11 @@ use Rattle.reuse_system.specs.declared.owner.OwnerChange.{OwnerChange}
 use Rattle.reuse_print.specs.declared.fault.Fault.{Fault}
 use Rattle.reuse_print.specs.declared.fault.Fault.TheVariants as faults
 use Rattle.reuse_print.specs.declared.output.Sink as sinks
-use Rattle.reuse_undo.specs.declared.run.access_refusal.AccessRefusal.{AccessRefusal}
-use Rattle.reuse_undo.specs.declared.run.access_refusal.AccessRefusal.TheVariants.{JournalOfAnother}
+use Rattle.reuse_report.specs.declared.access_refusal.AccessRefusal.{AccessRefusal}
+use Rattle.reuse_report.specs.declared.access_refusal.AccessRefusal.TheVariants.{JournalOfAnother}
 use Rattle.reuse_undo.specs.declared.run.locked.RunOptions.{RunOptions}
-use Rattle.reuse_undo.specs.declared.run.run_result.RunResult.{RunResult}
+use Rattle.reuse_report.specs.Endings.{result_of}
+use Rattle.reuse_report.specs.declared.run_result.RunResult.{RunResult}
 use Rattle.reuse_undo.specs.run.FoundNames.{FindsNames}
 use Rattle.reuse_undo.specs.run.OneCall.{AnswersOnce, EndsOnce, Stays, StaysThenLooks}
 
@@ -95,15 +96,15 @@ pub record AnswersLine {S O : Type 0} (store : Ghosts S) (sink : sinks.Ghosts O)
 
 -- ---- on which folder
 
--- what a store works with, as it was opened: the path of its root, what is to be synced, and whether files may lose their
--- owners
+-- what a store works with, as it was opened: the path of its root, what is to be synced, and whether files may lose
+-- their owners
 pub record OpenedStore : Type 0 where
   pub root : List ℕ
   pub unsynced : Unsynced
   pub owner_change : OwnerChange
 
--- The root was locked, and a store of it was opened. It syncs and keeps owners as the settings say; what is noted then is
--- the journal's folder.
+-- The root was locked, and a store of it was opened. It syncs and keeps owners as the settings say; what is noted then
+-- is the journal's folder.
 pub record OpensFolder (root : List ℕ) (settings : Settings) (opened : OpenedStore) : Type 0 where
   pub lock : RootLock
   pub is_of_root : string_bytes lock.root ≡ root
@@ -136,10 +137,6 @@ pub record WorksOn {S O : Type 0} (store : Ghosts S) (sink : sinks.Ghosts O) (no
   pub answers : AnswersLine store sink noted line.names (options_of line run_options)
       (with_texts texts line.request) begun left asked result.ending
   pub looks : StaysThenLooks store noted left new
-
--- no more than how it ended
-abbrev pub result_of : Result (Result ℕ Fault) AccessRefusal → RunResult
-result_of ending = record { ending = ending; rolled_back = None; diagnostics = None }
 
 -- the journal isn't trusted, and is another user's: nothing was carried out
 abbrev pub IsDenied : {S : Type 0} → Ghosts S → (noted : S → Unsynced) → Settings → (old new : S) → RunResult → Type 0

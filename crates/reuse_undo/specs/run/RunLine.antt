@@ -27,7 +27,7 @@ use Rattle.reuse_arguments.specs.declared.line.PrintOptions.{PrintOptions}
 use Rattle.reuse_print.specs.Lines.{path_count}
 use Rattle.reuse_print.specs.Outputs.{AddsFront, AddsSome}
 use Rattle.reuse_undo.specs.run.Recoveries.{RecoveryLeaves}
-use Rattle.reuse_undo.specs.print.Responses.{IsPrintedText, is_refused, IsDrawnPreview, WouldBeMade}
+use Rattle.reuse_report.specs.Responses.{IsPrintedText, is_refused, IsDrawnPreview, WouldBeMade}
 
 -- ---- from any files
 
@@ -113,8 +113,3 @@ ReportsAnswer options IsAnswer old new (Err faults.Memory) = ((response : Respon
 abbrev pub IfRefused : {T : Type 0} → Result T Fault → (Refusal → Type 0) → Type 0
 IfRefused (Err (faults.Refused refusal)) Claim = Claim refusal
 IfRefused result Claim = Unit {0}
-
--- a diff that can't be made
-abbrev pub IfNoDiff : {T : Type 0} → Result T Fault → (Refusal → Type 0) → Type 0
-IfNoDiff (Err (faults.NoDiff refusal)) Claim = Claim refusal
-IfNoDiff result Claim = Unit {0}

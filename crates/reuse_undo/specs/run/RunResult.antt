@@ -1,20 +1,22 @@
 -- What carrying out what a line asks for answers and leaves, on a store and what the answer is written to.
 use Rattle.std.specs.Prelude.{◌≡◌, ◌<◌, ◌≤◌, ℕ, Bool, List, Result, IfOk}
-use Rattle.reuse_store.specs.Asked.{OnlyReads}
+use Rattle.reuse_store.specs.Asked.{IsSynced, OnlyReads}
 use Rattle.reuse_change.specs.Files.{Files}
 use Rattle.reuse_store.specs.declared.store.Store.{Ghosts}
 use Rattle.reuse_command.specs.Answer.{HasCause}
 use Rattle.reuse_journal.specs.Journal.{State}
+use Rattle.reuse_session.specs.session.Found.{AllAreAtSome, IsAfterLoss}
 use Rattle.reuse_session.specs.session.Machine.{Snapshots}
 use Rattle.reuse_journal.specs.CommittedState.{IsCommittedState}
 use Rattle.reuse_session.specs.session.Stops.{RunState, SimulatesInFiles, FilesAt, CrashStatesWithin}
 use Rattle.reuse_undo.specs.run.AfterStops.{AnswersAfterStop}
-use Rattle.reuse_undo.specs.run.Drawn.{IsDrawnText, WouldLeave}
+use Rattle.reuse_report.specs.Drawn.{IsDrawnText}
+use Rattle.reuse_undo.specs.run.DryRuns.{WouldLeave}
 use Rattle.reuse_print.specs.Outputs.{AddsSome}
 use Rattle.reuse_session.specs.session.Requests.{HasCallClash, IsReading}
-use Rattle.reuse_undo.specs.run.RunLine.{RequestLeaves, FollowsModel, ReportsAnswer, IfRefused, IfNoDiff}
-use Rattle.reuse_undo.specs.print.Responses.{ReportsFailure}
-use Rattle.reuse_undo.specs.print.WriterFaults.{IsUndrawn}
+use Rattle.reuse_undo.specs.run.RunLine.{RequestLeaves, FollowsModel, ReportsAnswer, IfRefused}
+use Rattle.reuse_report.specs.Responses.{ReportsFailure}
+use Rattle.reuse_report.specs.WriterFaults.{IfNoDiff, IsUndrawn}
 use Rattle.reuse_print.specs.declared.fault.Fault.{Fault}
 use Rattle.reuse_arguments.specs.declared.line.OutputFormat.TheVariants.{Diff}
 use Rattle.reuse_arguments.specs.declared.line.PrintOptions.{PrintOptions}
@@ -47,6 +49,12 @@ pub record CarriesOut {S O : Type 0} (store : Ghosts S) (contents : O → List �
       → (end : RunState) × ReportsAnswer options
       (λ answer. AnswersAfterStop request answer start end) (contents before) (contents after) result
       × CrashStatesWithin store new end.state end.next end.forgetting
+  -- From files of which nothing else may be left, and that an earlier stop may have left in doubt: all that a loss of
+  -- power may leave then is where the run of the model goes on after it.
+  pub after_loss : store.honest new → (start : RunState) → FilesAt (store.files old) start.state start.next
+      → IsSynced store old → ReportsAnswer options
+      (λ answer. (end : RunState) × AnswersAfterStop request answer start end
+      × AllAreAtSome store (IsAfterLoss answer start end) new) (contents before) (contents after) result
   -- where a dry run's diff is wanted it stands behind the lines: the diff of the tree as it is, and of that which the
   -- call would leave
   pub drawn : store.honest new → (held : State) → IsCommittedState (store.files old) held → options.format ≡ Diff

@@ -10,26 +10,21 @@ ghost use Rattle.reuse_session.specs.session.Requests.{Previews, ReadsOnlyWithCa
 ghost use Rattle.reuse_undo.specs.run.OneCall.{Answers, AnswersOnce, EndsOnce, LooksAt, LooksThenSees};
 ghost use Rattle.reuse_undo.specs.run.OneCall.{is_failure, MakesOnce};
 
-use crate::run::access_refusal::AccessRefusal;
-use crate::run::line::is_refused;
 use crate::run::on_folder::{list_on_folder, run_on_folder};
 use reuse_arguments::line::PrintOptions;
-use reuse_change::PathText;
 use reuse_folder::HostStore;
 use reuse_print::fault::Fault;
 use reuse_print::output::{Output, Sink};
-use reuse_session::{Call, Counts, PathOutcome, PathOutcomes, Refusal, Request, Session};
+use reuse_report::access_refusal::{AccessRefusal, access_refusal_among};
+use reuse_report::run_result::CallEnding;
+use reuse_session::{Call, Counts, PathOutcomes, Refusal, Request, Session};
 use reuse_shown::progress::{ClearedOutput, Progress};
 use reuse_store::Store;
-use reuse_system::place::ends_in_long_name;
 use std::alloc::Global;
 use std::fs::File;
 use std::io::{self, Printer};
 use std::rt::{Clock, Env, Files};
 use std::time::{Duration, SystemTime, UNIX_EPOCH};
-
-/// How a call ends: its outcome, or why it isn't begun.
-pub type CallEnding = Result<Result<usize, Fault>, AccessRefusal>;
 
 /// The standard output, which clears the line of the progress before it takes bytes.
 pub type Printed<'a, R> = Output<ClearedOutput<'a, R, Printer<'a, R>>>;
@@ -167,48 +162,6 @@ fn first_access_refusal<R: Files<File = File> + AllocGlobal + Clone + Drop>(
         Err(_) => None,
     };
     (folder, access_refusal)
-}
-
-fn access_refusal_among<R: Files<File = File> + AllocGlobal + Clone + Drop>(
-    alloc: Global,
-    folder: &mut HostStore<R>,
-    path_outcomes: &[PathOutcome],
-) -> Option<AccessRefusal>
-    ensures { folder.new.folder.unsynced ≡ folder.old.folder.unsynced }
-{
-    if is_refused(path_outcomes) {
-        return None;
-    }
-    for path_outcome in path_outcomes {
-        if let PathOutcome::Changes { path, harm: _ } = path_outcome
-            && let Some(access_refusal) = access_refusal_of(alloc, folder, path)
-        {
-            return Some(access_refusal);
-        }
-    }
-    None
-}
-
-/// Why the file at this path can't be written, if that shows before.
-fn access_refusal_of<R: Files<File = File> + AllocGlobal + Clone + Drop>(
-    alloc: Global,
-    folder: &mut HostStore<R>,
-    path: &PathText,
-) -> Option<AccessRefusal>
-    ensures { folder.new.folder.unsynced ≡ folder.old.folder.unsynced }
-{
-    if ends_in_long_name(path.text()) {
-        return Some(AccessRefusal::NameTooLong(file_of(alloc, path)?));
-    }
-    let is_lost = folder.may_write(alloc, path) == Ok(false);
-    let path = path.try_clone(alloc).ok()?;
-    is_lost.then_some(AccessRefusal::CannotKeepOwner(path))
-}
-
-/// The file that the one at this path is the neighbour of, if it is one.
-fn file_of(alloc: Global, path: &PathText) -> Option<PathText> {
-    let file = path.text().strip_suffix(".license");
-    PathText::new(alloc, file.unwrap_or(path.text())).ok()
 }
 
 /// What a call would do, path by path. Nothing is changed, unless a step is pending, which is

@@ -2,29 +2,23 @@
 //! diff where one is wanted, and prints the answer. The files and the lines are those of the model,
 //! on any store (`run_request`). `on_folder` calls it. Tested by `tests/worked_lines.sh` and
 //! `tests/dry_run.sh`.
-ghost use Rattle.std.specs.Prelude.{◌≡◌, None, IfOk, IfErr, IfSome, IsSomeAnd};
-ghost use Rattle.reuse_store.specs.Asked.{OnlyReads};
-ghost use Rattle.reuse_change.specs.Files.{Files, tree_of};
+ghost use Rattle.std.specs.Prelude.{◌≡◌, IfSome};
 ghost use Rattle.reuse_undo.specs.run.AfterStops.{AnswersAfterStop, OpensToAnswer};
 ghost use Rattle.reuse_undo.specs.run.Called.{IsCalled};
 ghost use Rattle.reuse_undo.specs.run.RunResult.{CarriesOut};
-ghost use Rattle.reuse_undo.specs.run.Drawn.{LeadsAsPreviewed, LeadsAsPreviewedAccepted, IsTreeDiff};
+ghost use Rattle.reuse_undo.specs.run.DryRuns.{LeadsAsPreviewedAccepted};
 ghost use Rattle.reuse_session.specs.session.Requests.{IsAnswered};
 ghost use Rattle.reuse_undo.specs.run.RunLine.{RequestLeaves, SessionLeaves};
-ghost use Rattle.reuse_undo.specs.print.Responses.{IsAccepted, IsNoDiff};
-ghost use Rattle.reuse_undo.specs.print.WriterFaults.{IsOfDiff};
+ghost use Rattle.reuse_report.specs.Responses.{IsAccepted};
 
-mod drawn;
 mod planned;
-mod printed;
 
-use drawn::draw;
-use planned::{PlannedChanges, ask_with_changes};
-use printed::finish;
-pub use printed::is_refused;
+use planned::ask_with_changes;
 use reuse_arguments::line::{OutputFormat, PrintOptions};
 use reuse_print::fault::Fault;
 use reuse_print::output::Sink;
+use reuse_report::drawn::{PlannedChanges, draw_planned};
+use reuse_report::printed::finish;
 use reuse_session::{Answer, Counts, Request, Session, recover, recovered_answer};
 use reuse_store::Store;
 use std::alloc::Global;
@@ -115,39 +109,4 @@ fn ask_for<S: Store + Drop>(
         OutputFormat::Diff => ask_with_changes(alloc, session, request),
         _ => (session.answer(alloc, request), None),
     }
-}
-
-// The diff of what would change, or none. It only reads.
-fn draw_planned<S: Store + Drop>(
-    alloc: Global,
-    store: S,
-    planned: Option<PlannedChanges>,
-) -> (S, Result<Vec<u8>, Fault>)
-    ensures drawn { S.honest result.0 → (before : Files) → (after : Files) → tree_of (S.files store) ≡ before
-        → IsSomeAnd planned (λ planned. LeadsAsPreviewed planned before after)
-        → IfOk result.1 (λ text. IsTreeDiff before after text.items) }
-    ensures none { planned ≡ None → IsNoDiff result.1 }
-    ensures reads { OnlyReads S.Store store result.0 }
-    ensures diff { IfErr result.1 (IsOfDiff S.Store store result.0) }
-{
-    match planned {
-        Some(planned) => draw_from(alloc, store, &planned),
-        None => (store, Ok(Vec::new(alloc))),
-    }
-}
-
-fn draw_from<S: Store + Drop>(
-    alloc: Global,
-    store: S,
-    planned: &PlannedChanges,
-) -> (S, Result<Vec<u8>, Fault>)
-    ensures drawn { S.honest result.0 → (before : Files) → (after : Files) → tree_of (S.files store) ≡ before
-        → LeadsAsPreviewed planned.now before after
-        → IfOk result.1 (λ text. IsTreeDiff before after text.items) }
-    ensures reads { OnlyReads S.Store store result.0 }
-    ensures diff { IfErr result.1 (IsOfDiff S.Store store result.0) }
-{
-    let mut store = store;
-    let diff = draw(alloc, &mut store, planned);
-    (store, diff)
 }

@@ -11,13 +11,9 @@ ghost use Rattle.reuse_undo.specs.run.LineRuns.{AnswersLine, HoldsStart, OpensFo
 ghost use Rattle.reuse_undo.specs.run.LineRuns.{WorksUnlessDenied, is_listing, options_of};
 ghost use Rattle.reuse_undo.specs.run.OneCall.{StaysThenLooks};
 
-use crate::run::access_refusal::AccessRefusal;
 use crate::run::adding::with_styles;
-use crate::run::answering::{Asking, CallEnding, Printed, answer};
-use crate::run::diagnostics::{Diagnostics, RequestKind};
-use crate::run::reads::pending_step;
-use crate::run::run_result::{RunResult, rolled_back_step};
-use crate::run::texts::find_texts;
+use crate::run::answering::{Asking, Printed, answer};
+use crate::run::findings::look_after;
 use reuse_arguments::line::{Line, NamesUse, PrintOptions};
 use reuse_arguments::request::{ids_of, with_texts};
 use reuse_arguments::settings::Settings;
@@ -25,6 +21,11 @@ use reuse_folder::HostStore;
 use reuse_lock::{RootLock, lock_root};
 use reuse_print::fault::Fault;
 use reuse_print::output::Sink;
+use reuse_report::access_refusal::AccessRefusal;
+use reuse_report::diagnostics::{Diagnostics, RequestKind};
+use reuse_report::reads::pending_step;
+use reuse_report::run_result::{CallEnding, RunResult, rolled_back_step};
+use reuse_report::texts::find_texts;
 use reuse_session::{Counts, LicenceTexts, Refusal, Request};
 use reuse_shown::progress::Progress;
 use reuse_shown::shown_name::NameDisplay;
@@ -294,7 +295,7 @@ fn found_after<R: Files<File = File> + AllocGlobal + Clone + Drop>(
 {
     match (diagnostics, ending) {
         (Some(mut diagnostics), Ok(outcome)) => {
-            let folder = diagnostics.look_after(rt, alloc, folder, request, outcome);
+            let folder = look_after(&mut diagnostics, rt, alloc, folder, request, outcome);
             (folder, Some(diagnostics))
         }
         (diagnostics, _) => (folder, diagnostics),

@@ -5,16 +5,19 @@ use Rattle.reuse_change.specs.Files.{Files}
 use Rattle.reuse_store.specs.declared.store.Store.{Ghosts}
 use Rattle.reuse_command.specs.Answer.{HasCause}
 use Rattle.reuse_journal.specs.CommittedState.{IsCommittedState}
-use Rattle.reuse_session.specs.session.Stops.{SimulatesInFiles, FilesAt}
+use Rattle.reuse_session.specs.session.Found.{AllAreAtSome, IsAfterLoss}
+use Rattle.reuse_session.specs.session.Stops.{RunState, SimulatesInFiles, FilesAt}
 use Rattle.reuse_command.specs.declared.reply.Refusal.{Refusal}
+use Rattle.reuse_undo.specs.run.AfterStops.{AnswersAfterStop}
 use Rattle.reuse_undo.specs.run.RunResult.{CarriesOut}
 use Rattle.reuse_session.specs.session.Requests.{HasCallClash}
-use Rattle.reuse_undo.specs.run.RunLine.{RequestLeaves, FollowsModel, ReportsAnswer, IfRefused, IfNoDiff}
-use Rattle.reuse_undo.specs.print.WriterFaults.{IsUndrawn}
+use Rattle.reuse_undo.specs.run.RunLine.{RequestLeaves, FollowsModel, ReportsAnswer, IfRefused}
+use Rattle.reuse_report.specs.WriterFaults.{IfNoDiff, IsUndrawn}
 use Rattle.reuse_print.specs.declared.fault.Fault.{Fault}
 use Rattle.reuse_print.specs.declared.fault.Fault.TheVariants as faults
 use Rattle.reuse_arguments.specs.declared.line.PrintOptions.{PrintOptions}
 use Rattle.reuse_command.specs.declared.request.Request.{Request}
+use Rattle.reuse_undo.proofs.lemmas.run.LossesInTurn.{reports_also}
 use Rattle.reuse_undo.proofs.lemmas.run.SafeCalls.{found_alike}
 
 -- the one holds what the other holds, a loss of power leaves the same, and they count and are honest alike
@@ -93,6 +96,17 @@ same_inside outer inner contents has_failed request options before after old new
             found_alike outer inner after new (sym a.files) a.gives_left (at.0).state (at.0).next
                 (at.0).forgetting at.2,
           );
+      after_loss = λ honest start found synced.
+          reports_also options
+          (λ answer. (end : RunState) × AnswersAfterStop request answer start end
+          × AllAreAtSome outer (IsAfterLoss answer start end) after)
+          (λ answer. (end : RunState) × AnswersAfterStop request answer start end
+          × AllAreAtSome inner (IsAfterLoss answer start end) new)
+          (λ answer at. (at.0, at.1, λ file may. at.2 file (a.gives_left file may)))
+          (contents out) (contents left) result
+          (carried.after_loss (a.gives honest) start
+          (subst (λ f. FilesAt f start.state start.next) (sym b.files) found)
+          (λ file may. synced file (b.takes_left file may) ∙ sym b.files));
       drawn = λ honest held committed. carried.drawn (a.gives honest) held
           (subst (λ f. IsCommittedState f held) (sym b.files) committed);
       reads_only = λ honest look held committed.

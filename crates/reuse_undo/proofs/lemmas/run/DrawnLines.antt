@@ -7,10 +7,11 @@ use Rattle.reuse_session.specs.session.Requests.{IsReading, Meets, as_answer}
 use Rattle.reuse_command.specs.declared.path_outcome.PathOutcome.{PathOutcome}
 use Rattle.reuse_command.specs.declared.reply.Refusal.{Refusal}
 use Rattle.reuse_command.specs.declared.reply.Response.TheVariants as responses
-use Rattle.reuse_undo.specs.run.Drawn.{IsDiffOfCall, IsDrawnText, IsTreeDiff, WouldLeave}
+use Rattle.reuse_report.specs.Drawn.{IsDrawnText, IsTreeDiff}
+use Rattle.reuse_undo.specs.run.DryRuns.{IsDiffOfCall, WouldLeave}
 use Rattle.reuse_print.specs.Outputs.{AddsSome}
 use Rattle.reuse_undo.specs.run.RunLine.{RequestLeaves, SessionLeaves}
-use Rattle.reuse_undo.specs.print.Responses.{Finishes, HasBehind, IsDrawnPreview, IsWanted, WouldBeMade}
+use Rattle.reuse_report.specs.Responses.{Finishes, HasBehind, IsDrawnPreview, IsWanted, WouldBeMade}
 use Rattle.reuse_print.specs.declared.fault.Fault.{Fault}
 use Rattle.reuse_arguments.specs.declared.line.OutputFormat.TheVariants.{Diff}
 use Rattle.reuse_arguments.specs.declared.line.PrintOptions.{PrintOptions}

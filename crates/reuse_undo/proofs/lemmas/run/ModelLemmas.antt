@@ -26,7 +26,7 @@ use Rattle.reuse_print.specs.Outputs.{AddsSome}
 use Rattle.reuse_undo.specs.run.Recoveries.{RecoveryLeaves}
 use Rattle.reuse_undo.specs.run.RunLine.{AnswersOn, IsUnopened, IsMade, RequestLeaves, SessionLeaves, FollowsModel}
 use Rattle.reuse_undo.specs.run.RunLine.{ReportsAnswer, IfRefused}
-use Rattle.reuse_undo.specs.print.Responses.{IsPrintedText, Finishes}
+use Rattle.reuse_report.specs.Responses.{IsPrintedText, Finishes}
 
 -- ---- from a state of the model
 

@@ -10,7 +10,7 @@ use Rattle.reuse_disk.specs.declared.syncs.Unsynced.{Unsynced}
 use Rattle.reuse_print.specs.declared.fault.Fault.{Fault}
 use Rattle.reuse_print.specs.declared.fault.Fault.TheVariants as faults
 use Rattle.reuse_print.specs.declared.output.Sink as sinks
-use Rattle.reuse_undo.specs.declared.run.access_refusal.AccessRefusal.{AccessRefusal}
+use Rattle.reuse_report.specs.declared.access_refusal.AccessRefusal.{AccessRefusal}
 use Rattle.reuse_undo.specs.run.LineRuns.{AnswersLine, IsAnsweredSo, is_listing}
 use Rattle.reuse_undo.specs.run.OneCall.{AnswersOnce, EndsOnce, Stays}
 

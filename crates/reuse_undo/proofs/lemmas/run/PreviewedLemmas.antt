@@ -28,12 +28,13 @@ use Rattle.reuse_session.proofs.lemmas.session.Answering.{answered_look, fails_e
 use Rattle.reuse_session.proofs.lemmas.session.Peeking.{refused, same_refusal, reads_with_cause_err}
 use Rattle.reuse_session.proofs.lemmas.session.Peeking.{reads_with_cause_ok}
 use Rattle.reuse_session.proofs.lemmas.session.Previewing.{alone_where, reported_alone}
-use Rattle.reuse_undo.specs.run.Drawn.{planned_in, planned_unless, LeadsAsPreviewed, IsAnsweredWith, WouldLeave}
+use Rattle.reuse_report.specs.Drawn.{LeadsAsPreviewed}
+use Rattle.reuse_undo.specs.run.DryRuns.{planned_in, planned_unless, IsAnsweredWith, WouldLeave}
 use Rattle.reuse_session.specs.session.Requests.{IsAnswered, ReadsOnlyWithCause, Previews, as_answer}
-use Rattle.reuse_undo.specs.print.Responses.{is_refused, IsAccepted}
+use Rattle.reuse_report.specs.Responses.{is_refused, IsAccepted}
 use Rattle.reuse_command.specs.declared.request.Request.{Request}
 use Rattle.reuse_command.specs.declared.request.Request.TheVariants as requests
-use Rattle.reuse_undo.specs.declared.run.line.planned.PlannedChanges.{PlannedChanges}
+use Rattle.reuse_report.specs.declared.drawn.PlannedChanges.{PlannedChanges}
 use Rattle.reuse_undo.proofs.lemmas.run.TreeDiffLemmas.{going, plan_previews, replay_previews}
 
 -- ---- what is answered

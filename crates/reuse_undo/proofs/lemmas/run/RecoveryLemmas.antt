@@ -21,10 +21,10 @@ use Rattle.reuse_print.specs.declared.fault.Fault.{Fault}
 use Rattle.reuse_arguments.specs.declared.line.PrintOptions.{PrintOptions}
 use Rattle.reuse_undo.specs.run.AfterStops.{AnswersAfterStop, OpensToAnswer}
 use Rattle.reuse_undo.specs.run.Called.{IsCalled}
-use Rattle.reuse_undo.specs.run.Drawn.{IsDiffOfCall}
+use Rattle.reuse_undo.specs.run.DryRuns.{IsDiffOfCall}
 use Rattle.reuse_undo.specs.run.Recoveries.{RefusesToRecover}
 use Rattle.reuse_undo.specs.run.RunLine.{RequestLeaves, SessionLeaves}
-use Rattle.reuse_undo.specs.print.Responses.{IsDiffOf, IsDrawnPreview}
+use Rattle.reuse_report.specs.Responses.{IsDiffOf, IsDrawnPreview}
 use Rattle.reuse_journal.proofs.PendingRecovery.{none_in_files}
 
 -- no step is pending in files that are a committed state
@@ -80,6 +80,7 @@ called_besides store (requests.Recover skip_moved) options old new answer diff o
 called_besides store request options old new answer diff other called = record {
   carries = called.carries;
   survives = called.survives;
+  after_loss = called.after_loss;
   reads_only = called.reads_only;
   fault = called.fault;
   clash = called.clash;

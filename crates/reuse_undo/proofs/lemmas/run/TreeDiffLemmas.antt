@@ -1,14 +1,12 @@
--- What is drawn of a call is the diff of the tree as it is and of that which the call would leave.
+-- What would change leads from the tree as it is to that which the call would leave.
 use Rattle.std.proofs.Common.{◌≡◌, ◌↔◌, inl, inr, ◌∙◌, ℕ, Bool, true, false, not, List, [], ◌∷◌, ◌++◌, Option, Some}
-use Rattle.std.proofs.Common.{None, Result, Ok, Err, IfOk, refl, sym, ap, subst, arith}
+use Rattle.std.proofs.Common.{None, Result, Ok, Err, refl, sym, ap, subst, arith}
 use Rattle.std.specs.Cmp.Lexicographic.{slice_cmp}
 use Rattle.std.specs.FinMap.{get, keys, entries, from_entries, retain_keys, contains_key-keys}
 use Rattle.std.specs.Ordering.{nat_cmp}
 use Rattle.std.specs.Str.{bytes_eq}
-use Rattle.std.specs.declared.vec.Vec.{Vec}
 use Rattle.std.proofs.lemmas.Bool.{false≢true}
 use Rattle.std.proofs.lemmas.Slice.Eq.{bytes_eq-Decides}
-use Rattle.reuse_change.specs.Change.{path_of}
 use Rattle.reuse_change.specs.Entry.{paths_of, IsEntry, LeadsAll, LeadsBy}
 use Rattle.reuse_change.specs.Files.{Files}
 use Rattle.reuse_change.specs.Tree.{same_file, changed_paths, undo_folder_of}
@@ -37,9 +35,8 @@ use Rattle.reuse_command.specs.declared.reply.Reverted.{Reverted}
 use Rattle.reuse_session.specs.declared.session.Session.{Session}
 use Rattle.reuse_journal.proofs.JournalLemmas.{same_entry}
 use Rattle.reuse_session.proofs.lemmas.session.StepsByNumber.{says_step}
-use Rattle.reuse_undo.specs.run.Drawn.{AreDiffs, LeadsAsPreviewed, IsPathDiff, IsTreeDiff}
-use Rattle.reuse_shown.specs.JoinedTexts.{AreJoined}
-use Rattle.reuse_undo.specs.declared.run.line.planned.PlannedChanges.{PlannedChanges}
+use Rattle.reuse_report.specs.Drawn.{LeadsAsPreviewed}
+use Rattle.reuse_report.specs.declared.drawn.PlannedChanges.{PlannedChanges}
 
 -- ---- the paths at which two trees differ, either way
 
@@ -71,28 +68,6 @@ module _ (before after : Files) where
       sym (among_keys there path) ∙ among_changed before after path ∙ ap not
       (same_file_back (get before path) (get after path)) ∙ sym (among_changed after before path) ∙ among_keys back path
       ∙ contains_key-keys back path)
-
--- ---- changes that are drawn
-
-joined_paths : (IsText : List ℕ → List ℕ → Type 0) (changes : List Change) (text : List ℕ)
-    → AreJoined (λ change. IsText (path_of change)) changes text → AreJoined IsText (paths_of changes) text
-joined_paths IsText [] text all = all
-joined_paths IsText (change ∷ changes) text all =
-    (all.0, (all.1.0, (all.1.1.0, (joined_paths IsText changes all.1.0 all.1.1.1.0, all.1.1.1.1))))
-
--- the diffs of all paths at which the trees differ are the diff of the trees
-pub tree_diff : (before after : Files) (changes : List Change) (text : List ℕ)
-    → changed_paths before after ≡ paths_of changes → AreDiffs before after changes text → IsTreeDiff before after text
-tree_diff before after changes text same all =
-    subst (λ paths. AreJoined (IsPathDiff before after) paths text) (sym same)
-    (joined_paths (IsPathDiff before after) changes text all)
-
-pub drawn_trees : {A E : Type 0} (before after : Files) (changes : List Change) (result : Result (Vec ℕ A) E)
-    → changed_paths before after ≡ paths_of changes
-    → IfOk result (λ text. AreDiffs before after changes text.items)
-    → IfOk result (λ text. IsTreeDiff before after text.items)
-drawn_trees before after changes (Ok text) same all = tree_diff before after changes text.items same all
-drawn_trees before after changes (Err fault) same all = tt
 
 -- ---- a run
 

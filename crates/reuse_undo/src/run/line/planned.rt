@@ -2,22 +2,16 @@
 //! what would change are of one plan.
 ghost use Rattle.std.specs.Prelude.{◌≡◌};
 ghost use Rattle.reuse_session.specs.session.Previews.{path_outcomes_alone};
-ghost use Rattle.reuse_undo.specs.run.Drawn.{planned_in, planned_unless, IsAnsweredWith};
+ghost use Rattle.reuse_undo.specs.run.DryRuns.{planned_in, planned_unless, IsAnsweredWith};
 ghost use Rattle.reuse_session.specs.session.Requests.{as_answer};
 
-use super::printed::is_refused;
 use reuse_change::Direction;
 use reuse_change::Direction::{Backward, Forward};
+use reuse_report::drawn::PlannedChanges;
+use reuse_report::printed::is_refused;
 use reuse_session::{Answer, Call, Changes, Previewed, Refusal, Request, Response, Session};
 use reuse_store::Store;
 use std::alloc::Global;
-
-/// What a call would change, and which way the changes are gone through.
-#[derive(Drop)]
-pub struct PlannedChanges {
-    pub changes: Changes,
-    pub direction: Direction,
-}
 
 /// Makes the call. Of a dry run without a refusal what would change is answered too.
 pub fn ask_with_changes<S: Store + Drop>(

@@ -3,13 +3,15 @@ use Rattle.reuse_command.specs.Answer.{HasCause}
 use Rattle.reuse_command.specs.declared.reply.Response.TheVariants as responses
 use Rattle.reuse_command.specs.declared.request.Request.TheVariants as requests
 use Rattle.reuse_session.specs.session.Requests.{HasCallClash}
-use Rattle.reuse_session.specs.session.Stops.{Recovers, closed}
+use Rattle.reuse_session.specs.session.Found.{AllAreAtSome, IsAfterLoss}
+use Rattle.reuse_session.specs.session.Stops.{RunState, Recovers, closed}
 use Rattle.reuse_undo.specs.run.AfterStops.{AnswersAfterStop}
 use Rattle.reuse_undo.specs.run.Called.{IsCalled}
 use Rattle.reuse_undo.specs.run.RunLine.{RequestLeaves}
 use Rattle.reuse_command.proofs.OnlyReading.{early_files}
 use Rattle.reuse_session.proofs.lemmas.session.Answering.{err_as_answer}
 use Rattle.reuse_session.proofs.lemmas.session.ClosedRecovery.{recovers_safely}
+use Rattle.reuse_session.proofs.lemmas.session.FoundAnswers.{recovered_points}
 use Rattle.reuse_undo.proofs.lemmas.run.RecoveryLemmas.{called_besides, none_drawn, none_of, none_pending, refuses}
 use Rattle.reuse_undo.proofs.run.line.call.Goals as goal
 
@@ -43,6 +45,11 @@ returns-in-Recover g c =
           let end = recovers_safely store old new skip_moved (closed start) refl reported found
           (recover.recovered honest) (recover.recovers honest) (recover.survives honest) in
           (end.0, subst (λ a. Recovers a (closed start) end.0) (sym c.recovered_answer-answer.ensures) end.1, end.3);
+      after_loss = λ honest start found synced.
+          let end = recovered_points store old new synced start skip_moved reported found (recover.recovered honest)
+          (recover.recovers honest) (recover.survives honest) in
+          subst (λ a. (end : RunState) × Recovers a (closed start) end
+          × AllAreAtSome store (IsAfterLoss a start end) new) (sym c.recovered_answer-answer.ensures) end;
       reads_only = λ honest look held committed. recover.quiet honest held.journal (none_pending before held committed);
       fault = subst (λ a. IfErr a (HasCause (store.failures old < store.failures new)))
           (sym c.recovered_answer-answer.ensures) (err_as_answer responses.Recovered reported _ recover.fault);

@@ -1,15 +1,17 @@
-use Rattle.std.proofs.Common.{◌<◌, ◌≤◌, ◌∙◌, inl, is_some, IfErr, refl, sym, ap, subst, arith}
+use Rattle.std.proofs.Common.{◌<◌, ◌≤◌, ◌∙◌, inl, inr, is_some, IfErr, refl, sym, ap, subst, arith}
 use Rattle.reuse_store.specs.Asked.{OnlyReads}
 use Rattle.reuse_change.specs.Files.{tree_of}
 use Rattle.reuse_session.specs.session.Session.{store_of}
 use Rattle.reuse_session.specs.session.Requests.{HasCallClash}
+use Rattle.reuse_session.specs.session.Stops.{closed}
 use Rattle.reuse_undo.specs.run.RunLine.{SessionLeaves}
 use Rattle.reuse_store.proofs.AskedLemmas.{reads_more}
+use Rattle.reuse_session.proofs.lemmas.session.FoundAnswers.{asked_points, refused_points}
 use Rattle.reuse_session.proofs.lemmas.session.Peeking.{caused}
 use Rattle.reuse_session.proofs.lemmas.session.SafeDriving.{closed_safely}
 use Rattle.reuse_undo.proofs.lemmas.run.CallLemmas.{carried, found_again, meets_by, unclashed}
-use Rattle.reuse_undo.proofs.lemmas.run.DiffLemmas.{accepted_where, diff_after, diff_for, format_where, held_of}
-use Rattle.reuse_undo.proofs.lemmas.run.DiffLemmas.{is_none_of, undrawn_by, wanted_where}
+use Rattle.reuse_report.proofs.DiffLemmas.{accepted_where, diff_after, diff_for, format_where, held_of}
+use Rattle.reuse_report.proofs.DiffLemmas.{is_none_of, undrawn_by, wanted_where}
 use Rattle.reuse_undo.proofs.lemmas.run.DrawnLines.{diff_of_call, drawn_where_wanted}
 use Rattle.reuse_undo.proofs.lemmas.run.SafeCalls.{answers_safely, found_alike}
 use Rattle.reuse_undo.proofs.run.line.call_session.Goals as goal
@@ -45,6 +47,14 @@ returns-in-Ok g c =
             end.1,
             found_alike store store (store_of session) last (reads.files honest) reads.may (end.0).state (end.0).next
                 (end.0).forgetting end.2,
+          );
+      after_loss = λ honest start found synced.
+          let at = asked_points store opened session request asked.result.0 answered (reads.was_honest honest) start
+          c.args.store found synced
+          (λ earlier held next doubt. c.in-Ok.ensures.survives earlier held next doubt (was honest)) in (
+            closed at.2.0,
+            inr (at.0, at.1, (at.2.0, at.2.1, refl)),
+            λ left may. at.2.2 left (reads.may left may),
           );
       reads_only = λ honest look held committed.
           reads_more store c.args.store (store_of session) last
@@ -109,6 +119,11 @@ returns-in-Err g c =
           (λ first second doubt. refused.recovers first second doubt honest)
           (λ earlier held next doubt. refused.survives earlier held next doubt honest) in
           (at.0, inl (c.in-Err.refusal, refl, at.1), at.2.1);
+      after_loss = λ honest start found synced.
+          let at = refused_points store c.args.store c.in-Err.store synced start c.in-Err.refusal found
+          (λ first second doubt. (refused.recovers first second doubt honest).0)
+          (λ earlier held next doubt. refused.survives earlier held next doubt honest) in
+          (at.0, inl (c.in-Err.refusal, refl, at.1), at.2);
       reads_only = λ honest look held committed. refused.quiet honest held committed;
       fault = refused.fault;
       clash = λ honest held committed. unclashed c.args.request.now held (store.files c.args.store) c.in-Err.refusal

@@ -1,17 +1,18 @@
 use Rattle.std.proofs.Common.{◌≡◌, ◌<◌, Result, Ok, Err, IfOk, IfErr, refl, subst}
 use Rattle.std.proofs.lemmas.Result.{IfOk-at_ok}
 use Rattle.reuse_command.specs.Answer.{HasCause}
+use Rattle.reuse_session.specs.session.Found.{AllAreAtSome, IsAfterLoss}
 use Rattle.reuse_session.specs.session.Stops.{RunState, FilesAt, CrashStatesWithin}
 use Rattle.reuse_undo.specs.run.AfterStops.{AnswersAfterStop}
-use Rattle.reuse_undo.specs.run.Drawn.{IsDiffOfCall}
+use Rattle.reuse_undo.specs.run.DryRuns.{IsDiffOfCall}
 use Rattle.reuse_session.specs.session.Requests.{HasCallClash}
 use Rattle.reuse_undo.specs.run.RunLine.{RequestLeaves, FollowsModel}
-use Rattle.reuse_undo.specs.print.Responses.{IsDrawnPreview}
-use Rattle.reuse_undo.specs.print.WriterFaults.{IsUndrawn}
+use Rattle.reuse_report.specs.Responses.{IsDrawnPreview}
+use Rattle.reuse_report.specs.WriterFaults.{IsUndrawn}
 use Rattle.reuse_command.specs.declared.reply.Refusal.{Refusal}
 use Rattle.reuse_command.specs.declared.reply.Response.{Response}
 use Rattle.reuse_undo.proofs.lemmas.run.AfterStopLemmas.{answers_after_stop, reports_end}
-use Rattle.reuse_undo.proofs.lemmas.run.DiffLemmas.{undrawn_reported}
+use Rattle.reuse_report.proofs.DiffLemmas.{undrawn_reported}
 use Rattle.reuse_undo.proofs.lemmas.run.DrawnLines.{drawn_in_lines, previews_report, reported_diff}
 use Rattle.reuse_undo.proofs.lemmas.run.ModelLemmas.{carries_as, carries_step, reports_of, no_refusal}
 use Rattle.reuse_undo.proofs.run.line.run_request.Goals as goal
@@ -48,6 +49,12 @@ returns-in-Ok g c =
           reports_end c.args.options (λ end answer. AnswersAfterStop request answer start end) Ends old new outcome
           (reports_of c.args.options Is c.in-Ok.response old new outcome
           (subst Is c.in-Ok.is (c.call-store.ensures.survives honest start found)) finishes);
+      after_loss = λ honest start found synced.
+          let Is = (λ (answer : Result Response Refusal). (end : RunState)
+          × AnswersAfterStop request answer start end
+          × AllAreAtSome g.S.Store (IsAfterLoss answer start end) left) in
+          reports_of c.args.options Is c.in-Ok.response old new outcome
+          (subst Is c.in-Ok.is (c.call-store.ensures.after_loss honest start found synced)) finishes;
       drawn = λ honest held committed wants tree would.
           let states = previews_report request held tree before after c.in-Ok.response would (carries honest) in
           drawn_in_lines c.args.options held.tree tree c.in-Ok.response states.0 old new outcome c.call-store.result.2
@@ -86,6 +93,12 @@ returns-in-Err g c =
           × CrashStatesWithin g.S.Store left end.state end.next end.forgetting) c.in-Err.is
           (c.call-store.ensures.survives honest start found) in
           (at.0, (at.1, refl), at.2);
+      after_loss = λ honest start found synced. (
+        subst (λ answer. (end : RunState) × AnswersAfterStop request answer start end
+            × AllAreAtSome g.S.Store (IsAfterLoss answer start end) left) c.in-Err.is
+            (c.call-store.ensures.after_loss honest start found synced),
+        refl,
+      );
       drawn = λ honest held committed wants tree would. tt;
       reads_only = c.call-store.ensures.reads_only;
       quiet = refl;

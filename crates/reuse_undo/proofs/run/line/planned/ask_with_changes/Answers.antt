@@ -1,6 +1,6 @@
 use Rattle.std.proofs.Common.{sym, subst}
 use Rattle.reuse_command.specs.declared.request.Request.{Request}
-use Rattle.reuse_undo.specs.run.Drawn.{IsAnsweredWith}
+use Rattle.reuse_undo.specs.run.DryRuns.{IsAnsweredWith}
 use Rattle.reuse_undo.proofs.run.line.planned.ask_with_changes.Goals as goal
 
 pub returns-in-Preview : goal.returns-in-Preview

@@ -3,7 +3,7 @@ use Rattle.reuse_change.specs.Files.{Files}
 use Rattle.reuse_change.specs.declared.direction.Direction.TheVariants as go
 use Rattle.reuse_command.specs.declared.request.Call.{Call}
 use Rattle.reuse_command.specs.declared.request.Call.TheVariants as calls
-use Rattle.reuse_undo.specs.run.Drawn.{IsAnsweredWith}
+use Rattle.reuse_undo.specs.run.DryRuns.{IsAnsweredWith}
 use Rattle.reuse_command.specs.declared.request.Request.TheVariants as requests
 use Rattle.reuse_undo.proofs.lemmas.run.PreviewedLemmas.{answered_with, call_answered, run_previews, step_previews}
 use Rattle.reuse_session.proofs.lemmas.session.Peeking.{preview_reads_with_cause}

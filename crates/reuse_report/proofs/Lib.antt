@@ -1,0 +1,4 @@
+pub mod DiffLemmas
+pub mod DrawnLemmas
+pub mod ResponseLemmas
+pub mod TextLemmas

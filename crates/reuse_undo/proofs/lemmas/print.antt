@@ -1,2 +1,0 @@
--- Lemmas of what is printed.
-pub mod ResponseLemmas

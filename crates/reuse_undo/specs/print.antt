@@ -1,4 +1,0 @@
--- What is printed.
-pub mod Responses
-pub mod Statuses
-pub mod WriterFaults
