@@ -8,7 +8,7 @@
 #![tactic(auto)]
 
 ghost use Rattle.std.specs.Prelude.{◌≡◌, ◌≢◌, ◌⊎◌, ◌+◌, [], IfOk, IsErr, MatchResult, OnErr, Some, is_ok, length, min};
-ghost use Rattle.std.specs.Prelude.{◌↔◌, IsTrue, if◌then◌else◌, true};
+ghost use Rattle.std.specs.Prelude.{IsTrue, if◌then◌else◌, true};
 ghost use Rattle.std.specs.FinMap as map;
 ghost use Rattle.std.specs.List.{Contains};
 ghost use Rattle.reuse_store.specs.Store.{reading_of};
@@ -20,7 +20,6 @@ ghost use Rattle.reuse_folder.specs.FolderWrites.{IsGone, IsPutTidily, IsRemoved
 ghost use Rattle.reuse_system.specs.declared.fault.IoReason.{IoReason};
 ghost use Rattle.reuse_system.specs.declared.place.Identity.{Identity};
 ghost use Rattle.reuse_folder.specs.RolledBack.{after_writing, foreign_of};
-ghost use Rattle.reuse_folder.specs.declared.ownership.PutGuard.TheVariants.{Held, Off, Watching};
 ghost use Rattle.reuse_folder.specs.Seen.{IsReadOnceMore, LoseNoEdits, LosesNoEditAfter};
 ghost use Rattle.reuse_disk.specs.LeftFiles.{ClearsLeft};
 ghost use Rattle.reuse_disk.specs.Noted.{IsNoted, StayNoted};
@@ -44,6 +43,7 @@ mod ownership;
 mod remembered;
 mod reports;
 mod rolled_back;
+mod run_settings;
 
 pub use failure::Failure;
 use failure::LastFailure;
@@ -62,8 +62,7 @@ use reuse_system::system::HostSystem;
 use rolled_back::RolledBack;
 use std::alloc::Global;
 use std::fs::File;
-use std::rt::{Env, Files};
-use std::time::Duration;
+use std::rt::Files;
 
 /// The files of a folder. It is honest as long as each call was answered as a folder answers that
 /// held the files of the start and that nobody else writes. No contract says that a folder is:
@@ -121,88 +120,6 @@ impl<R: Files<File = File> + AllocGlobal + Clone + Drop> DiskStore<HostSystem<R>
 /// The system that the program runs on. Of what its names lead to nothing is claimed.
 fn host_system<R: Files<File = File> + AllocGlobal + Clone + Drop>(rt: R) -> HostSystem<R> {
     HostSystem::new(rt)
-}
-
-impl<S: DiskSystem + Drop> DiskStore<S> {
-    /// Whether the journal belongs to another user than the process. If that can't be seen, it
-    /// isn't reported here: opening the journal fails.
-    pub fn is_journal_of_other(&mut self, alloc: Global) -> bool
-        ensures reads { OnlyReads ⟦<DiskStore<S> as Store>⟧ self.old self.new }
-        ensures unsynced { self.new.folder.unsynced ≡ self.old.folder.unsynced }
-    {
-        let user = self.folder.ownership().user();
-        match self.folder.journal_owners(alloc) {
-            Ok(owners) => owners.is_journal_of_other(user),
-            Err(_) => false,
-        }
-    }
-
-    /// From now on the first put of a call fails if a file was read that can't keep its owner,
-    /// unless that is allowed, or if a name was asked for that no file can have.
-    pub fn watch_writes(&mut self)
-        ensures reads { OnlyReads ⟦<DiskStore<S> as Store>⟧ self.old self.new }
-        ensures unsynced { self.new.folder.unsynced ≡ self.old.folder.unsynced }
-        ensures watched { self.new.folder.ownership ≡ record self.old.folder.ownership { guard = Watching } }
-    {
-        self.folder.watch_writes();
-    }
-
-    /// Short files that are read from now on are remembered, for a call that began at this time
-    /// since 1970: they aren't read again as long as the system reports the same of them.
-    pub fn remember_files(&mut self, since: Option<Duration>)
-        ensures reads { OnlyReads ⟦<DiskStore<S> as Store>⟧ self.old self.new }
-        ensures unsynced { self.new.folder.unsynced ≡ self.old.folder.unsynced }
-    {
-        self.folder.remember_files(since);
-    }
-
-    /// Goes to where the system shows the handles of the process, so that paths through them are
-    /// short, until `come_back`. Meanwhile no other path may start where the process was.
-    pub fn go_to_handles(&mut self, env: &impl Env, alloc: Global)
-        ensures reads { OnlyReads ⟦<DiskStore<S> as Store>⟧ self.old self.new }
-        ensures unsynced { self.new.folder.unsynced ≡ self.old.folder.unsynced }
-    {
-        self.folder.go_to_handles(env, alloc);
-    }
-
-    /// Comes back to the folder that the process was called in.
-    pub fn come_back(&mut self, env: &impl Env, alloc: Global)
-        ensures reads { OnlyReads ⟦<DiskStore<S> as Store>⟧ self.old self.new }
-        ensures unsynced { self.new.folder.unsynced ≡ self.old.folder.unsynced }
-    {
-        self.folder.come_back(env, alloc);
-    }
-
-    /// A pending step is rolled back from now on, until the journal is first written. Meanwhile
-    /// what stands at a path and is neither a file nor a folder, as a link or a pipe, is read as a
-    /// file that is too long: so it isn't taken for a path without a file, where one could be made.
-    pub fn expect_rollback(&mut self)
-        ensures reads { OnlyReads ⟦<DiskStore<S> as Store>⟧ self.old self.new }
-        ensures unsynced { self.new.folder.unsynced ≡ self.old.folder.unsynced }
-        ensures expected { self.new.rolled_back ≡ record self.old.rolled_back { is_pending = true } }
-    {
-        self.rolled_back.expect();
-    }
-
-    /// No put fails for that any more, but those of such files; whether one has failed.
-    pub fn release_writes(&mut self) -> bool
-        ensures reads { OnlyReads ⟦<DiskStore<S> as Store>⟧ self.old self.new }
-        ensures unsynced { self.new.folder.unsynced ≡ self.old.folder.unsynced }
-        ensures held { IsTrue result ↔ (self.old.folder.ownership.guard ≡ Held) }
-        ensures off { self.new.folder.ownership ≡ record self.old.folder.ownership { guard = Off } }
-    {
-        self.folder.release_writes()
-    }
-
-    /// Whether the file at the path, if there is one, can be written anew and keep its owner, or
-    /// needn't.
-    pub fn may_write(&mut self, alloc: Global, path: &PathText) -> Result<bool, StoreFault>
-        ensures reads { OnlyReads ⟦<DiskStore<S> as Store>⟧ self.old self.new }
-        ensures unsynced { self.new.folder.unsynced ≡ self.old.folder.unsynced }
-    {
-        let answer = self.folder.may_write(alloc, path);
-        answer.map_err(StoreFault::from)
-    }
 }
 
 impl<S: DiskSystem + Drop> Store for DiskStore<S> {
