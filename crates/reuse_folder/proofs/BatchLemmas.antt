@@ -13,8 +13,10 @@ use Rattle.reuse_system.specs.Folders.{Folders, folder_above}
 use Rattle.reuse_system.specs.SystemLaws.{IsAlikeUnless}
 use Rattle.reuse_system.specs.declared.place.Identity.{Identity}
 use Rattle.reuse_disk.specs.Written.{IsWritten}
-use Rattle.reuse_folder.specs.Batches.{Disk, AreMade, BeginsWithFile, DisksAfter, IsBegun, IsWriteOn}
+use Rattle.reuse_folder.specs.Batches.{AreMade, BeginsWithFile, DisksAfter, IsBegun, IsWriteAt}
+use Rattle.reuse_folder.specs.Disk.{Disk}
 use Rattle.reuse_folder.specs.FolderWrites.{IsPutAt, IsPutIn}
+use Rattle.reuse_folder.specs.NewFileFolder.{IsNewOnly}
 use Rattle.reuse_folder.proofs.FolderLemmas.{written_after_clearing}
 
 -- ---- new files before and behind one write
@@ -73,23 +75,28 @@ put_before new_files folders also path bytes is a b c same (inr (put, above)) al
 
 -- a path that was to be put wasn't
 pub not_begun_on : (new_files : Identity) (is : Bool) (path : List ℕ) (file : Option Pieces) (a b : Disk) → file ≢ None
-    → IsAlikeUnless (IsNewIn new_files) a.files b.files → IsWriteOn new_files is path file a b false
+    → IsNewOnly new_files a b → IsWriteAt new_files is path file a b false
 not_begun_on new_files is path None a b some alike = absurd (some refl)
-not_begun_on new_files is path (Some parts) a b some alike = inl (refl, alike)
+not_begun_on new_files is path (Some parts) a b some (alike, same) =
+    (inl (refl, alike), λ other of_tree apart. same other of_tree)
 
 pub write_after : (new_files : Identity) (is : Bool) (path : List ℕ) (file : Option Pieces) (a b c : Disk)
-    (is_done : Bool) → file ≢ None → IsAlikeUnless (IsNewIn new_files) a.files b.files
-    → IsWriteOn new_files is path file b c is_done → IsWriteOn new_files is path file a c is_done
+    (is_done : Bool) → file ≢ None → IsNewOnly new_files a b
+    → IsWriteAt new_files is path file b c is_done → IsWriteAt new_files is path file a c is_done
 write_after new_files is path None a b c is_done some alike write = absurd (some refl)
-write_after new_files is path (Some parts) a b c is_done some alike write =
-    put_after new_files c.folders path (joined parts) is a.files b.files c.files is_done alike write
+write_after new_files is path (Some parts) a b c is_done some (alike, same) (write, others) = (
+  put_after new_files c.folders path (joined parts) is a.files b.files c.files is_done alike write,
+  λ other of_tree apart. others other of_tree apart ∙ same other of_tree,
+)
 
 pub write_before : (new_files : Identity) (is : Bool) (path : List ℕ) (file : Option Pieces) (a b c : Disk)
-    → file ≢ None → c.folders ≡ b.folders → IsWriteOn new_files is path file a b false
-    → IsAlikeUnless (IsNewIn new_files) b.files c.files → IsWriteOn new_files is path file a c false
+    → file ≢ None → c.folders ≡ b.folders → IsWriteAt new_files is path file a b false
+    → IsNewOnly new_files b c → IsWriteAt new_files is path file a c false
 write_before new_files is path None a b c some same write alike = absurd (some refl)
-write_before new_files is path (Some parts) a b c some same write alike =
-    put_before new_files b.folders c.folders path (joined parts) is a.files b.files c.files same write alike
+write_before new_files is path (Some parts) a b c some still (write, others) (alike, same) = (
+  put_before new_files b.folders c.folders path (joined parts) is a.files b.files c.files still write alike,
+  λ other of_tree apart. same other of_tree ∙ others other of_tree apart,
+)
 
 -- ---- writes in a row
 
@@ -102,7 +109,7 @@ disks_then new_files is (x ∷ xs) ys a b c (mid, write, rest) second =
 -- one more
 pub disks_more : (new_files : Identity) (is : Bool) (writes : List FileWrite) (k : ℕ) (write : FileWrite) (a b c : Disk)
     → k < length writes → write ≡ get_or writes k write
-    → DisksAfter new_files is (take k writes) a b → IsWriteOn new_files is write.path.now write.file b c true
+    → DisksAfter new_files is (take k writes) a b → IsWriteAt new_files is write.path.now write.file b c true
     → DisksAfter new_files is (take (k + 1) writes) a c
 disks_more new_files is writes k write a b c short at first one =
     subst (λ l. DisksAfter new_files is l a c)
@@ -119,7 +126,7 @@ disks_add new_files is writes k n a b c first second =
 
 -- new files came before the first write, which puts a file
 pub disks_behind : (new_files : Identity) (is : Bool) (writes : List FileWrite) (count : ℕ) (a b c : Disk)
-    → BeginsWithFile writes → 0 < count → IsAlikeUnless (IsNewIn new_files) a.files b.files
+    → BeginsWithFile writes → 0 < count → IsNewOnly new_files a b
     → DisksAfter new_files is (take count writes) b c → DisksAfter new_files is (take count writes) a c
 disks_behind new_files is [] count a b c begins some alike after = absurd begins
 disks_behind new_files is (write ∷ writes) zero a b c begins some alike after = absurd (omega (arith, some))
@@ -127,7 +134,7 @@ disks_behind new_files is (write ∷ writes) (suc count) a b c begins some alike
     (mid, write_after new_files is write.path.now write.file a b mid true begins alike one, rest)
 
 begun_behind : (new_files : Identity) (is : Bool) (writes : List FileWrite) (a b c : Disk) → BeginsWithFile writes
-    → IsAlikeUnless (IsNewIn new_files) a.files b.files → IsBegun new_files is writes b c
+    → IsNewOnly new_files a b → IsBegun new_files is writes b c
     → IsBegun new_files is writes a c
 begun_behind new_files is [] a b c begins alike begun = absurd begins
 begun_behind new_files is (write ∷ writes) a b c begins alike begun =
@@ -135,7 +142,7 @@ begun_behind new_files is (write ∷ writes) a b c begins alike begun =
 
 -- the same where it stopped
 pub made_behind : (new_files : Identity) (is : Bool) (writes : List FileWrite) (made : ℕ) (a b c : Disk)
-    → BeginsWithFile writes → IsAlikeUnless (IsNewIn new_files) a.files b.files
+    → BeginsWithFile writes → IsNewOnly new_files a b
     → AreMade new_files is made writes b c → AreMade new_files is made writes a c
 made_behind new_files is writes zero a b c begins alike made =
     record {
@@ -153,7 +160,7 @@ made_behind new_files is writes (suc made) a b c begins alike are =
 
 -- none was made, and new files came
 pub none_made : (new_files : Identity) (is : Bool) (writes : List FileWrite) (a b : Disk) → BeginsWithFile writes
-    → IsAlikeUnless (IsNewIn new_files) a.files b.files → AreMade new_files is 0 writes a b
+    → IsNewOnly new_files a b → AreMade new_files is 0 writes a b
 none_made new_files is [] a b begins alike = absurd begins
 none_made new_files is (write ∷ writes) a b begins alike =
     record { mid = a; all = refl; begun = not_begun_on new_files is write.path.now write.file a b begins alike }
@@ -161,7 +168,7 @@ none_made new_files is (write ∷ writes) a b begins alike =
 -- so many were made, and the next one failed
 pub made_to : (new_files : Identity) (is : Bool) (writes : List FileWrite) (k : ℕ) (write : FileWrite) (a b c : Disk)
     → k < length writes → write ≡ get_or writes k write → DisksAfter new_files is (take k writes) a b
-    → IsWriteOn new_files is write.path.now write.file b c false → AreMade new_files is k writes a c
+    → IsWriteAt new_files is write.path.now write.file b c false → AreMade new_files is k writes a c
 made_to new_files is writes k write a b c short at first failed =
     record {
       mid = b;
@@ -200,7 +207,7 @@ begins (first ∷ writes) write some at file = subst (λ (w : FileWrite). w.file
 
 -- a removal is one write
 pub removal_begun : (new_files : Identity) (is : Bool) (writes : List FileWrite) (write : FileWrite) (a b : Disk)
-    → 0 < length writes → write ≡ get_or writes 0 write → IsWriteOn new_files is write.path.now write.file a b false
+    → 0 < length writes → write ≡ get_or writes 0 write → IsWriteAt new_files is write.path.now write.file a b false
     → AreMade new_files is 0 writes a b
 removal_begun new_files is writes write a b some at failed =
     made_to new_files is writes 0 write a a b some at refl failed

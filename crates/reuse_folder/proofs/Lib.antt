@@ -6,6 +6,7 @@ pub mod FolderLemmas
 pub mod HonestFiles
 pub mod LeftBySyncs
 pub mod NamedLemmas
+pub mod NotedLemmas
 pub mod NotedWrites
 pub mod PathLossLemmas
 pub mod PrunedFolders
@@ -16,3 +17,4 @@ pub mod RoundEnds
 pub mod RoundLemmas
 pub mod SeenLemmas
 pub mod SetFiles
+pub mod TreeLemmas

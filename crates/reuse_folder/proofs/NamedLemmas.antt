@@ -13,7 +13,8 @@ use Rattle.reuse_system.specs.declared.place.Identity.{Identity}
 use Rattle.reuse_disk.specs.Written.{IsMoved, IsPlaced, IsWritten, LeavesNone}
 use Rattle.reuse_disk.proofs.PlaceLemmas.{beside_is_no_new, folder_of_place}
 use Rattle.reuse_disk.proofs.WrittenLemmas.{written_again, written_of_placed}
-use Rattle.reuse_folder.specs.Batches.{Disk, IsWriteOn}
+use Rattle.reuse_folder.specs.Batches.{IsWriteOn}
+use Rattle.reuse_folder.specs.Disk.{Disk}
 use Rattle.reuse_folder.specs.FolderWrites.{IsNewOf, IsPutIn}
 use Rattle.reuse_folder.specs.Rounds.{new_place, AreGone, HasPlace, IsNamed, IsNumbered, StandsTempFile}
 use Rattle.reuse_folder.specs.declared.folder.batch.NewContent.{NewContent}

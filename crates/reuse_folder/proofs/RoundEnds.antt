@@ -17,7 +17,8 @@ use Rattle.reuse_disk.specs.Written.{LeavesNone}
 use Rattle.reuse_disk.specs.declared.new_file.NewFile.{NewFile}
 use Rattle.reuse_disk.proofs.PlaceLemmas.{beside_is_no_new}
 use Rattle.reuse_disk.proofs.WrittenLemmas.{then_none}
-use Rattle.reuse_folder.specs.Batches.{Disk, AreMade, BeginsWithFile, DisksAfter, IsBatch, IsWriteOn}
+use Rattle.reuse_folder.specs.Batches.{AreMade, BeginsWithFile, DisksAfter, IsBatch, IsWriteOn}
+use Rattle.reuse_folder.specs.Disk.{Disk, IsSameTree, IsSameTreeBut}
 use Rattle.reuse_folder.specs.FolderWrites.{IsFolderOf, IsGone, IsNewOf, IsRemovedIn, IsTidy}
 use Rattle.reuse_folder.specs.Rounds.{AreTempFile, AreBegun, AreGone, AreNamed, AreWrittenTempFile, HavePlaces}
 use Rattle.reuse_folder.specs.Rounds.{IsNumbered, IsRound, IsRoundOf}
@@ -78,16 +79,16 @@ temp_file_begins new_files is held (write ∷ writes) temp_files some few temp_f
 -- what was begun behind new files
 pub named_behind : (new_files : Identity) (is : Bool) (writes : List FileWrite) (temp_files : List NewContent)
     (a b c : Disk) (answer : Result (Unit {0}) Stop) → BeginsWithFile writes → 0 < length temp_files
-    → IsAlikeUnless (IsNumbered new_files (length temp_files)) a.files b.files
+    → IsAlikeUnless (IsNumbered new_files (length temp_files)) a.files b.files → IsSameTree a b
     → AreNamed new_files is writes temp_files b c answer → AreNamed new_files is writes temp_files a c answer
-named_behind new_files is writes temp_files a b c (Ok done) begins some alike named = (
+named_behind new_files is writes temp_files a b c (Ok done) begins some alike same named = (
   disks_behind new_files is writes (length temp_files) a b c begins some
-      (numbered_alike new_files (length temp_files) a.files b.files alike) named.0,
+      (numbered_alike new_files (length temp_files) a.files b.files alike, same) named.0,
   gone_behind new_files (length temp_files) a.files b.files c.files alike named.1,
 )
-named_behind new_files is writes temp_files a b c (Err stop) begins some alike named =
+named_behind new_files is writes temp_files a b c (Err stop) begins some alike same named =
     made_behind new_files is writes stop.made a b c begins
-    (numbered_alike new_files (length temp_files) a.files b.files alike) named
+    (numbered_alike new_files (length temp_files) a.files b.files alike, same) named
 
 -- ---- rounds
 
@@ -113,47 +114,42 @@ removal_on new_files is path (Some parts) a b is_done none removed gone = absurd
 pub removal_stopped : (is : Bool) (writes : List FileWrite) (write : FileWrite) (before after : Option NewFile)
     (a b : Disk) (answer : Result ℕ Stop) → 0 < length writes → write ≡ get_or writes 0 write → write.file ≡ None
     → IsErr answer → IfErr answer (λ stop. stop.made ≡ 0) → IsRemovedIn b.folders write.path.now a.files b.files
-    → IsRound is writes before after a b answer
-removal_stopped is writes write before after a b answer some at none bad first removed =
+    → IsSameTreeBut write.path.now a b → IsRound is writes before after a b answer
+removal_stopped is writes write before after a b answer some at none bad first removed others =
     let folder = some_folder before in
     stopped_at_first is writes before after a b answer bad first (
       folder.0,
       folder.1,
-      removal_begun folder.0 is writes write a b some at (removal_on folder.0 is write.path.now write.file a b false
-          none removed (λ done. absurd (true≢false (sym done)))),
+      removal_begun folder.0 is writes write a b some at (
+        removal_on folder.0 is write.path.now write.file a b false
+            none removed (λ done. absurd (true≢false (sym done))),
+        others,
+      ),
     )
 
 pub removal_made : (is : Bool) (writes : List FileWrite) (write : FileWrite) (before after : Option NewFile)
     (a b : Disk) → 0 < length writes → write ≡ get_or writes 0 write → write.file ≡ None → after ≡ before
     → IsRemovedIn b.folders write.path.now a.files b.files → IsGone b.folders b.files write.path.now
-    → LeavesNone (λ at. Unit {0}) a.files b.files → IsRound is writes before after a b (Ok 1)
-removal_made is writes write before after a b some at none same removed gone tidy new_files was = (
+    → LeavesNone (λ at. Unit {0}) a.files b.files → IsSameTreeBut write.path.now a b
+    → IsRound is writes before after a b (Ok 1)
+removal_made is writes write before after a b some at none same removed gone tidy others new_files was = (
   subst (λ o. IsFolderOf o new_files) same was,
   disks_more new_files is writes 0 write a a b some at refl
-      (removal_on new_files is write.path.now write.file a b true none removed (λ done. gone)),
+      (removal_on new_files is write.path.now write.file a b true none removed (λ done. gone), others),
   λ done place new. tidy place tt,
 )
 
--- new files couldn't be written to a temporary file
-pub temp_file_stopped : (Honest : Type 0) (is : Bool) (writes : List FileWrite) (before after : Option NewFile)
-    (a b : Disk) (fault : FolderFault) (answer : Result ℕ Stop) → BeginsWithFile writes
-    → IsErr answer → IfErr answer (λ stop. stop.made ≡ 0) → IsRoundOf Honest writes before a.files b.files (Err fault)
-    → IsRound is writes before after a b answer
-temp_file_stopped Honest is writes before after a b fault answer begins bad first (new_files, was, alike) =
-    stopped_at_first is writes before after a b answer bad first
-    (new_files, was, none_made new_files is writes a b begins alike)
-
--- they were, and then it stopped
+-- new files were written to temporary files, and then it stopped
 pub naming_stopped : (Honest : Type 0) (is : Bool) (writes : List FileWrite) (before after : Option NewFile)
     (a b c : Disk) (round : Round) (stop : Stop) (answer : Result ℕ Stop) → Honest → BeginsWithFile writes
     → answer ≡ Err stop
-    → IsRoundOf Honest writes before a.files b.files (Ok round)
+    → IsRoundOf Honest writes before a.files b.files (Ok round) → IsSameTree a b
     → AreNamed round.new_file.folder.identity is writes round.temp_files.items b c (Err stop)
     → IsRound is writes before after a c answer
-naming_stopped Honest is writes before after a b c round stop answer honest begins same (was, some, begun) named =
+naming_stopped Honest is writes before after a b c round stop answer honest begins same (was, some, begun) tree named =
     let new_files = round.new_file.folder.identity in
     subst (IsRound is writes before after a c) (sym same)
-    (new_files, was, made_behind new_files is writes stop.made a b c begins begun.others named)
+    (new_files, was, made_behind new_files is writes stop.made a b c begins (begun.others, tree) named)
 
 tidy_round : (new_files : Identity) (writes : List FileWrite) (temp_files : List NewContent) (a b c : FileState)
     → IsAlikeUnless (IsNewIn new_files) a b → AreWrittenTempFile new_files writes temp_files a b
@@ -172,15 +168,18 @@ tidy_round new_files writes temp_files a b c alike written gone place (folder, i
 -- and all got their names
 pub naming_done : (Honest : Type 0) (is : Bool) (writes : List FileWrite) (before : Option NewFile) (a b c : Disk)
     (round : Round) (new_file : NewFile) → Honest → BeginsWithFile writes
-    → IsRoundOf Honest writes before a.files b.files (Ok round) → new_file.folder ≡ round.new_file.folder
+    → IsRoundOf Honest writes before a.files b.files (Ok round) → IsSameTree a b
+    → new_file.folder ≡ round.new_file.folder
     → AreNamed round.new_file.folder.identity is writes round.temp_files.items b c (Ok tt)
     → IsRound is writes before (Some new_file) a c (Ok (length round.temp_files.items))
-naming_done Honest is writes before a b c round new_file honest begins (was, some, begun) folder named other is_other =
+naming_done Honest is writes before a b c round new_file honest begins (was, some, begun) tree folder named other
+    is_other =
     let new_files = round.new_file.folder.identity in
     let same : new_files ≡ other = ap (λ (f : OpenFolder). f.identity) (sym folder) ∙ is_other in (
       subst (IsFolderOf before) same was,
       subst (λ f. DisksAfter f is (take (length round.temp_files.items) writes) a c) same
-          (disks_behind new_files is writes (length round.temp_files.items) a b c begins some begun.others named.0),
+          (disks_behind new_files is writes (length round.temp_files.items) a b c begins some (begun.others, tree)
+          named.0),
       subst (λ f. IsTidy f a.files c.files true) same
           (λ done. tidy_round new_files writes round.temp_files.items a.files b.files c.files begun.others
           (begun.written honest) named.1),

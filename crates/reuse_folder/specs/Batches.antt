@@ -4,20 +4,10 @@ use Rattle.std.specs.Prelude.{Some, Result, Ok, Err}
 use Rattle.reuse_change.specs.Parts.{joined}
 use Rattle.reuse_change.specs.declared.parts.Pieces.{Pieces}
 use Rattle.reuse_store.specs.declared.file_write.FileWrite.{FileWrite}
-use Rattle.reuse_system.specs.FileStates.{FileState}
-use Rattle.reuse_system.specs.Folders.{Folders}
 use Rattle.reuse_system.specs.declared.place.Identity.{Identity}
-use Rattle.reuse_system.specs.declared.system.System.{Ghosts}
+use Rattle.reuse_folder.specs.Disk.{Disk, IsSameTreeBut}
 use Rattle.reuse_folder.specs.FolderWrites.{IsGone, IsPutIn, IsRemovedIn, IsTidy}
 use Rattle.reuse_folder.specs.declared.folder.batch.Stop.{Stop}
-
--- the folders and the files that names lead to
-pub record Disk : Type 0 where
-  pub folders : Folders
-  pub files : FileState
-
-abbrev pub disk_of : {S : Type 0} → Ghosts S → S → Disk
-disk_of members system = record { folders = members.folders system; files = members.holds system }
 
 -- the path was to hold these parts joined, or no file: what a single put, or a single removal, makes of the disk
 abbrev pub IsWriteOn : (new_files : Identity) → (is_durable : Bool) → List ℕ → Option Pieces → Disk → Disk
@@ -27,18 +17,24 @@ IsWriteOn new_files is_durable path None old new is_done =
 IsWriteOn new_files is_durable path (Some parts) old new is_done =
     IsPutIn new_files new.folders path (joined parts) is_durable old.files new.files is_done
 
+-- so it is, and each other path leads to the file that it led to
+abbrev pub IsWriteAt : (new_files : Identity) → (is_durable : Bool) → List ℕ → Option Pieces → Disk → Disk
+    → (is_done : Bool) → Type 0
+IsWriteAt new_files is_durable path file old new is_done =
+    IsWriteOn new_files is_durable path file old new is_done × IsSameTreeBut path old new
+
 -- each of these writes was made, one after the other
 abbrev pub DisksAfter : (new_files : Identity) → (is_durable : Bool) → List FileWrite → Disk → Disk → Type 0
 DisksAfter new_files is_durable [] old new = new ≡ old
 DisksAfter new_files is_durable (write ∷ writes) old new =
-    (mid : Disk) × IsWriteOn new_files is_durable write.path.now write.file old mid true
+    (mid : Disk) × IsWriteAt new_files is_durable write.path.now write.file old mid true
     × DisksAfter new_files is_durable writes mid new
 
 -- the first of these writes was begun, and failed; if there is none, nothing differs
 abbrev pub IsBegun : (new_files : Identity) → (is_durable : Bool) → List FileWrite → Disk → Disk → Type 0
 IsBegun new_files is_durable [] old new = new ≡ old
 IsBegun new_files is_durable (write ∷ writes) old new =
-    IsWriteOn new_files is_durable write.path.now write.file old new false
+    IsWriteAt new_files is_durable write.path.now write.file old new false
 
 -- so many of these writes were made, one after the other, and the next one, if there is one, was begun
 pub record AreMade (new_files : Identity) (is_durable : Bool) (made : ℕ) (writes : List FileWrite)

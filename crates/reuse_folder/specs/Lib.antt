@@ -1,9 +1,12 @@
 pub mod Barriers
 pub mod Batches
+pub mod Disk
 pub mod FolderReads
 pub mod FolderWrites
 pub mod Honesty
 pub mod JournalOwners
+pub mod NewFileFolder
+pub mod NotedFiles
 pub mod OwnerChanges
 pub mod PathLosses
 pub mod RememberedFiles

@@ -11,7 +11,8 @@ use Rattle.reuse_system.specs.declared.fault.FolderFault.{FolderFault}
 use Rattle.reuse_system.specs.declared.place.Identity.{Identity}
 use Rattle.reuse_disk.specs.Written.{StandsAlone}
 use Rattle.reuse_disk.specs.declared.new_file.NewFile.{NewFile}
-use Rattle.reuse_folder.specs.Batches.{Disk, AreMade, DisksAfter, IsWriteOn}
+use Rattle.reuse_folder.specs.Batches.{AreMade, DisksAfter, IsWriteOn}
+use Rattle.reuse_folder.specs.Disk.{Disk}
 use Rattle.reuse_folder.specs.FolderWrites.{IsFolderOf, IsNewOf, IsTidy}
 use Rattle.reuse_folder.specs.declared.folder.batch.NewContent.{NewContent}
 use Rattle.reuse_folder.specs.declared.folder.batch.Round.{Round}

@@ -7,6 +7,7 @@ ghost use Rattle.std.proofs.Props.{props};
 ghost use Rattle.reuse_change.specs.Layout.{journal_folder};
 ghost use Rattle.reuse_system.specs.Ignored.{is_ignored};
 ghost use Rattle.reuse_disk.specs.OpenFolders.{AreOpenedIf};
+ghost use Rattle.reuse_folder.specs.NewFileFolder.{IsOpenForIf};
 
 mod batch;
 mod naming;
@@ -54,6 +55,7 @@ pub struct RootFolder<S: DiskSystem + Drop> {
     unsynced: Unsynced,
     ownership: OwnershipPolicy,
     ghost opened: { AreOpenedIf (S.honest system) (S.folders system) open_folders } by { Prim.hlevel props },
+    ghost home: { IsOpenForIf (S.honest system) (S.folders system) new_file } by { Prim.hlevel props },
 }
 
 impl<S: DiskSystem + Drop> RootFolder<S> {

@@ -15,7 +15,9 @@ ghost use Rattle.reuse_store.specs.Store.{reading_of};
 ghost use Rattle.reuse_folder.specs.FolderReads.{IsReadWith};
 ghost use Rattle.reuse_folder.specs.OwnerChanges.{is_due};
 ghost use Rattle.reuse_folder.specs.Barriers.{HasNoted, HaveNoted};
-ghost use Rattle.reuse_folder.specs.Batches.{disk_of, IsBatch};
+ghost use Rattle.reuse_folder.specs.Batches.{IsBatch};
+ghost use Rattle.reuse_folder.specs.Disk.{disk_of, IsSameTreeBut};
+ghost use Rattle.reuse_folder.specs.NotedFiles.{StayAsNoted, StayAsWritten};
 ghost use Rattle.reuse_folder.specs.FolderWrites.{IsGone, IsPutTidily, IsRemovedIn, IsStoredAt};
 ghost use Rattle.reuse_system.specs.declared.fault.IoReason.{IoReason};
 ghost use Rattle.reuse_system.specs.declared.place.Identity.{Identity};
@@ -193,6 +195,15 @@ impl<S: DiskSystem + Drop> Store for DiskStore<S> {
             → IsPutTidily (S.folders self.new.folder.system) path.now (joined parts.entry)
             (is_kept self.old.folder.unsynced.syncs) (S.holds self.old.folder.system)
             (S.holds self.new.folder.system) (is_ok result) }
+        // Each other path leads to the file that it led to.
+        ensures others { S.honest self.new.folder.system
+            → IsSameTreeBut path.now (disk_of S.System self.old.folder.system)
+            (disk_of S.System self.new.folder.system) }
+        // What was noted of the files and true stays so.
+        ensures as_noted { S.honest self.new.folder.system → ⟦<DiskStore<S> as Store>⟧.honest self.new
+            → IfOk result (λ _. StayAsNoted (⟦<DiskStore<S> as Store>⟧.files self.old)
+            (⟦<DiskStore<S> as Store>⟧.files self.new) (disk_of S.System self.old.folder.system)
+            (disk_of S.System self.new.folder.system)) }
         // The folder above the path is noted for the next barrier, if that got or lost a file.
         ensures noted { self.old.folder.unsynced.syncs ≡ Syncs.Kept
             → HasNoted self.new.folder.unsynced path.now (S.changes self.old.folder.system)
@@ -220,6 +231,15 @@ impl<S: DiskSystem + Drop> Store for DiskStore<S> {
         ensures place { S.honest self.new.folder.system
             → IsRemovedIn (S.folders self.new.folder.system) path.now (S.holds self.old.folder.system)
             (S.holds self.new.folder.system) }
+        // Each other path leads to the file that it led to.
+        ensures others { S.honest self.new.folder.system
+            → IsSameTreeBut path.now (disk_of S.System self.old.folder.system)
+            (disk_of S.System self.new.folder.system) }
+        // What was noted of the files and true stays so.
+        ensures as_noted { S.honest self.new.folder.system → ⟦<DiskStore<S> as Store>⟧.honest self.new
+            → IfOk result (λ _. StayAsNoted (⟦<DiskStore<S> as Store>⟧.files self.old)
+            (⟦<DiskStore<S> as Store>⟧.files self.new) (disk_of S.System self.old.folder.system)
+            (disk_of S.System self.new.folder.system)) }
         // The folder above the path is noted for the next barrier, if that got or lost a file.
         ensures noted { self.old.folder.unsynced.syncs ≡ Syncs.Kept
             → HasNoted self.new.folder.unsynced path.now (S.changes self.old.folder.system)
@@ -243,6 +263,11 @@ impl<S: DiskSystem + Drop> Store for DiskStore<S> {
             (disk_of S.System self.old.folder.system) (disk_of S.System self.new.folder.system) (is_ok result))
             × (⟦<DiskStore<S> as Store>⟧.mutations self.new ≡ ⟦<DiskStore<S> as Store>⟧.mutations self.old
             + min (batch.made + 1) (length writes.now)) }
+        // What was noted of the files and true stays so, at each path that isn't removed.
+        ensures as_noted { S.honest self.new.folder.system → ⟦<DiskStore<S> as Store>⟧.honest self.new
+            → IfOk result (λ _. StayAsWritten writes.now (⟦<DiskStore<S> as Store>⟧.files self.old)
+            (⟦<DiskStore<S> as Store>⟧.files self.new) (disk_of S.System self.old.folder.system)
+            (disk_of S.System self.new.folder.system)) }
         // The folder above each path that got or lost a file is noted for the next barrier.
         ensures noted { self.old.folder.unsynced.syncs ≡ Syncs.Kept
             → HaveNoted self.new.folder.unsynced writes.now (S.changes self.old.folder.system)

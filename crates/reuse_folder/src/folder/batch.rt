@@ -12,7 +12,11 @@ ghost use Rattle.reuse_change.specs.Parts.{joined};
 ghost use Rattle.reuse_disk.specs.Noted.{StayNoted};
 ghost use Rattle.reuse_disk.specs.Written.{is_kept};
 ghost use Rattle.reuse_folder.specs.Barriers.{AreNotedAbove, HaveNoted, IsNotedAbove};
-ghost use Rattle.reuse_folder.specs.Batches.{disk_of, made_of, BeginsWithFile, IsBatch};
+ghost use Rattle.reuse_folder.specs.Batches.{made_of, BeginsWithFile, IsBatch};
+ghost use Rattle.reuse_folder.specs.Disk.{disk_of, IsSameTree};
+ghost use Rattle.reuse_folder.specs.NewFileFolder.{IsJournal, KeepsTree};
+ghost use Rattle.reuse_change.specs.Layout.{journal_folder};
+ghost use Rattle.reuse_system.specs.Folders.{folder_at};
 ghost use Rattle.reuse_folder.specs.Rounds.{new_place, AreBegun, IsAdded};
 ghost use Rattle.reuse_folder.specs.Rounds.{IsRound, IsRoundOf};
 ghost use Rattle.reuse_folder.specs.Seen.{AreKnown, IsKnownTempFile, IsNewFile, IsSeenBefore, LoseNoEdits};
@@ -203,6 +207,11 @@ impl<S: DiskSystem + Drop> RootFolder<S> {
         requires { BeginsWithFile writes.now }
         ensures round { IsRoundOf (S.honest self.new.system) writes.now self.old.new_file (S.holds self.old.system)
             (S.holds self.new.system) result }
+        ensures tree { S.honest self.new.system
+            → IsSameTree (disk_of S.System self.old.system) (disk_of S.System self.new.system) }
+        ensures home { S.honest self.new.system
+            → IfOk result (λ round. IsJournal (folder_at (S.folders self.new.system) journal_folder)
+            round.new_file.folder.identity) }
         ensures syncs { self.new.unsynced.syncs ≡ self.old.unsynced.syncs }
         ensures stay_noted { StayNoted self.old.unsynced self.new.unsynced }
         ensures above { self.old.unsynced.syncs ≡ Kept
@@ -240,6 +249,8 @@ impl<S: DiskSystem + Drop> RootFolder<S> {
         ensures begun { AreBegun (S.honest self.new.system × IsTrue (is_ok result)) round.old.new_file.folder.identity
             writes.now round.new.temp_files.items (S.holds self.old.system) (S.holds self.new.system) }
         ensures some { BeginsWithFile writes.now → IfOk result (λ _. 0 < length round.new.temp_files.items) }
+        ensures tree { S.honest self.new.system → KeepsTree round.old.new_file.folder.identity
+            (disk_of S.System self.old.system) (disk_of S.System self.new.system) }
         ensures syncs { self.new.unsynced.syncs ≡ self.old.unsynced.syncs }
         ensures stay_noted { StayNoted self.old.unsynced self.new.unsynced }
         ensures above { self.old.unsynced.syncs ≡ Kept
@@ -278,6 +289,8 @@ impl<S: DiskSystem + Drop> RootFolder<S> {
             (S.holds self.old.system) (S.holds self.new.system) }
         ensures added { IsAdded round.old.new_file.folder.identity (S.holds self.new.system)
             (joined parts.entry) round.old.temp_files.items round.new.temp_files.items (is_ok result) }
+        ensures tree { S.honest self.new.system → KeepsTree round.old.new_file.folder.identity
+            (disk_of S.System self.old.system) (disk_of S.System self.new.system) }
         ensures syncs { self.new.unsynced.syncs ≡ self.old.unsynced.syncs }
         ensures stay_noted { StayNoted self.old.unsynced self.new.unsynced }
         ensures above { self.old.unsynced.syncs ≡ Kept

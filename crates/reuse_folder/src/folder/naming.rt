@@ -1,14 +1,18 @@
 //! Naming the new files of a batch: the data of all is synced first, and then each is given its
 //! name, in order.
-ghost use Rattle.std.specs.Prelude.{◌≡◌, ◌<◌, ◌≤◌, ℕ, List, [], ◌∷◌, false, is_ok, IfErr, IfOk};
+ghost use Rattle.std.specs.Prelude.{◌≡◌, ◌<◌, ◌≤◌, ℕ, List, [], ◌∷◌, false, is_ok, IfErr, IfOk, IsTrue};
 ghost use Rattle.std.specs.Prelude.{MatchResult, length};
+ghost use Rattle.reuse_change.specs.Layout.{journal_folder};
+ghost use Rattle.reuse_change.specs.Path.{is_path};
+ghost use Rattle.reuse_system.specs.Folders.{folder_at};
 ghost use Rattle.reuse_system.specs.TempFiles.{key_of};
 ghost use Rattle.reuse_system.specs.SystemLaws.{IsAlikeButFile, IsAlikeUnless};
 ghost use Rattle.reuse_system.specs.declared.place.Identity.{Identity};
 ghost use Rattle.reuse_disk.specs.Noted.{StayNoted};
 ghost use Rattle.reuse_disk.specs.Written.{is_kept, IsSyncedIf};
 ghost use Rattle.reuse_folder.specs.Barriers.{HasNoted, IsNotedAbove, NamesKnown};
-ghost use Rattle.reuse_folder.specs.Batches.{disk_of};
+ghost use Rattle.reuse_folder.specs.Disk.{disk_of};
+ghost use Rattle.reuse_folder.specs.NewFileFolder.{IsJournal};
 ghost use Rattle.reuse_folder.specs.Rounds.{AreApart, AreTempFile, AreNamed, HavePlaces};
 ghost use Rattle.reuse_folder.specs.Rounds.{IsNamed, IsNumbered, StandsTempFile};
 ghost use Rattle.reuse_folder.specs.Seen.{IsKnownTempFile, LoseNoEdits};
@@ -37,10 +41,12 @@ impl<S: DiskSystem + Drop> RootFolder<S> {
     ) -> Result<(), Stop>
         requires { 0 < length writes.now }
         ensures stop { IfErr result (λ stop. stop.made < length writes.now) }
+        ensures still { S.folders self.new.system ≡ S.folders self.old.system }
         ensures folder { new_file.new.folder ≡ new_file.old.folder }
-        ensures named { S.honest self.new.system → 0 < length temp_files.now
-            → length temp_files.now ≤ length writes.now → HavePlaces new_file.old.folder.identity temp_files.now
-            → AreApart temp_files.now
+        ensures named { S.honest self.new.system
+            → IsJournal (folder_at (S.folders self.old.system) journal_folder) new_file.old.folder.identity
+            → 0 < length temp_files.now → length temp_files.now ≤ length writes.now
+            → HavePlaces new_file.old.folder.identity temp_files.now → AreApart temp_files.now
             → AreTempFile new_file.old.folder.identity false (S.holds self.old.system) 0 (length temp_files.now)
             writes.now temp_files.now
             → AreNamed new_file.old.folder.identity (is_kept self.old.unsynced.syncs) writes.now temp_files.now
@@ -108,8 +114,11 @@ impl<S: DiskSystem + Drop> RootFolder<S> {
         temp_files: &[NewContent],
     ) -> Result<(), Stop>
         ensures stop { IfErr result (λ stop. stop.made < length writes.now) }
+        ensures still { S.folders self.new.system ≡ S.folders self.old.system }
         ensures folder { new_file.new.folder ≡ new_file.old.folder }
-        ensures named { S.honest self.new.system → length temp_files.now ≤ length writes.now
+        ensures named { S.honest self.new.system
+            → IsJournal (folder_at (S.folders self.old.system) journal_folder) new_file.old.folder.identity
+            → length temp_files.now ≤ length writes.now
             → HavePlaces new_file.old.folder.identity temp_files.now → AreApart temp_files.now
             → AreTempFile new_file.old.folder.identity (is_kept self.old.unsynced.syncs) (S.holds self.old.system) 0
             (length temp_files.now) writes.now temp_files.now
@@ -139,6 +148,8 @@ impl<S: DiskSystem + Drop> RootFolder<S> {
         new: &NewContent,
         write: &FileWrite,
     ) -> Result<(), FolderFault>
+        ensures still { S.folders self.new.system ≡ S.folders self.old.system }
+        ensures path { IsTrue (is_path write.now.path.now) }
         ensures folder { new_file.new.folder ≡ new_file.old.folder }
         ensures named { S.honest self.new.system → (count number : ℕ)
             → StandsTempFile new_file.old.folder.identity count (is_kept self.old.unsynced.syncs)

@@ -2,7 +2,12 @@
 //! system makes of them, whatever was there.
 ghost use Rattle.std.specs.Prelude.{◌≡◌, ◌⊎◌, is_ok, IfOk, IfSome, IsErr, IsTrue, None};
 ghost use Rattle.reuse_system.specs.declared.place.Identity.{Identity};
+ghost use Rattle.reuse_system.specs.Folders.{folder_at};
 ghost use Rattle.reuse_system.specs.Ignored.{is_ignored};
+ghost use Rattle.reuse_change.specs.Layout.{journal_folder};
+ghost use Rattle.reuse_disk.specs.KeptPaths.{KeepsPaths};
+ghost use Rattle.reuse_folder.specs.Disk.{disk_of, IsSameTree, IsSameTreeBut};
+ghost use Rattle.reuse_folder.specs.NewFileFolder.{IsJournal};
 
 use super::RootFolder;
 use super::seen::{Expected, expected_at};
@@ -47,6 +52,9 @@ impl<S: DiskSystem + Drop> RootFolder<S> {
         ensures place { S.honest self.new.system
             → IsPutTidily (S.folders self.new.system) path.now (joined parts.entry) (is_kept self.old.unsynced.syncs)
             (S.holds self.old.system) (S.holds self.new.system) (is_ok result) }
+        // Each other path leads to the file that it led to.
+        ensures others { S.honest self.new.system
+            → IsSameTreeBut path.now (disk_of S.System self.old.system) (disk_of S.System self.new.system) }
         ensures stands { S.honest self.new.system
             → IfOk result (λ _. IsStoredAt (S.folders self.new.system) (S.holds self.new.system) path.now
             (joined parts.entry) (is_kept self.old.unsynced.syncs)) }
@@ -79,6 +87,9 @@ impl<S: DiskSystem + Drop> RootFolder<S> {
         ensures kept { S.holds self.new.system ≡ S.holds self.old.system }
         ensures changes { S.changes self.new.system ≡ S.changes self.old.system }
         ensures earlier { S.honest self.new.system → S.honest self.old.system }
+        // Folders that are made or removed are empty.
+        ensures paths { S.honest self.new.system
+            → KeepsPaths (S.holds self.new.system) (S.folders self.old.system) (S.folders self.new.system) }
         ensures syncs { self.new.unsynced.syncs ≡ self.old.unsynced.syncs }
         ensures stay_noted { StayNoted self.old.unsynced self.new.unsynced }
         ensures ignored { IsTrue (is_ignored path.now) → IsErr result }
@@ -130,6 +141,9 @@ impl<S: DiskSystem + Drop> RootFolder<S> {
         ensures place { S.honest self.new.system
             → IsPutTidily (S.folders self.new.system) path.now (joined parts.entry) (is_kept self.old.unsynced.syncs)
             (S.holds self.old.system) (S.holds self.new.system) (is_ok result) }
+        // Each other path leads to the file that it led to.
+        ensures others { S.honest self.new.system
+            → IsSameTreeBut path.now (disk_of S.System self.old.system) (disk_of S.System self.new.system) }
         ensures earlier { S.honest self.new.system → S.honest self.old.system }
         ensures keeps_edits { (expected : Expected) → IsSeenAs expected found
             → LosesNoEdit path.now expected (S.changes self.old.system) (S.changes self.new.system)
@@ -164,6 +178,8 @@ impl<S: DiskSystem + Drop> RootFolder<S> {
         new_file: NewFile,
         is_done: bool,
     )
+        requires { S.honest self.old.system
+            → IsJournal (folder_at (S.folders self.old.system) journal_folder) new_file.folder.identity }
         ensures system { self.new.system ≡ self.old.system }
         ensures unsynced { self.new.unsynced ≡ self.old.unsynced }
     {
@@ -178,6 +194,12 @@ impl<S: DiskSystem + Drop> RootFolder<S> {
     pub(super) fn take_new_file(&mut self, alloc: Global) -> Result<NewFile, FolderFault>
         ensures cleared { IsCleared (S.changes self.old.system) (S.changes self.new.system) self.old.new_file
             (S.holds self.old.system) (S.holds self.new.system) result }
+        // Each path leads to the file that it led to.
+        ensures tree { S.honest self.new.system
+            → IsSameTree (disk_of S.System self.old.system) (disk_of S.System self.new.system) }
+        ensures home { S.honest self.new.system
+            → IfOk result (λ new_file. IsJournal (folder_at (S.folders self.new.system) journal_folder)
+            new_file.folder.identity) }
         ensures earlier { S.honest self.new.system → S.honest self.old.system }
         ensures syncs { self.new.unsynced.syncs ≡ self.old.unsynced.syncs }
         ensures stay_noted { StayNoted self.old.unsynced self.new.unsynced }
@@ -192,15 +214,28 @@ impl<S: DiskSystem + Drop> RootFolder<S> {
     fn open_new_file(&mut self, alloc: Global) -> Result<NewFile, FolderFault>
         ensures cleared { IsCleared (S.changes self.old.system) (S.changes self.new.system) None
             (S.holds self.old.system) (S.holds self.new.system) result }
+        // Each path leads to the file that it led to.
+        ensures tree { S.honest self.new.system
+            → IsSameTree (disk_of S.System self.old.system) (disk_of S.System self.new.system) }
+        ensures home { S.honest self.new.system
+            → IfOk result (λ new_file. IsJournal (folder_at (S.folders self.new.system) journal_folder)
+            new_file.folder.identity) }
         ensures earlier { S.honest self.new.system → S.honest self.old.system }
         ensures syncs { self.new.unsynced.syncs ≡ self.old.unsynced.syncs }
         ensures stay_noted { StayNoted self.old.unsynced self.new.unsynced }
     {
         self.open_folders
             .make(&mut self.system, alloc, JOURNAL, &mut self.unsynced)?;
+        // It is open, so this asks the system for nothing.
+        self.open_folders
+            .enter_seen(&mut self.system, alloc, JOURNAL)?;
         let folder = self.open_folders.current()?.try_clone(alloc)?;
         let names = new_names(self.system.rt(), alloc, &folder)?;
         let new_file = NewFile::in_folder(alloc, folder);
+        // The handle was cloned, and so leads to the same folder.
+        if !new_file.is_in(self.open_folders.current()?) {
+            return Err(FolderFault::Device(IoReason::Changing));
+        }
         new_file.clear(&mut self.system, &names)?;
         Ok(new_file)
     }
@@ -210,6 +245,8 @@ impl<S: DiskSystem + Drop> RootFolder<S> {
         ensures kept { S.holds self.new.system ≡ S.holds self.old.system }
         ensures changes { S.changes self.new.system ≡ S.changes self.old.system }
         ensures earlier { S.honest self.new.system → S.honest self.old.system }
+        ensures paths { S.honest self.new.system
+            → KeepsPaths (S.holds self.new.system) (S.folders self.old.system) (S.folders self.new.system) }
         ensures syncs { self.new.unsynced.syncs ≡ self.old.unsynced.syncs }
         ensures stay_noted { StayNoted self.old.unsynced self.new.unsynced }
         // The folder above the path is noted for the next barrier, if a folder is removed.
@@ -232,6 +269,9 @@ impl<S: DiskSystem + Drop> RootFolder<S> {
         ensures still { S.folders self.new.system ≡ S.folders self.old.system }
         ensures place { S.honest self.new.system
             → IsRemovedIn (S.folders self.new.system) path.now (S.holds self.old.system) (S.holds self.new.system) }
+        // Each other path leads to the file that it led to.
+        ensures others { S.honest self.new.system
+            → IsSameTreeBut path.now (disk_of S.System self.old.system) (disk_of S.System self.new.system) }
         ensures gone { S.honest self.new.system
             → IfOk result (λ _. IsGone (S.folders self.new.system) (S.holds self.new.system) path.now) }
         // The folder above the path is noted for the next barrier, if that got or lost a file.
@@ -258,6 +298,9 @@ impl<S: DiskSystem + Drop> RootFolder<S> {
         ensures still { S.folders self.new.system ≡ S.folders self.old.system }
         ensures place { S.honest self.new.system
             → IsRemovedIn (S.folders self.new.system) path.now (S.holds self.old.system) (S.holds self.new.system) }
+        // Each other path leads to the file that it led to.
+        ensures others { S.honest self.new.system
+            → IsSameTreeBut path.now (disk_of S.System self.old.system) (disk_of S.System self.new.system) }
         ensures gone { S.honest self.new.system
             → IfOk result (λ _. IsGone (S.folders self.new.system) (S.holds self.new.system) path.now) }
         ensures none_left { IfOk result (λ _. LeavesNone (λ _. Unit {0}) (S.holds self.old.system)

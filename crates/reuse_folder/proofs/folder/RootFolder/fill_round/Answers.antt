@@ -5,6 +5,9 @@ use Rattle.reuse_change.specs.Parts.{joined}
 use Rattle.reuse_system.specs.SystemLaws.{IsAlikeBut, IsAlikeUnless}
 use Rattle.reuse_system.specs.declared.handle.OpenFolder.{OpenFolder}
 use Rattle.reuse_disk.proofs.EditLemmas.{only_then}
+use Rattle.reuse_folder.specs.Disk.{disk_of}
+use Rattle.reuse_folder.specs.NewFileFolder.{KeepsTree}
+use Rattle.reuse_folder.proofs.TreeLemmas.{keeps_none, keeps_then}
 use Rattle.reuse_folder.specs.Rounds.{new_place, AreApart, AreTempFile, AreBegun, HavePlaces, IsAdded, IsNumbered}
 use Rattle.reuse_folder.specs.Seen.{AreKnown, IsKnownTempFile, IsNewFile}
 use Rattle.reuse_folder.proofs.PutLemmas.{of_ok}
@@ -13,7 +16,43 @@ use Rattle.reuse_folder.proofs.RoundLemmas.{places_added}
 use Rattle.reuse_folder.proofs.SeenLemmas.{temp_file_more}
 use Rattle.reuse_folder.specs.Barriers.{AreNotedAbove}
 use Rattle.reuse_folder.proofs.BarrierLemmas.{above_all_later, above_more}
+use Rattle.reuse_folder.proofs.folder.RootFolder.fill_round.Given.{Over}
+use Rattle.reuse_folder.proofs.folder.RootFolder.fill_round.Goals.{After-add_temp_file}
 use Rattle.reuse_folder.proofs.folder.RootFolder.fill_round.Goals as goal
+
+-- a new file was written, or wasn't: each path leads to the file that it led to
+keeps_so_far : (g : Over) (c : After-add_temp_file g) → g.S.System.honest c.add_temp_file.new.self.system
+    → KeepsTree c.args.round.now.new_file.folder.identity (disk_of g.S.System c.args.self.now.system)
+    (disk_of g.S.System c.add_temp_file.new.self.system)
+keeps_so_far g c honest =
+    let s = g.S.System in
+    let so_far = c.loop-write.invariant in
+    let before = disk_of s c.loop-write.self.system in
+    let now = disk_of s c.add_temp_file.new.self.system in
+    keeps_then c.args.round.now.new_file.folder.identity (disk_of s c.args.self.now.system) before now
+    (so_far.tree (c.add_temp_file.ensures.earlier honest))
+    (subst (λ (f : OpenFolder). KeepsTree f.identity before now) so_far.folder (c.add_temp_file.ensures.tree honest))
+
+pub returns-in_default-clause-tree : goal.returns-in_default-clause-tree
+returns-in_default-clause-tree g c = c.loop-write.invariant.tree
+
+pub returns-then-number-eq0-clause-tree : goal.returns-then-number-eq0-clause-tree
+returns-then-number-eq0-clause-tree g c =
+    keeps_so_far g (goal.at.returns-then-number-eq0-clause-tree g c).After-add_temp_file
+
+pub returns-in-Err-clause-tree : goal.returns-in-Err-clause-tree
+returns-in-Err-clause-tree g c honest =
+    let s = g.S.System in
+    let new_files = c.args.round.now.new_file.folder.identity in
+    let now = disk_of s c.add_temp_file.new.self.system in
+    let last = disk_of s c.check_free.new.system in
+    keeps_then new_files (disk_of s c.args.self.now.system) now last
+    (keeps_so_far g (goal.at.returns-in-Err-clause-tree g c).After-add_temp_file
+    (c.check_free.ensures.reads.earlier honest))
+    (keeps_none new_files now last c.check_free.ensures.reads.still c.check_free.ensures.reads.kept)
+
+pub returns-clause-tree : goal.returns-clause-tree
+returns-clause-tree g c = c.loop-write.invariant.tree
 
 pub returns-in_default-clause-begun : goal.returns-in_default-clause-begun
 returns-in_default-clause-begun g c =
@@ -116,6 +155,7 @@ loop-write-preserved g c =
           c.add_temp_file.ensures.stay_noted (so_far.above kept)
           (c.in_default-add_temp_file.ensures.above (so_far.syncs ∙ kept))));
       earlier = λ honest. so_far.earlier (c.add_temp_file.ensures.earlier honest);
+      tree = keeps_so_far g (goal.at.loop-write-preserved g c).After-add_temp_file;
       changes = only_then IsNewFile _ _ _ so_far.changes c.add_temp_file.ensures.changes;
       known = subst (AreKnown c.args.seen.now.reads.items writes) (sym known.1)
           (temp_file_more c.args.seen.now.reads.items writes temp_files known.0 c.loop-write.write-index write

@@ -4,6 +4,8 @@ use Rattle.reuse_system.specs.SystemLaws.{IsAlikeUnless}
 use Rattle.reuse_system.specs.declared.syncs.Syncs.TheVariants.{Kept}
 use Rattle.reuse_disk.specs.Noted.{StayNoted}
 use Rattle.reuse_folder.specs.Barriers.{AreNotedAbove}
+use Rattle.reuse_folder.specs.Disk.{disk_of}
+use Rattle.reuse_folder.specs.NewFileFolder.{KeepsTree}
 use Rattle.reuse_folder.specs.Rounds.{AreApart, AreTempFile, HavePlaces, IsNumbered}
 use Rattle.reuse_folder.specs.Seen.{AreKnown, IsNewFile}
 use Rattle.reuse_folder.proofs.folder.RootFolder.fill_round.Given as goal
@@ -28,6 +30,7 @@ invariant-loop-write g l =
       stay_noted : StayNoted l.fn.self.unsynced l.self.unsynced;
       above : l.fn.self.unsynced.syncs ≡ Kept → AreNotedAbove l.self.unsynced l.writes (length temp_files);
       earlier : s.honest now → s.honest first;
+      tree : s.honest now → KeepsTree new_files (disk_of s first) (disk_of s now);
       changes : OnlyChanges IsNewFile (s.changes first) (s.changes now);
       known : AreKnown l.fn.seen.reads.items l.writes temp_files;
       reads : l.seen.reads ≡ l.fn.seen.reads;

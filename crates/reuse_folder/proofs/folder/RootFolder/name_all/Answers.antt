@@ -1,17 +1,20 @@
-use Rattle.std.proofs.Common.{◌∙◌, List, false, length}
+use Rattle.std.proofs.Common.{◌∙◌, List, ap, false, length}
+use Rattle.reuse_change.specs.Layout.{journal_folder}
+use Rattle.reuse_system.specs.Folders.{folder_at}
 use Rattle.reuse_disk.specs.Written.{is_kept}
 use Rattle.reuse_folder.specs.Rounds.{AreTempFile, AreNamed}
 use Rattle.reuse_folder.proofs.BatchLemmas.{none_made}
 use Rattle.reuse_folder.proofs.RoundEnds.{alike_then, all_new, temp_file_begins, named_behind, numbered_alike}
 use Rattle.reuse_folder.proofs.SeenLemmas.{lose_none, lose_only, lose_then, new_at}
 use Rattle.reuse_folder.proofs.BarrierLemmas.{above_all_later, have_none, have_only, have_then}
-use Rattle.reuse_folder.specs.Batches.{disk_of}
+use Rattle.reuse_folder.specs.Disk.{disk_of}
+use Rattle.reuse_folder.proofs.TreeLemmas.{new_on}
 use Rattle.reuse_folder.specs.Seen.{AreKnown}
 use Rattle.reuse_folder.specs.declared.folder.seen.ReadPath.{ReadPath}
 use Rattle.reuse_folder.proofs.folder.RootFolder.name_all.Goals as goal
 
 pub returns-in-Err-clause-named : goal.returns-in-Err-clause-named
-returns-in-Err-clause-named g c honest some few places apart temp_file =
+returns-in-Err-clause-named g c honest home some few places apart temp_file =
     let s = g.S.System in
     let new_files = c.args.new_file.now.folder.identity in
     let temp_files = c.args.temp_files.now in
@@ -24,10 +27,12 @@ returns-in-Err-clause-named g c honest some few places apart temp_file =
     (c.sync_all.ensures.synced new_files few apart temp_file).1)
     (c.remove_all.ensures.others new_files (all_new new_files temp_files places)) in
     rw c.at_first.ensures (none_made new_files (is_kept c.args.self.now.unsynced.syncs) writes first last
-    (temp_file_begins new_files false first.files writes temp_files some few temp_file) alike)
+    (temp_file_begins new_files false first.files writes temp_files some few temp_file)
+    (new_on first last new_files (c.remove_all.ensures.still ∙ c.sync_all.ensures.still)
+    (g.met.S.System.is_tree c.remove_all.new.system honest) home alike))
 
 pub returns-clause-named : goal.returns-clause-named
-returns-clause-named g c honest some few places apart temp_file =
+returns-clause-named g c honest home some few places apart temp_file =
     let s = g.S.System in
     let is = is_kept c.args.self.now.unsynced.syncs in
     let new_files = c.args.new_file.now.folder.identity in
@@ -41,9 +46,13 @@ returns-clause-named g c honest some few places apart temp_file =
     let alike = (c.sync_all.ensures.synced new_files few apart temp_file).1 in
     let named : AreTempFile new_files is synced.files 0 (length temp_files) writes temp_files
     → AreNamed new_files is writes temp_files synced last c.name_each.result =
-    rw c.sync_all.ensures.syncs at (c.name_each.ensures.named honest few places apart) in
+    rw c.sync_all.ensures.syncs at (c.name_each.ensures.named honest
+    (ap (λ f. folder_at f journal_folder) c.sync_all.ensures.still ∙ home.0, home.1) few places apart) in
+    let tree = new_on first synced new_files c.sync_all.ensures.still
+    (g.met.S.System.is_tree c.sync_all.new.self.system (c.name_each.ensures.names.earlier honest)) home
+    (numbered_alike new_files (length temp_files) first.files synced.files alike) in
     named_behind new_files is writes temp_files first synced last c.name_each.result
-    (temp_file_begins new_files false first.files writes temp_files some few temp_file) some alike (named all)
+    (temp_file_begins new_files false first.files writes temp_files some few temp_file) some alike tree.1 (named all)
 
 pub returns-in-Err-clause-names : goal.returns-in-Err-clause-names
 returns-in-Err-clause-names g c =

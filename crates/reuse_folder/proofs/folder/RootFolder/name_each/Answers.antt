@@ -1,9 +1,13 @@
 use Rattle.std.proofs.Common.{◌≡◌, ◌≢◌, ◌∙◌, ◌∷◌, ◌≤◌, [], ℕ, List, true, false, length, None, Some, arith, subst, refl}
+use Rattle.reuse_change.specs.Layout.{journal_folder}
 use Rattle.reuse_change.specs.declared.parts.Pieces.{Pieces}
+use Rattle.reuse_system.specs.Folders.{folder_at}
 use Rattle.reuse_store.specs.declared.file_write.FileWrite.{FileWrite}
 use Rattle.reuse_disk.specs.Written.{is_kept}
 use Rattle.reuse_folder.specs.Barriers.{AreNotedAbove, HaveNoted, NamesKnown}
-use Rattle.reuse_folder.specs.Batches.{disk_of}
+use Rattle.reuse_folder.specs.Disk.{disk_of}
+use Rattle.reuse_folder.specs.NewFileFolder.{IsJournal}
+use Rattle.reuse_folder.proofs.TreeLemmas.{home_at, new_on, write_at}
 use Rattle.reuse_folder.specs.Rounds.{AreApart, AreTempFile, HavePlaces, IsNamed, StandsTempFile}
 use Rattle.reuse_folder.specs.Seen.{AreKnown, IsKnownTempFile, LoseNoEdits}
 use Rattle.reuse_folder.specs.declared.folder.seen.ReadPath.{ReadPath}
@@ -22,7 +26,9 @@ some_file file parts is none = cc
 
 -- the file of the next write stood aside, and was to be named
 module _ (g : Over) (c : After-name_one g) where
-  stands : g.S.System.honest c.name_one.new.self.system → length c.args.temp_files.now ≤ length c.args.writes.now
+  stands : g.S.System.honest c.name_one.new.self.system
+      → IsJournal (folder_at (g.S.System.folders c.args.self.now.system) journal_folder)
+      c.args.new_file.now.folder.identity → length c.args.temp_files.now ≤ length c.args.writes.now
       → HavePlaces c.args.new_file.now.folder.identity c.args.temp_files.now → AreApart c.args.temp_files.now
       → AreTempFile c.args.new_file.now.folder.identity (is_kept c.args.self.now.unsynced.syncs)
       (g.S.System.holds c.args.self.now.system) 0 (length c.args.temp_files.now) c.args.writes.now
@@ -30,9 +36,10 @@ module _ (g : Over) (c : After-name_one g) where
       → StandsTempFile c.args.new_file.now.folder.identity (length c.args.temp_files.now)
       (is_kept c.args.self.now.unsynced.syncs) (g.S.System.holds c.loop-made.self.system) c.loop-made.made
       c.index-writes-made.result c.in-Some.new.now
-  stands honest few places apart temp_file =
+  stands honest home few places apart temp_file =
       let inner = c.in-Some.ensures.lookup.3.0 in
-      (c.loop-made.invariant.named (c.name_one.ensures.earlier honest) few places apart temp_file).1 c.loop-made.made
+      (c.loop-made.invariant.named (c.name_one.ensures.earlier honest) home few places apart temp_file).1
+      c.loop-made.made
       c.index-writes-made.result c.in-Some.new.now (omega arith) inner c.index-writes-made.is
       c.in-Some.ensures.lookup.1
 
@@ -79,7 +86,7 @@ names_so_far g c =
     }
 
 pub returns-in-Err-clause-named : goal.returns-in-Err-clause-named
-returns-in-Err-clause-named g c honest few places apart temp_file =
+returns-in-Err-clause-named g c honest home few places apart temp_file =
     let s = g.S.System in
     let late = c.remove_all.ensures.earlier honest in
     let at = (goal.at.returns-in-Err-clause-named g c).After-name_one in
@@ -91,15 +98,21 @@ returns-in-Err-clause-named g c honest few places apart temp_file =
     let before = disk_of s c.loop-made.self.system in
     let now = disk_of s c.name_one.new.self.system in
     let last = disk_of s c.remove_all.new.system in
-    let one_stands = stands g at late few places apart temp_file in
+    let one_stands = stands g at late home few places apart temp_file in
+    let here = home_at (s.folders c.args.self.now.system) before.folders new_files so_far.still home in
+    let there = home_at before.folders now.folders new_files c.name_one.ensures.still here in
     let named : (count number : ℕ) → StandsTempFile new_files count is before.files number write c.in-Some.new.now
     → IsNamed new_files count is number write c.in-Some.new.now before now false =
     rw (so_far.folder, so_far.names.syncs) at (c.in-Err.ensures.named late) in
     made_to new_files is c.args.writes.now k write _ before last c.loop-made-test.true c.index-writes-made.is
-    (so_far.named (c.name_one.ensures.earlier late) few places apart temp_file).0
+    (so_far.named (c.name_one.ensures.earlier late) home few places apart temp_file).0
     (write_before new_files is write.path.now write.file before now last
-    (some_file write.file one_stands.parts one_stands.is_file) c.remove_all.ensures.still (named _ k one_stands).put
-    (c.remove_all.ensures.others new_files (new_behind new_files c.args.temp_files.now k places)))
+    (some_file write.file one_stands.parts one_stands.is_file) c.remove_all.ensures.still
+    (write_at before now new_files is false write.path.now write.file
+    (some_file write.file one_stands.parts one_stands.is_file) c.name_one.ensures.path c.name_one.ensures.still
+    (g.met.S.System.is_tree c.name_one.new.self.system late) here (named _ k one_stands).put)
+    (new_on now last new_files c.remove_all.ensures.still (g.met.S.System.is_tree c.remove_all.new.system honest) there
+    (c.remove_all.ensures.others new_files (new_behind new_files c.args.temp_files.now k places))))
 
 pub loop-made-preserved : goal.loop-made-preserved
 loop-made-preserved g c =
@@ -110,8 +123,9 @@ loop-made-preserved g c =
     record {
       folder = c.name_one.ensures.folder ∙ so_far.folder;
       few = omega (arith, inner);
-      named = λ honest few places apart temp_file.
-          let made = so_far.named (c.name_one.ensures.earlier honest) few places apart temp_file in
+      still = c.name_one.ensures.still ∙ so_far.still;
+      named = λ honest home few places apart temp_file.
+          let made = so_far.named (c.name_one.ensures.earlier honest) home few places apart temp_file in
           let new_files = c.args.new_file.now.folder.identity in
           let k = c.loop-made.made in
           let is = is_kept c.args.self.now.unsynced.syncs in
@@ -122,9 +136,14 @@ loop-made-preserved g c =
           let named : (count number : ℕ) → StandsTempFile new_files count is before.files number write one
           → IsNamed new_files count is number write one before now true =
           rw (so_far.folder, so_far.names.syncs) at (c.in_default-name_one.ensures.named honest) in
-          let done = named _ k (stands g at honest few places apart temp_file) in (
+          let one_stands = stands g at honest home few places apart temp_file in
+          let done = named _ k one_stands in
+          let here = home_at (s.folders c.args.self.now.system) before.folders new_files so_far.still home in (
             disks_more new_files is c.args.writes.now k write _ before now c.loop-made-test.true
-                c.index-writes-made.is made.0 done.put,
+                c.index-writes-made.is made.0
+                (write_at before now new_files is true write.path.now write.file
+                (some_file write.file one_stands.parts one_stands.is_file) c.name_one.ensures.path
+                c.name_one.ensures.still (g.met.S.System.is_tree c.name_one.new.self.system honest) here done.put),
             (λ j later other low less later_is other_is.
                 done.stay refl j later other (λ (same : k ≡ j). omega (arith, low, same))
                 (apart k j one other (omega (arith, low)) less c.in-Some.ensures.lookup.1 other_is)

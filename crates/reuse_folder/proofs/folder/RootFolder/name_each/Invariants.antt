@@ -1,7 +1,11 @@
 use Rattle.std.proofs.Common.{◌≡◌, ◌≤◌, length, take}
 use Rattle.reuse_disk.specs.Written.{is_kept}
 use Rattle.reuse_folder.specs.Barriers.{NamesKnown}
-use Rattle.reuse_folder.specs.Batches.{disk_of, DisksAfter}
+use Rattle.reuse_folder.specs.Batches.{DisksAfter}
+use Rattle.reuse_folder.specs.Disk.{disk_of}
+use Rattle.reuse_change.specs.Layout.{journal_folder}
+use Rattle.reuse_system.specs.Folders.{folder_at}
+use Rattle.reuse_folder.specs.NewFileFolder.{IsJournal}
 use Rattle.reuse_folder.specs.Rounds.{AreApart, AreTempFile, AreGone, HavePlaces}
 use Rattle.reuse_folder.proofs.folder.RootFolder.name_each.Given as goal
 
@@ -17,7 +21,9 @@ invariant-loop-made g l =
     record {
       folder : l.new_file.folder ≡ l.fn.new_file.folder;
       few : l.made ≤ length l.temp_files;
-      named : s.honest now → length l.temp_files ≤ length l.writes → HavePlaces new_files l.temp_files
+      still : s.folders now ≡ s.folders first;
+      named : s.honest now → IsJournal (folder_at (s.folders first) journal_folder) new_files
+          → length l.temp_files ≤ length l.writes → HavePlaces new_files l.temp_files
           → AreApart l.temp_files
           → AreTempFile new_files is (s.holds first) 0 (length l.temp_files) l.writes l.temp_files
           → DisksAfter new_files is (take l.made l.writes) (disk_of s first) (disk_of s now)

@@ -2,7 +2,8 @@ use Rattle.std.proofs.Common.{rules, ◌≡◌, ◌∙◌, ◌∷◌, [], ℕ, B
 use Rattle.std.proofs.Common.{refl, subst, sym}
 use Rattle.reuse_system.specs.TempFiles.{key_of, place_of, IsNewPlace}
 use Rattle.reuse_system.specs.FileStates.{file, place_in}
-use Rattle.reuse_system.specs.Folders.{Folders, folder_above}
+use Rattle.reuse_change.specs.Layout.{journal_folder}
+use Rattle.reuse_system.specs.Folders.{Folders, folder_above, folder_at}
 use Rattle.reuse_system.specs.NameChanges.{change_at}
 use Rattle.reuse_system.specs.Names.{IsNameOf, IsSplit}
 use Rattle.reuse_disk.specs.OpenFolders.{current_of, AreOpened}
@@ -10,7 +11,8 @@ use Rattle.reuse_disk.specs.Written.{is_kept, is_named, IsWritten}
 use Rattle.reuse_disk.proofs.EditLemmas.{only_one}
 use Rattle.reuse_disk.proofs.WrittenLemmas.{discarded_alike}
 use Rattle.reuse_folder.specs.Barriers.{HasNoted, IsNotedAbove}
-use Rattle.reuse_folder.specs.Batches.{Disk, disk_of}
+use Rattle.reuse_folder.specs.Disk.{Disk, disk_of}
+use Rattle.reuse_folder.specs.NewFileFolder.{IsOpenFor}
 use Rattle.reuse_folder.specs.Rounds.{IsNamed, StandsTempFile}
 use Rattle.reuse_folder.specs.Seen.{IsKnown, IsKnownTempFile, IsNewFile, LoseNoEdits}
 use Rattle.reuse_folder.specs.declared.folder.seen.ReadPath.{ReadPath}
@@ -247,6 +249,10 @@ invariant_of-self-in-Break-branch-5 g c =
       opened = λ honest. subst (λ folders. AreOpened folders c.enter_seen.new.self)
           (sym (c.discard.ensures.still ∙ c.name_temp_file.ensures.still))
           (was (c.name_temp_file.ensures.earlier (c.discard.ensures.earlier honest)));
+      home = λ honest. subst (λ folders. IsOpenFor c.args.self.now.new_file (folder_at folders journal_folder))
+          (sym (c.discard.ensures.still ∙ c.name_temp_file.ensures.still ∙ c.enter_seen.ensures.enters.reads.still))
+          (c.args.self.now.home (c.enter_seen.ensures.enters.reads.earlier
+          (c.name_temp_file.ensures.earlier (c.discard.ensures.earlier honest))));
     }
 
 pub invariant_of-self-2 : goal.invariant_of-self-2
@@ -256,6 +262,11 @@ invariant_of-self-2 g c =
       opened = λ honest. subst (λ folders. AreOpened folders c.enter_seen.new.self)
           (sym (c.write_beside.ensures.still ∙ c.discard.ensures.still ∙ c.name_temp_file.ensures.still))
           (was (c.name_temp_file.ensures.earlier (c.discard.ensures.earlier (c.write_beside.ensures.earlier honest))));
+      home = λ honest. subst (λ folders. IsOpenFor c.args.self.now.new_file (folder_at folders journal_folder))
+          (sym (c.write_beside.ensures.still ∙ c.discard.ensures.still ∙ c.name_temp_file.ensures.still
+          ∙ c.enter_seen.ensures.enters.reads.still))
+          (c.args.self.now.home (c.enter_seen.ensures.enters.reads.earlier (c.name_temp_file.ensures.earlier
+          (c.discard.ensures.earlier (c.write_beside.ensures.earlier honest)))));
     }
 
 pub returns-in_err-name_temp_file-clause-noted : goal.returns-in_err-name_temp_file-clause-noted

@@ -4,6 +4,10 @@ use Rattle.reuse_disk.specs.Written.{is_kept}
 use Rattle.reuse_disk.specs.declared.syncs.Unsynced.{Unsynced}
 use Rattle.reuse_folder.proofs.PutLemmas.{nothing_put_by, nothing_put_in, stored_if}
 use Rattle.reuse_folder.proofs.EditLemmas.{loses_none}
+use Rattle.reuse_system.specs.Folders.{file_at}
+use Rattle.reuse_folder.specs.Disk.{disk_of, IsSameTree}
+use Rattle.reuse_folder.proofs.folder.RootFolder.put.Given.{Over}
+use Rattle.reuse_folder.proofs.folder.RootFolder.put.Goals.{After-make_room}
 use Rattle.reuse_folder.proofs.folder.RootFolder.put.Goals as goal
 
 pub returns-in_err-found-clause-written : goal.returns-in_err-found-clause-written
@@ -69,3 +73,25 @@ returns-clause-keeps_edits g c = (
   rw (c.make_room.ensures.changes, c.make_room.ensures.kept, c.take_expected-expected.ensures.kept) at
       (c.write.ensures.keeps_edits c.take_expected-expected.result c.in_ok-found.ensures.seen),
 )
+
+-- room was made: each path leads to the file that it led to
+module _ (g : Over) (c : After-make_room g) where
+  roomy : g.S.System.honest c.make_room.new.self.system
+      → IsSameTree (disk_of g.S.System c.args.self.now.system) (disk_of g.S.System c.make_room.new.self.system)
+  roomy honest path of_tree =
+      let s = g.S.System in
+      let was = c.args.self.now.system in
+      let now = c.make_room.new.self.system in
+      let expected = c.take_expected-expected.ensures.kept in
+      (c.make_room.ensures.paths honest).files path
+      ∙ ap (λ held. file_at (s.folders c.take_expected-expected.new.self.system) held path) c.make_room.ensures.kept
+      ∙ ap (λ system. file_at (s.folders system) (s.holds system) path) expected
+
+pub returns-in_err-found-clause-others : goal.returns-in_err-found-clause-others
+returns-in_err-found-clause-others g c honest other of_tree apart =
+    roomy g (goal.at.returns-in_err-found-clause-others g c).After-make_room honest other of_tree
+
+pub returns-clause-others : goal.returns-clause-others
+returns-clause-others g c honest other of_tree apart =
+    c.write.ensures.others honest other of_tree apart
+    ∙ roomy g (goal.at.returns-clause-others g c).After-make_room (c.write.ensures.earlier honest) other of_tree

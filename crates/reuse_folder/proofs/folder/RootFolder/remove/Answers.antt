@@ -9,3 +9,6 @@ returns-clause-keeps_edits g c = (
 
 pub returns-clause-place : goal.returns-clause-place
 returns-clause-place g c honest = rw c.take_expected-expected.ensures.kept at (c.remove_expected.ensures.place honest)
+
+pub returns-clause-others : goal.returns-clause-others
+returns-clause-others g c honest = rw c.take_expected-expected.ensures.kept at (c.remove_expected.ensures.others honest)

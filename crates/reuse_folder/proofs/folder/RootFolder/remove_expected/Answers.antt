@@ -1,4 +1,5 @@
-use Rattle.std.proofs.Common.{rules, ◌≡◌, inl, refl, ap, subst, sym, Some, ◌∙◌}
+use Rattle.std.proofs.Common.{rules, ◌≡◌, inl, refl, ap, subst, sym, Some, ◌∙◌, IsTrue}
+use Rattle.reuse_change.specs.Path.{is_path}
 use Rattle.reuse_folder.specs.FolderReads.{LiesIn}
 use Rattle.reuse_disk.specs.OpenFolders.{current_of}
 use Rattle.reuse_folder.specs.Seen.{LosesNoEdit}
@@ -14,6 +15,7 @@ use Rattle.reuse_folder.proofs.PutLemmas.{none_by_removal}
 use Rattle.reuse_system.specs.Names.{IsSplit}
 use Rattle.reuse_disk.specs.Noted.{Has}
 use Rattle.reuse_folder.proofs.BarrierLemmas.{above_of, has_none, has_noted}
+use Rattle.reuse_folder.proofs.TreeLemmas.{removed_on, same_disk}
 use Rattle.reuse_folder.proofs.folder.RootFolder.remove_expected.Given.{Over}
 use Rattle.reuse_folder.proofs.folder.RootFolder.remove_expected.Goals.{After-look_unless_seen, After-remove_seen}
 use Rattle.reuse_folder.proofs.folder.RootFolder.remove_expected.Goals as goal
@@ -87,6 +89,17 @@ returns-in_ok-current-in-File-clause-place g c honest =
     (λ held. IsRemovedIn (s.folders c.remove_seen.new.system) path held b) c.look_unless_seen.ensures.reads.kept
     (subst (λ reported. IsRemovedIn reported path (s.holds seen) b) (sym c.remove_seen.ensures.still) removed)
 
+pub returns-in_ok-current-in-File-clause-others : goal.returns-in_ok-current-in-File-clause-others
+returns-in_ok-current-in-File-clause-others g c honest =
+    let s = g.S.System in
+    let path = c.args.path.now in
+    let old = c.args.self.now.system in
+    let now = c.remove_seen.new.system in
+    let good : IsTrue (is_path path) = search rules in
+    let still = c.remove_seen.ensures.still ∙ c.look_unless_seen.ensures.reads.still in
+    removed_on (s.folders old) (s.folders now) (s.holds old) (s.holds now) path still
+    (g.met.S.System.is_tree now honest) good (returns-in_ok-current-in-File-clause-place g c honest)
+
 pub returns-in_ok-current-in-File-clause-gone : goal.returns-in_ok-current-in-File-clause-gone
 returns-in_ok-current-in-File-clause-gone g c honest =
     let path = c.args.path.now in
@@ -122,6 +135,8 @@ returns-in_default g c =
     let place = c.in_ok-status.field-0 in
     let free = no_file_of place c.in_default.not-File in
     record {
+      others = λ honest. same_disk (s.folders c.args.self.now.system) folders (s.holds c.args.self.now.system) held path
+          c.look_unless_seen.ensures.reads.still c.look_unless_seen.ensures.reads.kept;
       removed = rw c.look_unless_seen.ensures.reads.kept (nothing_removed _ _);
       still = c.look_unless_seen.ensures.reads.still;
       place = λ honest. rw c.look_unless_seen.ensures.reads.kept (inl (λ at. refl));

@@ -1,18 +1,25 @@
-use Rattle.std.proofs.Common.{rules, ◌≡◌, inl, Bool, false, is_ok, refl, subst, sym}
+use Rattle.std.proofs.Common.{rules, ◌≡◌, ◌≢◌, ◌∙◌, inl, Bool, false, is_ok, refl, subst, sym, ap, IsTrue}
+use Rattle.reuse_change.specs.Layout.{journal_folder}
+use Rattle.reuse_change.specs.Path.{is_path}
 use Rattle.reuse_change.specs.Parts.{joined}
 use Rattle.reuse_system.specs.TempFiles.{IsNewIn, IsNewPlace}
-use Rattle.reuse_system.specs.FileStates.{place_in}
+use Rattle.reuse_system.specs.FileStates.{Place, place_in}
+use Rattle.reuse_system.specs.Folders.{file_at, folder_at}
 use Rattle.reuse_disk.specs.OpenFolders.{current_of, AreOpened}
 use Rattle.reuse_system.specs.NameChanges.{OnlyChanges}
 use Rattle.reuse_system.specs.Names.{IsNameOf, IsSplit}
 use Rattle.reuse_system.specs.SystemLaws.{IsAlikeUnless}
 use Rattle.reuse_disk.specs.Written.{IsWritten, LeavesNone, is_kept}
 use Rattle.reuse_system.specs.declared.place.Identity.{Identity}
+use Rattle.reuse_folder.specs.Disk.{disk_of, IsSameTreeBut}
 use Rattle.reuse_folder.specs.FolderWrites.{IsPutBy, IsPutTidily}
-use Rattle.reuse_folder.proofs.PutLemmas.{not_put_by, not_put_in, nothing_put_by, nothing_put_in, of_ok, put_by, put_in}
+use Rattle.reuse_folder.specs.NewFileFolder.{IsOpenFor}
+use Rattle.reuse_folder.proofs.PutLemmas.{above_here, not_put_by, not_put_in, nothing_put_by, nothing_put_in}
+use Rattle.reuse_folder.proofs.PutLemmas.{of_ok, put_by, put_in}
 use Rattle.reuse_folder.proofs.ReadLemmas.{named_of}
+use Rattle.reuse_folder.proofs.TreeLemmas.{same_but}
 use Rattle.reuse_folder.proofs.EditLemmas.{loses_none, loses_only, loses_put, owner_kept}
-use Rattle.reuse_disk.specs.Noted.{IsNoted}
+use Rattle.reuse_disk.specs.Noted.{Has, IsNoted}
 use Rattle.reuse_disk.specs.Noted.Note.{Folder}
 use Rattle.reuse_folder.specs.declared.folder.seen.Expected.TheVariants as expected
 use Rattle.reuse_folder.proofs.BarrierLemmas.{above_of, has_noted, has_only, new_only}
@@ -163,6 +170,11 @@ invariant_of-self-2 g c =
       opened = λ honest. subst (λ folders. AreOpened folders c.enter_seen.new.self)
           (sym c.write-written.ensures.still)
           (was (c.write-written.ensures.earlier honest));
+      home = λ honest. subst
+          (λ folders. IsOpenFor c.take_new_file.new.self.new_file (folder_at folders journal_folder))
+          (sym (c.write-written.ensures.still ∙ c.enter_seen.ensures.enters.reads.still))
+          (c.take_new_file.new.self.home
+          (c.enter_seen.ensures.enters.reads.earlier (c.write-written.ensures.earlier honest)));
     }
 
 pub returns-in_err-note-clause-keeps_edits : goal.returns-in_err-note-clause-keeps_edits
@@ -232,3 +244,53 @@ returns-clause-noted g c kept =
     let unsynced = c.write-written.new.unsynced in
     rw c.note_written.ensures.unsynced
     (has_noted unsynced path expected.Found _ _ _ _ (above_of unsynced path above name split last) loses)
+
+-- the file was written then, or wasn't: no other path leads to another
+module _ (g : Over) (c : After-write-written g) (honest : g.S.System.honest c.write-written.new.system) where
+  entered_honest : g.S.System.honest c.take_new_file.new.self.system
+  entered_honest = c.enter_seen.ensures.enters.reads.earlier (c.write-written.ensures.earlier honest)
+
+  same_folders : g.S.System.folders c.write-written.new.system ≡ g.S.System.folders c.take_new_file.new.self.system
+  same_folders = c.write-written.ensures.still ∙ c.enter_seen.ensures.enters.reads.still
+
+  other_files : (place : Place)
+      → ¬ (IsNewPlace c.in_ok-new_file.new_file.folder.identity c.in_ok-current.field-0.now.identity place)
+      → place ≢ place_in c.in_ok-current.field-0.now.identity c.folder_and_name.result.1.now
+      → g.S.System.holds c.write-written.new.system place ≡ g.S.System.holds c.take_new_file.new.self.system place
+  other_files place new other =
+      (written g c).others place new other ∙ ap (λ held. held place) c.enter_seen.ensures.enters.reads.kept
+
+  other_paths : IsSplit c.args.path.now c.folder_and_name.result.0.now c.folder_and_name.result.1.now
+      → IsTrue (is_path c.args.path.now)
+      → IsSameTreeBut c.args.path.now (disk_of g.S.System c.args.self.now.system)
+      (disk_of g.S.System c.write-written.new.system)
+  other_paths split good other of_tree apart =
+      let s = g.S.System in
+      let path = c.args.path.now in
+      let now = c.write-written.new.system in
+      let is = c.in_ok-new_file.ensures.home entered_honest in
+      let above =
+      above_here (s.folders now) (s.folders c.enter_seen.new.system) (s.holds now) path c.folder_and_name.result.0.now
+      c.folder_and_name.result.1.now (current_of c.enter_seen.new.self) c.in_ok-current.field-0.now.identity
+      c.write-written.ensures.still split
+      (c.in_ok-enter_seen.ensures.entered c.take_new_file.new.self.opened (c.write-written.ensures.earlier honest))
+      c.in_ok-current.ensures in
+      same_but (s.folders now) (s.holds now) (g.met.S.System.is_tree now honest)
+      c.in_ok-new_file.new_file.folder.identity is.1 (ap (λ f. folder_at f journal_folder) same_folders ∙ is.0)
+      (s.holds c.take_new_file.new.self.system) (s.holds now) path c.folder_and_name.result.1.now
+      c.in_ok-current.field-0.now.identity good (named_of path c.folder_and_name.result.0.now
+      c.folder_and_name.result.1.now split) above other_files other of_tree apart
+      ∙ ap (λ f. file_at f (s.holds c.take_new_file.new.self.system) other) same_folders
+      ∙ c.take_new_file.ensures.tree entered_honest other of_tree
+
+pub returns-clause-others : goal.returns-clause-others
+returns-clause-others g c honest =
+    let at = (goal.at.returns-clause-others g c).After-write-written in
+    let split : IsSplit c.args.path.now c.folder_and_name.result.0.now c.folder_and_name.result.1.now = search rules in
+    let good : IsTrue (is_path c.args.path.now) = search rules in
+    rw c.note_written.ensures.system (other_paths g at (rw c.note_written.ensures.system at honest) split good)
+
+pub returns-clause-stay_noted : goal.returns-clause-stay_noted
+returns-clause-stay_noted g c note has =
+    subst (λ unsynced. Has unsynced note) (sym c.note_written.ensures.unsynced)
+    (c.write-written.ensures.noted note (c.take_new_file.ensures.stay_noted note (c.note.ensures.kept note has)))

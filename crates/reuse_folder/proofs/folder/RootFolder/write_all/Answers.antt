@@ -9,7 +9,7 @@ use Rattle.reuse_folder.proofs.RoundEnds.{some_folder, tidy_twice}
 use Rattle.reuse_folder.proofs.SeenLemmas.{lose_part, lose_then}
 use Rattle.reuse_folder.specs.Barriers.{HaveNoted}
 use Rattle.reuse_folder.proofs.BarrierLemmas.{have_behind, have_later, have_then}
-use Rattle.reuse_folder.specs.Batches.{disk_of}
+use Rattle.reuse_folder.specs.Disk.{disk_of}
 use Rattle.reuse_folder.proofs.folder.RootFolder.write_all.Given.{Over}
 use Rattle.reuse_folder.proofs.folder.RootFolder.write_all.Goals.{After-write_some}
 use Rattle.reuse_folder.proofs.folder.RootFolder.write_all.Goals as goal

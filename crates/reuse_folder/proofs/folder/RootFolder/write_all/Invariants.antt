@@ -2,7 +2,8 @@ use Rattle.std.proofs.Common.{◌≡◌, length, ◌-◌, ◌≤◌, true, take}
 use Rattle.reuse_system.specs.declared.place.Identity.{Identity}
 use Rattle.reuse_disk.specs.Noted.{StayNoted}
 use Rattle.reuse_disk.specs.Written.{is_kept}
-use Rattle.reuse_folder.specs.Batches.{disk_of, DisksAfter}
+use Rattle.reuse_folder.specs.Batches.{DisksAfter}
+use Rattle.reuse_folder.specs.Disk.{disk_of}
 use Rattle.reuse_system.specs.declared.syncs.Syncs.TheVariants.{Kept}
 use Rattle.reuse_folder.specs.Barriers.{HaveNoted}
 use Rattle.reuse_folder.specs.FolderWrites.{IsFolderOf, IsTidy}

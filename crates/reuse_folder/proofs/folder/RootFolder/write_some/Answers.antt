@@ -13,7 +13,8 @@ use Rattle.reuse_folder.proofs.RoundEnds.{naming_done, naming_stopped, removal_m
 use Rattle.reuse_folder.proofs.SeenLemmas.{lose_at, lose_only, lose_one, lose_then}
 use Rattle.reuse_folder.specs.Barriers.{AreNotedAbove, HaveNoted}
 use Rattle.reuse_folder.proofs.BarrierLemmas.{have_one, have_only, have_then}
-use Rattle.reuse_folder.specs.Batches.{disk_of, BeginsWithFile}
+use Rattle.reuse_folder.specs.Batches.{BeginsWithFile}
+use Rattle.reuse_folder.specs.Disk.{disk_of}
 use Rattle.reuse_folder.proofs.folder.RootFolder.write_some.Given.{Over}
 use Rattle.reuse_folder.proofs.folder.RootFolder.write_some.Goals.{After-name_all-named, After-remove_expected}
 use Rattle.reuse_folder.proofs.folder.RootFolder.write_some.Goals as goal
@@ -51,7 +52,8 @@ module _ (g : Over) (c : After-name_all-named g) where
       let begun = round_of in
       let written = begun.2.written (c.name_all-named.ensures.names.earlier honest) in
       let slice : c.deref.result.now ≡ c.in-Ok.field-0.temp_files.items = c.deref.ensures.value in
-      rw (slice, c.write_temp_file.ensures.syncs) at c.name_all-named.ensures.named honest begun.1 begun.2.few
+      rw (slice, c.write_temp_file.ensures.syncs) at c.name_all-named.ensures.named honest
+      (c.in-Ok.ensures.home (c.name_all-named.ensures.names.earlier honest)) begun.1 begun.2.few
       begun.2.places written.apart written.temp_file
 
   known : AreKnown c.args.seen.now.reads.items c.args.writes.now c.deref.result.now
@@ -85,6 +87,7 @@ returns-in_err-map_err-clause-made g c honest =
     c.args.self.now.new_file c.remove_expected.new.self.new_file (disk_of g.S.System c.args.self.now.system)
     (disk_of g.S.System c.remove_expected.new.self.system) c.from_residual.result c.requires c.index-writes-0.is none
     c.from_residual.ensures.0 at_first (c.remove_expected.ensures.place honest)
+    (c.remove_expected.ensures.others honest)
 
 pub returns-in_err-map_err-clause-keeps_edits : goal.returns-in_err-map_err-clause-keeps_edits
 returns-in_err-map_err-clause-keeps_edits g c =
@@ -104,6 +107,7 @@ returns-then-is_none-clause-made g c honest =
     (c.remove_expected.ensures.gone honest) done)
     (of_ok c.remove_expected.result (LeavesNone (λ at. Unit {0}) first.files last.files)
     c.remove_expected.ensures.none_left done)
+    (c.remove_expected.ensures.others honest)
 
 pub returns-then-is_none-clause-keeps_edits : goal.returns-then-is_none-clause-keeps_edits
 returns-then-is_none-clause-keeps_edits g c =
@@ -121,7 +125,8 @@ returns-in_err-named-in-Ok-clause-made g c honest =
     naming_stopped (s.honest mid) (is_kept c.args.self.now.unsynced.syncs) c.args.writes.now c.args.self.now.new_file
     (Some c.name_all-named.new.new_file) (disk_of s c.args.self.now.system) (disk_of s mid)
     (disk_of s c.name_all-named.new.self.system) round stop c.from_residual-in_err-named-in-Ok.result
-    (c.name_all-named.ensures.names.earlier honest) (starts g at) same (round_of g at) (subst
+    (c.name_all-named.ensures.names.earlier honest) (starts g at) same (round_of g at)
+    (c.write_temp_file.ensures.tree (c.name_all-named.ensures.names.earlier honest)) (subst
     (AreNamed round.new_file.folder.identity (is_kept c.args.self.now.unsynced.syncs) c.args.writes.now
     round.temp_files.items (disk_of s mid) (disk_of s c.name_all-named.new.self.system)) was (named g at honest))
 
@@ -141,7 +146,8 @@ returns-in_ok-named-in-Ok-clause-made g c honest =
     let count : c.len.result ≡ length round.temp_files.items = search rules in
     rw count (naming_done (s.honest c.write_temp_file.new.self.system) is c.args.writes.now c.args.self.now.new_file
     (disk_of s c.args.self.now.system) mid last round c.name_all-named.new.new_file
-    (c.name_all-named.ensures.names.earlier honest) (starts g at) (round_of g at) c.name_all-named.ensures.folder
+    (c.name_all-named.ensures.names.earlier honest) (starts g at) (round_of g at)
+    (c.write_temp_file.ensures.tree (c.name_all-named.ensures.names.earlier honest)) c.name_all-named.ensures.folder
     (subst (AreNamed round.new_file.folder.identity is c.args.writes.now round.temp_files.items mid last) was
     (named g at honest)))
 
@@ -162,7 +168,7 @@ returns-in-Err-clause-made g c honest =
       round.0,
       round.1,
       rw c.at_first.ensures (none_made round.0 is writes (disk_of s first)
-          (disk_of s c.write_temp_file.new.self.system) starts round.2),
+          (disk_of s c.write_temp_file.new.self.system) starts (round.2, c.write_temp_file.ensures.tree honest)),
     )
 
 pub returns-in-Err-clause-keeps_edits : goal.returns-in-Err-clause-keeps_edits
