@@ -1,7 +1,7 @@
 #!/usr/bin/env bash
 # Runs the program on a folder with two Python files: annotates both, takes both steps back, and
 # makes the first again. Where the proved program was built (./install.sh), it is that one; else the
-# program is compiled without proof, which takes a minute or two.
+# program is compiled without proof, which takes some three minutes.
 set -euo pipefail
 top=$(cd "$(dirname "$0")" && pwd)
 room=$(mktemp -d)
@@ -58,7 +58,7 @@ else
     fi
     echo "This build is NOT proved yet: it is compiled without proof, to show what the program" \
       "does. ./install.sh proves and builds it."
-    echo "compiling, which takes a minute or two .." >&2
+    echo "compiling, which takes some three minutes .." >&2
     cd "$top/crates/reuse_undo"
     rt try --cases "$room/calls" > "$room/printed" 2> "$room/told" ||
         { tail -n 20 "$room/told" >&2; exit 1; }

@@ -232,7 +232,7 @@ mapfile -t crates < <(for it in "${names[@]}"; do echo "${weights[$it]} $it"; do
     sort -rn | cut -d ' ' -f 2)
 processors=$(nproc)
 say "proving ${#crates[@]} crates on $processors processors;" \
-    "the first time that takes about an hour on four"
+    "the first time that takes some 75 minutes on four"
 # (half as many jobs again as there are processors, since a check of several ends with a job alone)
 lanes_at_most=$((processors + processors / 2))
 told=$SECONDS
